@@ -1,0 +1,5 @@
+pub mod Tests
+pub mod Lists
+pub mod Sums
+pub mod Searches
+pub mod Turns

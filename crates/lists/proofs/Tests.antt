@@ -1,0 +1,56 @@
+-- Tests and the facts that they stand for.
+use Prim.Native.Nat.{ℕ, zero, suc, _≤_, _<_}
+use native.Mathlib.Omega.{arith}
+use native.Mathlib.Decide.{ℕ-discrete, decLe}
+use mathlib.Core.Path.{_≡_, refl, sym}
+use mathlib.Core.Bool.{Bool, true, false}
+use Rattle.lists.specs.Tests.{both, either, where?, only, unless, every, some?}
+
+pub both-true : (a b : Bool) → both a b ≡ true → (a ≡ true) × (b ≡ true)
+both-true true b h = (refl, h)
+both-true false b h = (h, cc)
+
+pub true-both : (a b : Bool) → a ≡ true → b ≡ true → both a b ≡ true
+true-both a b h k = rw (h, k)
+
+pub only-le : (a b : Bool) (x : ℕ) → (a ≡ true → b ≡ true) → only a x ≤ only b x
+only-le true b x h = rw (h refl) (omega arith)
+only-le false b x h = omega arith
+
+pub by-contra : (a b : ℕ) → (b < a → ⊥) → a ≤ b
+by-contra a b h = elim (decLe a b) [ yes k ↦ k | no k ↦ absurd (h (omega arith)) ]
+
+-- a number with two names for a test that matters only where x is not 0
+pub only-cong : (a b : Bool) (x : ℕ) → (a ≡ true → b ≡ true) → (b ≡ true → (x ≡ 0 → ⊥) → a ≡ true) → only a x ≡ only b x
+only-cong true b x f g = rw (f refl)
+only-cong false true x f g = elim (ℕ-discrete x 0) [ yes e ↦ sym e | no e ↦ let q = g refl e in cc ]
+only-cong false false x f g = refl
+
+pub where-at : (a b : Bool) → where? a b ≡ true → a ≡ true → b ≡ true
+where-at true b h q = h
+where-at false b h q = cc
+
+pub at-where : (a b : Bool) → (a ≡ true → b ≡ true) → where? a b ≡ true
+at-where true b h = h refl
+at-where false b h = refl
+
+-- no test of the chain has failed
+pub unless-none : (b : Bool) (k x : ℕ) → unless b (suc k) x ≡ 0 → (b ≡ true) × (x ≡ 0)
+unless-none true k x h = (refl, h)
+unless-none false k x h = absurd (omega arith)
+
+pub unless-zero : (b : Bool) (k x : ℕ) → b ≡ true → x ≡ 0 → unless b k x ≡ 0
+unless-zero b k x h e = rw h e
+
+pub every-at : (f : ℕ → Bool) (m : ℕ) → every f m ≡ true → (k : ℕ) → k < m → f k ≡ true
+unfolding every
+every-at f zero h k b = absurd (omega arith)
+every-at f (suc m) h k b = go (both-true (f m) (every f m) h) (λ q. every-at f m (both-true (f m) (every f m) h .1) k q)
+  where
+    go : (f m ≡ true) × (every f m ≡ true) → (k < m → f k ≡ true) → f k ≡ true
+    go q r = elim (ℕ-discrete k m) [ yes e ↦ rw e (q .0) | no e ↦ r (omega arith) ]
+
+pub at-every : (f : ℕ → Bool) (m : ℕ) → ((k : ℕ) → k < m → f k ≡ true) → every f m ≡ true
+unfolding every
+at-every f zero h = refl
+at-every f (suc m) h = true-both (f m) (every f m) (h m (omega arith)) (at-every f m (λ k b. h k (omega arith)))

@@ -1,0 +1,5 @@
+pub mod Lists
+pub mod Tests
+pub mod Sums
+pub mod Searches
+pub mod Turns

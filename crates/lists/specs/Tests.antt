@@ -1,0 +1,43 @@
+-- Tests, and what is picked by them. A test is a Bool; the fact that it stands for is a type of its own.
+use Prim.Native.Nat.{ℕ, zero, suc}
+use mathlib.Core.Bool.{Bool, true, false}
+
+-- both tests pass
+abbrev pub both : Bool → Bool → Bool
+both true b = b
+both false b = false
+
+-- one of the two passes
+abbrev pub either : Bool → Bool → Bool
+either true b = true
+either false b = b
+
+-- b is asked only where a passes
+abbrev pub where? : Bool → Bool → Bool
+where? true b = b
+where? false b = true
+
+-- x where the test passes, else 0
+abbrev pub only : Bool → ℕ → ℕ
+only true x = x
+only false x = 0
+
+-- x where the test passes, else y
+abbrev pub pick : Bool → ℕ → ℕ → ℕ
+pick true x y = x
+pick false x y = y
+
+-- the number k where the test fails, else what comes after: the first test that fails gives its number
+abbrev pub unless : Bool → ℕ → ℕ → ℕ
+unless true k x = x
+unless false k x = k
+
+-- the test passes at every k below m
+unfoldable pub every : (ℕ → Bool) → ℕ → Bool
+every f zero = true
+every f (suc m) = both (f m) (every f m)
+
+-- the test passes at some k below m
+unfoldable pub some? : (ℕ → Bool) → ℕ → Bool
+some? f zero = false
+some? f (suc m) = let x = some? f m in either (f m) x

@@ -1,0 +1,11 @@
+pub mod Moves
+pub mod Steps
+pub mod Families
+pub mod Schedules
+pub mod Renumbered
+pub mod Firm
+pub mod Next
+pub mod Runs
+pub mod Room
+pub mod Walk
+pub mod Rounds

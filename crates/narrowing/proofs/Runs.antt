@@ -1,0 +1,138 @@
+-- The defined run over lawful rules: "settled" is the largest candidate, "clash" says that there is none, the slack bounds the moves, and
+-- each move is the search's own choice.
+use Prim.Native.Nat.{ℕ, zero, suc, _+_, _-_, _≤_, _<_}
+use native.Mathlib.Omega.{arith}
+use mathlib.Core.Path.{_≡_, refl, subst}
+use mathlib.Core.Bool.{Bool, true, false}
+use mathlib.Core.List.{List, [], _∷_}
+use lib.ListN.{length}
+use Rattle.narrowing.specs.Windows.{Win, Side, early, late, Long, moved, closes, slack}
+use Rattle.narrowing.specs.Rules.{Family, Stable, Lawful, Largest, NoCandidate, Step, Steps, here, next}
+use Rattle.narrowing.specs.Run.{Search, Searches, Next, rests, moves, nextMove, Move, move, Out, settled, clash, short, push, follow, ends, after, work, run, movesOf, count}
+use Rattle.narrowing.specs.Rounds.{Choice, Chosen}
+use Rattle.narrowing.proofs.Moves.{long-after, Whole, whole-after, slack-less}
+use Rattle.narrowing.proofs.Steps.{step-move, any-settled, any-clash}
+use Rattle.narrowing.proofs.Next.{Place, place-of, Ahead, next-is}
+
+-- what an end says of the windows W that the work began on
+abbrev pub Good : ℕ → List ℕ → Family → Win → Out → Type 0
+Good n p G W (settled U ms) = Largest n p G W U
+Good n p G W (clash j ms) = NoCandidate n p G W
+Good n p G W short = Unit {0}
+
+module _ (R : Search) (G : Family) (search : Searches R G) where
+  -- ---- induction over the work: what holds where it rests, short of room and at a closing move, and is kept by each other move, holds of its end
+
+  module _ (P : ℕ → Win → ℕ → Side → Out → Type 0)
+      (rest : (room : ℕ) (W : Win) (j : ℕ) (s : Side) → Long (R .n) (R .p) W → Stable (R .n) G W → P room W j s (settled W []))
+      (full : (W : Win) (j : ℕ) (s : Side) (i : ℕ) (v : Side) (c : ℕ) → Long (R .n) (R .p) W → Choice R G W j s (move W i v c) → P 0 W j s short)
+      (stop : (room : ℕ) (W : Win) (j : ℕ) (s : Side) (i : ℕ) (v : Side) (c : ℕ) → Long (R .n) (R .p) W → Choice R G W j s (move W i v c)
+      → closes (R .p) (after R W i v c) i ≡ true → P (suc room) W j s (clash i (move W i v c ∷ [])))
+      (step : (room : ℕ) (W : Win) (j : ℕ) (s : Side) (i : ℕ) (v : Side) (c : ℕ) (o : Out) → Long (R .n) (R .p) W → Choice R G W j s (move W i v c)
+      → closes (R .p) (after R W i v c) i ≡ false → P room (after R W i v c) i v o → P (suc room) W j s (push (move W i v c) o)) where
+    ind-follow : (room : ℕ) (W : Win) (L : Long (R .n) (R .p) W) (j : ℕ) (s : Side) (x : Next) (f : ℕ → Side → ℕ → Out) → Ahead R G search W L j s x
+        → ((i : ℕ) (v : Side) (c : ℕ) → Choice R G W j s (move W i v c) → P room W j s (f i v c)) → P room W j s (follow W x f)
+    ind-follow room W L j s rests f q g = rest room W j s L q
+    ind-follow room W L j s (moves i v c) f q g = g i v c q
+
+    ind-ends : (room : ℕ) (W : Win) (j : ℕ) (s : Side) (a b : Out) (t v : Bool) → v ≡ t → (v ≡ true → P room W j s a) → (v ≡ false → P room W j s b) → P room W j s (ends t a b)
+    ind-ends room W j s a b true v e f g = f e
+    ind-ends room W j s a b false v e f g = g e
+
+    pub work-ind : (room : ℕ) (W : Win) (j : ℕ) (s : Side) → Long (R .n) (R .p) W → Place (R .n) j s → P room W j s (work R room W j s)
+    unfolding work
+    work-ind zero W j s L b = ind-follow 0 W L j s (nextMove R W j s) _ (next-is R G search W L j s b) (λ i v c a. full W j s i v c L a)
+    work-ind (suc room) W j s L b =
+        ind-follow (suc room) W L j s (nextMove R W j s) _ (next-is R G search W L j s b)
+        (λ i v c a.
+        ind-ends (suc room) W j s _ _ (closes (R .p) (after R W i v c) i) (closes (R .p) (after R W i v c) i) refl
+        (λ e. stop room W j s i v c L a e)
+        (λ e. step room W j s i v c (work R room (after R W i v c) i v) L a e
+        (work-ind room (after R W i v c) i v (long-after (R .n) (R .p) W i v (R .bound v c) L e) (place-of (R .n) i v (a .listed)))))
+
+  -- ---- each move is the search's own choice
+
+  push-chosen : (W : Win) (j : ℕ) (s : Side) (m : Move) (o : Out) → Choice R G W j s m
+      → Chosen R G (after R W (m .job) (m .side) (m .choice)) (m .job) (m .side) (movesOf o) → Chosen R G W j s (movesOf (push m o))
+  push-chosen W j s m (settled U ms) a g = (a, g)
+  push-chosen W j s m (clash i ms) a g = (a, g)
+  push-chosen W j s m short a g = tt
+
+  work-chosen : (room : ℕ) (W : Win) (j : ℕ) (s : Side) → Long (R .n) (R .p) W → Place (R .n) j s → Chosen R G W j s (movesOf (work R room W j s))
+  work-chosen =
+      work-ind (λ room W j s o. Chosen R G W j s (movesOf o))
+      (λ room W j s L q. tt)
+      (λ W j s i v c L a. tt)
+      (λ room W j s i v c L a e. (a, tt))
+      (λ room W j s i v c o L a e g. push-chosen W j s (move W i v c) o a g)
+
+  pub run-chosen : (room : ℕ) (W : Win) → Long (R .n) (R .p) W → Chosen R G W 0 early (movesOf (run R room W))
+  unfolding run
+  run-chosen room W L = work-chosen room W 0 early L (omega arith)
+
+  module _ (law : Lawful (R .n) G) where
+    -- ---- the run is one of the ways of Steps: moves of rules to where none applies, or to a closed window
+
+    abbrev Way : Win → Out → Type 0
+    Way W (settled U ms) = Steps (R .n) (R .p) G W U × Stable (R .n) G U × Long (R .n) (R .p) U
+    Way W (clash j ms) = (U : Win) × Steps (R .n) (R .p) G W U × (j < R .n) × (closes (R .p) U j ≡ true)
+    Way W short = Unit {0}
+
+    push-way : (W U : Win) (m : Move) → Step (R .n) (R .p) G W U → (o : Out) → Way U o → Way W (push m o)
+    push-way W U m f (settled X ms) g = (next f (g .0), g .1, g .2)
+    push-way W U m f (clash k ms) g = (g .0, next f (g .1), g .2, g .3)
+    push-way W U m f short g = tt
+
+    by-choice : (W : Win) (j : ℕ) (s : Side) (i : ℕ) (v : Side) (c : ℕ) → Choice R G W j s (move W i v c) → Step (R .n) (R .p) G W (after R W i v c)
+    by-choice W j s i v c a = step-move (R .n) (R .p) G law W i v (R .bound v c) (a .listed) (a .applies)
+
+    work-way : (room : ℕ) (W : Win) (j : ℕ) (s : Side) → Long (R .n) (R .p) W → Place (R .n) j s → Way W (work R room W j s)
+    work-way =
+        work-ind (λ room W j s o. Way W o)
+        (λ room W j s L q. (here, q, L))
+        (λ W j s i v c L a. tt)
+        (λ room W j s i v c L a e. (after R W i v c, next (by-choice W j s i v c a) here, a .listed, e))
+        (λ room W j s i v c o L a e g. push-way W (after R W i v c) (move W i v c) (by-choice W j s i v c a) o g)
+
+    way-good : (W : Win) (o : Out) → Way W o → Good (R .n) (R .p) G W o
+    way-good W (settled U ms) g = any-settled (R .n) (R .p) G (g .0) (g .1) (g .2)
+    way-good W (clash j ms) g = any-clash (R .n) (R .p) G (g .1) j (g .2) (g .3)
+    way-good W short g = tt
+
+    pub run-good : (room : ℕ) (W : Win) → Long (R .n) (R .p) W → Good (R .n) (R .p) G W (run R room W)
+    unfolding run
+    run-good room W L = way-good W (work R room W 0 early) (work-way room W 0 early L (omega arith))
+
+    -- ---- how many moves
+
+    abbrev pub Bounded : ℕ → Win → Out → Type 0
+    Bounded room W (settled U ms) = (length ms ≤ slack (R .p) W (R .n)) × (length ms ≤ room)
+    Bounded room W (clash j ms) = (length ms ≤ suc (slack (R .p) W (R .n))) × (length ms ≤ room)
+    Bounded room W short = room ≤ slack (R .p) W (R .n)
+
+    push-bounded : (room : ℕ) (W U : Win) (m : Move) (o : Out) → suc (slack (R .p) U (R .n)) ≤ slack (R .p) W (R .n)
+        → Bounded room U o → Bounded (suc room) W (push m o)
+    push-bounded room W U m (settled X ms) d q = omega arith
+    push-bounded room W U m (clash j ms) d q = omega arith
+    push-bounded room W U m short d q = omega arith
+
+    work-bounded : (room : ℕ) (W : Win) (j : ℕ) (s : Side) → Long (R .n) (R .p) W → Place (R .n) j s → Whole (R .n) W → Bounded room W (work R room W j s)
+    work-bounded =
+        work-ind (λ room W j s o. Whole (R .n) W → Bounded room W o)
+        (λ room W j s L q h. omega arith)
+        (λ W j s i v c L a h. omega arith)
+        (λ room W j s i v c L a e h. omega arith)
+        (λ room W j s i v c o L a e g h.
+        push-bounded room W (after R W i v c) (move W i v c) o
+        (slack-less (R .n) (R .p) W i v (R .bound v c) (a .listed) h (law .tighter W i v (R .bound v c) (a .listed) (a .applies)) e (R .n) (a .listed))
+        (g (whole-after (R .n) W i v (R .bound v c) h)))
+
+    -- at most the slack, and one more in a clash; short of room only where the room is at most the slack
+    pub run-bounded : (room : ℕ) (W : Win) → Long (R .n) (R .p) W → Whole (R .n) W → Bounded room W (run R room W)
+    unfolding run
+    run-bounded room W L h = work-bounded room W 0 early L (omega arith) h
+
+    pub never-short : (room : ℕ) (W : Win) → Long (R .n) (R .p) W → Whole (R .n) W → slack (R .p) W (R .n) < room → run R room W ≡ short → ⊥
+    never-short room W L h d e =
+        let q : room ≤ slack (R .p) W (R .n) = subst (Bounded room W) e (run-bounded room W L h) in
+        omega arith

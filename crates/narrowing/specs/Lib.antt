@@ -1,0 +1,6 @@
+pub mod Windows
+pub mod Rules
+pub mod Schedules
+pub mod Renumbered
+pub mod Run
+pub mod Rounds

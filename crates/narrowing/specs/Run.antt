@@ -1,0 +1,120 @@
+-- The defined run: moves in document 01's order of work, with the room as their quota, for any search. `Rounds` has the same order in
+-- literal rounds; the law `run-rounds` says that they are equal.
+use Prim.Native.Nat.{ℕ, zero, suc, _-_, _<_}
+use mathlib.Core.Bool.{Bool, true, false}
+use mathlib.Core.List.{List, [], _∷_}
+use mathlib.Core.Option.{Option, none, some}
+use lib.ListN.{length}
+use Rattle.narrowing.specs.Windows.{Win, Side, early, late, Long, moved, closes, slack}
+use Rattle.narrowing.specs.Rules.{Family}
+
+-- n jobs of durations p; for a job's side the choice that comes next, if any; and the bound that a choice stands for
+pub record Search : Type 0 where
+  pub n : ℕ
+  pub p : List ℕ
+  pub best : Win → ℕ → Side → Option ℕ
+  pub bound : Side → ℕ → ℕ
+
+-- the choice found, whose bound is `to c`, or that there is none
+abbrev pub Found : (ℕ → Type 0) → (ℕ → ℕ) → Option ℕ → Type 0
+Found P to none = (b : ℕ) → P b → ⊥
+Found P to (some c) = P (to c)
+
+-- the search offers a move of the rules, and one wherever a rule applies
+pub record Searches (R : Search) (G : Family) : Type 0 where
+  pub best-is : (W : Win) (j : ℕ) (s : Side) → Long (R .n) (R .p) W → j < R .n → Found (G W j s) (R .bound s) (R .best W j s)
+
+-- the windows after job j's side s is moved by the choice c
+abbrev pub after : Search → Win → ℕ → Side → ℕ → Win
+after R W j s c = moved W j s (R .bound s c)
+
+-- a move: the job, its side, the choice, and the windows before
+pub record Move : Type 0 where
+  pub job : ℕ
+  pub side : Side
+  pub choice : ℕ
+  pub before : Win
+
+-- no place of a stretch of the round moves, or the first that does and its choice
+pub data Next : Type 0 where
+  rests : Next
+  moves : ℕ → Side → ℕ → Next
+
+abbrev pub orMove : ℕ → Side → Option ℕ → Next → Next
+orMove j s none x = x
+orMove j s (some c) x = moves j s c
+
+abbrev pub orNext : Next → Next → Next
+orNext rests y = y
+orNext (moves j s c) y = moves j s c
+
+-- the first move of a round at job j or after it, where k jobs are left
+unfoldable pub first : Search → Win → ℕ → ℕ → Next
+first R W zero j = rests
+first R W (suc k) j =
+    let later = first R W k (suc j) in
+    let other = orMove j late (R .best W j late) later in
+    orMove j early (R .best W j early) other
+
+-- the same from job j's side s on
+unfoldable pub resume : Search → Win → ℕ → Side → Next
+unfolding first
+resume R W j early = first R W (R .n - j) j
+resume R W j late = let later = first R W (R .n - suc j) (suc j) in orMove j late (R .best W j late) later
+
+-- what is left of this round, else a whole round
+unfoldable pub nextMove : Search → Win → ℕ → Side → Next
+unfolding resume
+nextMove R W j s = let again = first R W (R .n) 0 in orNext (resume R W j s) again
+
+-- how the work ends: settled on windows, a clash of a job, or short of room
+pub data Out : Type 0 where
+  settled : Win → List Move → Out
+  clash : ℕ → List Move → Out
+  short : Out
+
+abbrev pub push : Move → Out → Out
+push m (settled W ms) = settled W (m ∷ ms)
+push m (clash j ms) = clash j (m ∷ ms)
+push m short = short
+
+abbrev pub follow : Win → Next → (ℕ → Side → ℕ → Out) → Out
+follow W rests f = settled W []
+follow W (moves j s c) f = f j s c
+
+abbrev pub ends : Bool → Out → Out → Out
+ends true a b = a
+ends false a b = b
+
+abbrev pub move : Win → ℕ → Side → ℕ → Move
+move W j s c = record { job = j; side = s; choice = c; before = W }
+
+-- the work from job j's side s on
+unfoldable pub work : Search → ℕ → Win → ℕ → Side → Out
+unfolding nextMove
+work R zero W j s = follow W (nextMove R W j s) (λ i v c. short)
+work R (suc room) W j s =
+    follow W (nextMove R W j s)
+    (λ i v c.
+    let U = after R W i v c in
+    let rest = push (move W i v c) (work R room U i v) in
+    ends (closes (R .p) U i) (clash i (move W i v c ∷ [])) rest)
+
+-- the whole run, from the first job's side 0
+unfoldable pub run : Search → ℕ → Win → Out
+unfolding work
+run R room W = work R room W 0 early
+
+-- the moves of an end, and their number
+abbrev pub movesOf : Out → List Move
+movesOf (settled W ms) = ms
+movesOf (clash j ms) = ms
+movesOf short = []
+
+abbrev pub count : Out → ℕ
+count o = length (movesOf o)
+
+-- the moves that the work needs: those of the run with a quota that is always enough
+unfoldable pub needed : Search → Win → ℕ
+unfolding run slack
+needed R W = count (run R (suc (slack (R .p) W (R .n))) W)

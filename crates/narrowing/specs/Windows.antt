@@ -1,0 +1,60 @@
+-- Windows of jobs, their two sides, and a move of one bound. Job k's earliest start is `W .e ! k`, its latest end `W .l ! k`.
+use Prim.Native.Nat.{ℕ, zero, suc, _+_, _-_, _≤_, _<_}
+use mathlib.Core.Bool.{Bool}
+use mathlib.Core.List.{List}
+use lib.ListN.{set}
+use lib.Dec.{ltb}
+use Rattle.lists.specs.Lists.{_!_}
+
+-- earliest starts and latest ends
+pub record Win : Type 0 where
+  pub e : List ℕ
+  pub l : List ℕ
+
+-- side 0 raises an earliest start, side 1 lowers a latest end
+pub data Side : Type 0 where
+  early : Side
+  late : Side
+
+-- the paper's number of a side
+abbrev pub number : Side → ℕ
+number early = 0
+number late = 1
+
+-- each of the n windows is long enough for its job
+unfoldable pub Long : ℕ → List ℕ → Win → Type 0
+Long n p W = (k : ℕ) → k < n → W .e ! k + p ! k ≤ W .l ! k
+
+-- job j's window is shorter than the job
+abbrev pub closes : List ℕ → Win → ℕ → Bool
+closes p W j = ltb (W .l ! j) (W .e ! j + p ! j)
+
+-- the windows U lie inside the windows W
+pub record Inside (n : ℕ) (U W : Win) : Type 0 where
+  pub early : (k : ℕ) → k < n → W .e ! k ≤ U .e ! k
+  pub late : (k : ℕ) → k < n → U .l ! k ≤ W .l ! k
+
+-- one bound of job j becomes b
+abbrev pub moved : Win → ℕ → Side → ℕ → Win
+moved W j early b = record { e = set (W .e) j b; l = W .l }
+moved W j late b = record { e = W .e; l = set (W .l) j b }
+
+-- b is tighter than W's bound
+abbrev pub Tighter : Win → ℕ → Side → ℕ → Type 0
+Tighter W j early b = W .e ! j < b
+Tighter W j late b = b < W .l ! j
+
+-- W's bound is b or tighter
+abbrev pub Respects : Win → ℕ → Side → ℕ → Type 0
+Respects W j early b = b ≤ W .e ! j
+Respects W j late b = W .l ! j ≤ b
+
+-- c is no tighter a bound than b
+abbrev pub Weaker : Side → ℕ → ℕ → Type 0
+Weaker early c b = c ≤ b
+Weaker late c b = b ≤ c
+
+-- the sum of l - e - p over the jobs below m
+unfoldable pub slack : List ℕ → Win → ℕ → ℕ
+slack p W zero = 0
+slack p W (suc m) = slack p W m + (W .l ! m - (W .e ! m + p ! m))
