@@ -3,3 +3,5 @@ pub mod Lists
 pub mod Sums
 pub mod Searches
 pub mod Turns
+pub mod Stretches
+pub mod Judged

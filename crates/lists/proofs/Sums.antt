@@ -1,9 +1,11 @@
 -- Sums below a number: term by term, one term, split by a test.
 use Prim.Native.Nat.{ℕ, zero, suc, _+_, _-_, _≤_, _<_}
 use native.Mathlib.Omega.{arith}
-use native.Mathlib.Decide.{ℕ-discrete}
+use native.Mathlib.Decide.{ℕ-discrete, decLe}
 use mathlib.Core.Path.{_≡_, refl}
 use mathlib.Core.Bool.{Bool, true, false, not}
+use lib.Dec.{eqb}
+use borrow.Author.Tests.{eq-eqb, ne-eqb}
 use Rattle.lists.specs.Tests.{both, only}
 use Rattle.lists.specs.Sums.{total}
 
@@ -46,3 +48,57 @@ pub total-split : (f c : ℕ → Bool) (p : ℕ → ℕ) (m : ℕ)
 unfolding total
 total-split f c p zero = refl
 total-split f c p (suc m) = omega (arith, total-split f c p m, split (c m) (f m) (p m))
+
+-- ---- a sum without its term at a
+
+unfoldable pub without : (ℕ → ℕ) → ℕ → ℕ → ℕ
+without f a i = only (not (eqb i a)) (f i)
+
+pub without-same : (f : ℕ → ℕ) (a : ℕ) → without f a a ≡ 0
+unfolding without
+without-same f a = rw (eq-eqb a a refl)
+
+pub without-other : (f : ℕ → ℕ) (a i : ℕ) → (i ≡ a → ⊥) → without f a i ≡ f i
+unfolding without
+without-other f a i h = rw (ne-eqb i a h)
+
+pub total-without : (f : ℕ → ℕ) (a m : ℕ) → a < m → total (without f a) m + f a ≡ total f m
+unfolding total
+total-without f a zero b = omega arith
+total-without f a (suc m) b = go (λ q. total-without f a m q)
+  where
+    go : (a < m → total (without f a) m + f a ≡ total f m) → total (without f a) (suc m) + f a ≡ total f (suc m)
+    go h =
+        elim (ℕ-discrete m a) [
+          | yes e ↦ rw e (omega (arith, without-same f a, total-cong (without f a) f a (λ k b. without-other f a k (omega arith))))
+          | no e ↦ omega (arith, h (omega arith), without-other f a m e)
+        ]
+
+-- the same where each term counts by a test
+pub total-others : (f : ℕ → Bool) (x : ℕ → ℕ) (a m : ℕ) → a < m
+    → total (λ k. only (both (not (eqb k a)) (f k)) (x k)) m + only (f a) (x a) ≡ total (λ k. only (f k) (x k)) m
+unfolding without
+total-others f x a m b =
+    omega (
+      arith,
+      total-cong (λ k. only (both (not (eqb k a)) (f k)) (x k)) (without (λ k. only (f k) (x k)) a) m (λ k c. nested (not (eqb k a)) (f k) (x k)),
+      total-without (λ k. only (f k) (x k)) a m b,
+    )
+  where
+    nested : (c d : Bool) (y : ℕ) → only (both c d) y ≡ only c (only d y)
+    nested true d y = refl
+    nested false d y = refl
+
+-- where a sum is not 0, some term counts and is not 0
+pub total-some-term : (f : ℕ → Bool) (x : ℕ → ℕ) (m : ℕ) → 0 < total (λ k. only (f k) (x k)) m → (j : ℕ) × (j < m) × (1 ≤ x j) × (f j ≡ true)
+unfolding total
+total-some-term f x zero h = absurd (omega arith)
+total-some-term f x (suc m) h = go (f m) refl (λ q. total-some-term f x m q)
+  where
+    wider : (j : ℕ) × (j < m) × (1 ≤ x j) × (f j ≡ true) → (j : ℕ) × (j < suc m) × (1 ≤ x j) × (f j ≡ true)
+    wider y = (y .0, omega arith, y .2, y .3)
+
+    go : (c : Bool) → f m ≡ c → (0 < total (λ k. only (f k) (x k)) m → (j : ℕ) × (j < m) × (1 ≤ x j) × (f j ≡ true))
+        → (j : ℕ) × (j < suc m) × (1 ≤ x j) × (f j ≡ true)
+    go true e g = elim (decLe 1 (x m)) [ yes d ↦ (m, omega arith, d, e) | no d ↦ wider (g (let z = rw e at h in omega arith)) ]
+    go false e g = wider (g (let z = rw e at h in omega arith))

@@ -11,30 +11,7 @@ use Rattle.lists.specs.Lists.{_!_}
 use Rattle.lists.specs.Tests.{only}
 use Rattle.lists.specs.Sums.{total}
 use Rattle.lists.specs.Turns.{Turn, SameList}
-use Rattle.lists.proofs.Sums.{total-cong}
-
-without : (ℕ → ℕ) → ℕ → ℕ → ℕ
-without f a i = only (not (eqb i a)) (f i)
-
-without-same : (f : ℕ → ℕ) (a : ℕ) → without f a a ≡ 0
-unfolding without
-without-same f a = rw (eq-eqb a a refl)
-
-without-other : (f : ℕ → ℕ) (a i : ℕ) → (i ≡ a → ⊥) → without f a i ≡ f i
-unfolding without
-without-other f a i h = rw (ne-eqb i a h)
-
-total-without : (f : ℕ → ℕ) (a m : ℕ) → a < m → total (without f a) m + f a ≡ total f m
-unfolding total
-total-without f a zero b = omega arith
-total-without f a (suc m) b = go (λ q. total-without f a m q)
-  where
-    go : (a < m → total (without f a) m + f a ≡ total f m) → total (without f a) (suc m) + f a ≡ total f (suc m)
-    go h =
-        elim (ℕ-discrete m a) [
-          | yes e ↦ rw e (omega (arith, without-same f a, total-cong (without f a) f a (λ k b. without-other f a k (omega arith))))
-          | no e ↦ omega (arith, h (omega arith), without-other f a m e)
-        ]
+use Rattle.lists.proofs.Sums.{total-cong, without, without-other, total-without}
 
 -- distinct places below n add up to at most all of them
 total-some : (n : ℕ) (π : ℕ → ℕ) (m : ℕ) → ((k : ℕ) → k < m → π k < n) → ((k i : ℕ) → k < i → i < m → π k ≡ π i → ⊥)

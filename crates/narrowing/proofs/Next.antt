@@ -131,3 +131,12 @@ module _ (R : Search) (G : Family) (search : Searches R G) (W : Win) (L : Long (
 
   pub next-is : (j : ℕ) (s : Side) → Place (R .n) j s → Ahead j s (nextMove R W j s)
   next-is j s b = ahead j s (nextMove R W j s) (next-says R W j s b)
+
+-- a rule applies somewhere, or nowhere
+pub stable-or : (R : Search) (G : Family) → Searches R G → (W : Win) → Long (R .n) (R .p) W
+    → Stable (R .n) G W ⊎ ((j : ℕ) × (s : Side) × (b : ℕ) × (j < R .n) × G W j s b)
+stable-or R G search W L = go (nextMove R W 0 early) (next-is R G search W L 0 early (omega arith))
+  where
+    go : (x : Next) → Ahead R G search W L 0 early x → Stable (R .n) G W ⊎ ((j : ℕ) × (s : Side) × (b : ℕ) × (j < R .n) × G W j s b)
+    go rests q = inl q
+    go (moves i v c) q = inr (i, v, R .bound v c, q .listed, q .applies)

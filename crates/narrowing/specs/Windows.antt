@@ -11,6 +11,9 @@ pub record Win : Type 0 where
   pub e : List ℕ
   pub l : List ℕ
 
+abbrev pub win : List ℕ → List ℕ → Win
+win e l = record { e = e; l = l }
+
 -- side 0 raises an earliest start, side 1 lowers a latest end
 pub data Side : Type 0 where
   early : Side

@@ -1,0 +1,65 @@
+-- Two answers that say the same are the same Rattle value: each is read back from what it says.
+use Prim.Native.Nat.{ℕ}
+use mathlib.Core.Path.{_≡_, refl, sym, ap, _∙_}
+use mathlib.Core.List.{List, [], _∷_}
+use Rattle.lists.specs.Lists.{_!_}
+use Rattle.answers.specs.declared.Answer.{Answer}
+use Rattle.answers.specs.declared.CheckAnswer.{CheckAnswer}
+use Rattle.answers.specs.declared.OverloadAnswer.{OverloadAnswer}
+use Rattle.answers.specs.Said.{Word, Said, says, saysCheck, saysOverload}
+
+-- what can be read back is the same where what is said is
+read-back : {A : Type 0} (say : A → Said) (heard : Said → A) → ((a : A) → heard (say a) ≡ a) → (a b : A) → say a ≡ say b → a ≡ b
+read-back say heard back a b h = sym (back a) ∙ ap heard h ∙ back b
+
+abbrev heardOf : Word → List ℕ → Answer
+heardOf Word.settled ns = Answer.Settled (ns ! 0)
+heardOf Word.clash ns = Answer.Clash (ns ! 0) (ns ! 1)
+heardOf Word.refused ns = Answer.Refused (ns ! 0)
+heardOf Word.holds ns = Answer.Refused 0
+heardOf Word.rejected ns = Answer.Refused 0
+heardOf Word.none ns = Answer.Refused 0
+heardOf Word.overload ns = Answer.Refused 0
+
+heard-says : (a : Answer) → heardOf (says a .word) (says a .numbers) ≡ a
+heard-says (Answer.Settled n) = refl
+heard-says (Answer.Clash n j) = refl
+heard-says (Answer.Refused k) = refl
+
+pub says-same : (a b : Answer) → says a ≡ says b → a ≡ b
+says-same = read-back says (λ s. heardOf (s .word) (s .numbers)) heard-says
+
+abbrev heardCheck : Word → List ℕ → CheckAnswer
+heardCheck Word.holds ns = CheckAnswer.Holds (ns ! 0)
+heardCheck Word.clash ns = CheckAnswer.Clash (ns ! 0) (ns ! 1)
+heardCheck Word.rejected ns = CheckAnswer.Rejected (ns ! 0) (ns ! 1)
+heardCheck Word.refused ns = CheckAnswer.Refused (ns ! 0)
+heardCheck Word.settled ns = CheckAnswer.Refused 0
+heardCheck Word.none ns = CheckAnswer.Refused 0
+heardCheck Word.overload ns = CheckAnswer.Refused 0
+
+heard-check : (a : CheckAnswer) → heardCheck (saysCheck a .word) (saysCheck a .numbers) ≡ a
+heard-check (CheckAnswer.Holds n) = refl
+heard-check (CheckAnswer.Clash n j) = refl
+heard-check (CheckAnswer.Rejected i c) = refl
+heard-check (CheckAnswer.Refused k) = refl
+
+pub check-same : (a b : CheckAnswer) → saysCheck a ≡ saysCheck b → a ≡ b
+check-same = read-back saysCheck (λ s. heardCheck (s .word) (s .numbers)) heard-check
+
+abbrev heardOverload : Word → List ℕ → OverloadAnswer
+heardOverload Word.none ns = OverloadAnswer.None
+heardOverload Word.overload ns = OverloadAnswer.Overload (ns ! 0) (ns ! 1)
+heardOverload Word.refused ns = OverloadAnswer.Refused (ns ! 0)
+heardOverload Word.settled ns = OverloadAnswer.None
+heardOverload Word.clash ns = OverloadAnswer.None
+heardOverload Word.holds ns = OverloadAnswer.None
+heardOverload Word.rejected ns = OverloadAnswer.None
+
+heard-overload : (a : OverloadAnswer) → heardOverload (saysOverload a .word) (saysOverload a .numbers) ≡ a
+heard-overload OverloadAnswer.None = refl
+heard-overload (OverloadAnswer.Overload a b) = refl
+heard-overload (OverloadAnswer.Refused k) = refl
+
+pub overload-same : (a b : OverloadAnswer) → saysOverload a ≡ saysOverload b → a ≡ b
+overload-same = read-back saysOverload (λ s. heardOverload (s .word) (s .numbers)) heard-overload

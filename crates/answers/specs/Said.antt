@@ -1,0 +1,43 @@
+-- What each answer says in the paper's words: document 01's answer words and the numbers behind them, one type for all calls.
+use Prim.Native.Nat.{ℕ}
+use mathlib.Core.List.{List, [], _∷_}
+use Rattle.answers.specs.declared.Answer.{Answer}
+use Rattle.answers.specs.declared.CheckAnswer.{CheckAnswer}
+use Rattle.answers.specs.declared.OverloadAnswer.{OverloadAnswer}
+
+-- the answer words
+pub data Word : Type 0 where
+  settled : Word
+  clash : Word
+  refused : Word
+  holds : Word
+  rejected : Word
+  none : Word
+  overload : Word
+
+-- an answer: its word and its numbers
+pub record Said : Type 0 where
+  pub word : Word
+  pub numbers : List ℕ
+
+abbrev pub said : Word → List ℕ → Said
+said w ns = record { word = w; numbers = ns }
+
+-- narrowing's answers
+abbrev pub says : Answer → Said
+says (Answer.Settled n) = said Word.settled (n ∷ [])
+says (Answer.Clash n j) = said Word.clash (n ∷ j ∷ [])
+says (Answer.Refused k) = said Word.refused (k ∷ [])
+
+-- the checker's answers
+abbrev pub saysCheck : CheckAnswer → Said
+saysCheck (CheckAnswer.Holds n) = said Word.holds (n ∷ [])
+saysCheck (CheckAnswer.Clash n j) = said Word.clash (n ∷ j ∷ [])
+saysCheck (CheckAnswer.Rejected i c) = said Word.rejected (i ∷ c ∷ [])
+saysCheck (CheckAnswer.Refused k) = said Word.refused (k ∷ [])
+
+-- the overload check's answers
+abbrev pub saysOverload : OverloadAnswer → Said
+saysOverload OverloadAnswer.None = said Word.none []
+saysOverload (OverloadAnswer.Overload a b) = said Word.overload (a ∷ b ∷ [])
+saysOverload (OverloadAnswer.Refused k) = said Word.refused (k ∷ [])

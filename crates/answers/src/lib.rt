@@ -1,0 +1,23 @@
+// The answers of the desk's calls. `says` in specs/ gives each one in the paper's words and numbers.
+
+// Narrowing: the record count; the record count and the moved job; the refusal's number.
+pub enum Answer {
+    Settled(usize),
+    Clash(usize, usize),
+    Refused(u32),
+}
+
+// The checker: the record count; the record count and the job; the bad record's place and its code; the refusal's number.
+pub enum CheckAnswer {
+    Holds(usize),
+    Clash(usize, usize),
+    Rejected(usize, u32),
+    Refused(u32),
+}
+
+// The overload check: no set is overloaded; the pair a, b; the refusal's number.
+pub enum OverloadAnswer {
+    None,
+    Overload(u32, u32),
+    Refused(u32),
+}

@@ -1,0 +1,48 @@
+-- The limits of document 01, 'Job lists', each in this one place; and lists with the limit of their numbers.
+use Prim.Native.Nat.{ℕ, _≤_, _<_}
+use mathlib.Core.List.{List, [], _∷_}
+use lib.ListN.{length}
+use Rattle.lists.specs.Lists.{_!_}
+use Rattle.narrowing.specs.Windows.{Win}
+
+-- times and durations
+abbrev pub mostTime : ℕ
+mostTime = 1000000
+
+-- demand and capacity
+abbrev pub mostDemand : ℕ
+mostDemand = 10000
+
+-- jobs
+abbrev pub mostJobs : ℕ
+mostJobs = 256
+
+-- a list with the limit of its numbers
+pub record Column : Type 0 where
+  pub list : List ℕ
+  pub most : ℕ
+
+abbrev pub times : List ℕ → Column
+times xs = record { list = xs; most = mostTime }
+
+abbrev pub demands : List ℕ → Column
+demands xs = record { list = xs; most = mostDemand }
+
+-- the windows that two lists give
+abbrev pub windows : List ℕ → List ℕ → Win
+windows est lct = record { e = est; l = lct }
+
+-- the number of jobs
+abbrev pub jobs : Win → ℕ
+jobs W = length (W .e)
+
+-- the lists of narrowing and of the checker: earliest start, latest end, duration, demand; and beside them the capacity
+abbrev pub fourLists : Win → List ℕ → List ℕ → List Column
+fourLists W p r = times (W .e) ∷ times (W .l) ∷ times p ∷ demands r ∷ []
+
+abbrev pub supply : ℕ → List Column
+supply cap = demands (cap ∷ []) ∷ []
+
+-- the lists of the overload check
+abbrev pub threeLists : Win → List ℕ → List Column
+threeLists W p = times (W .e) ∷ times (W .l) ∷ times p ∷ []

@@ -1,0 +1,69 @@
+-- Log records (document 01, 'Log records'): the layout of a record's words in this one place, the room of a log, and what a log holds.
+use Prim.Native.Nat.{ℕ, zero, suc, _+_, _*_, _/_}
+use mathlib.Core.Bool.{Bool, true, false}
+use mathlib.Core.List.{List, [], _∷_, _++_}
+use lib.ListN.{length, take, drop, replicate}
+use lib.Dec.{ltb}
+use Rattle.lists.specs.Lists.{_!_}
+use Rattle.members.specs.Members.{setWords, onesOf}
+
+-- the places of the words before the member set, and their number
+abbrev pub jobWord : ℕ
+jobWord = 0
+
+abbrev pub sideWord : ℕ
+sideWord = 1
+
+abbrev pub timeWord : ℕ
+timeWord = 2
+
+abbrev pub countWord : ℕ
+countWord = 3
+
+abbrev pub headWords : ℕ
+headWords = 4
+
+-- the words of a record: the head, then the member set
+abbrev pub recordWords : ℕ
+recordWords = headWords + setWords
+
+-- job, side, time, the number of ones in the member set, the set
+abbrev pub written : ℕ → ℕ → ℕ → List ℕ → List ℕ
+written job side time set = job ∷ side ∷ time ∷ onesOf set ∷ set
+
+-- the member set of a record
+abbrev pub setOfRecord : List ℕ → List ℕ
+setOfRecord x = drop headWords x
+
+-- the records that a log can hold, whatever the remainder
+unfoldable pub roomOf : List ℕ → ℕ
+roomOf log = length log / recordWords
+
+abbrev pub part : Bool → List ℕ → List ℕ
+part true x = x
+part false x = []
+
+-- record k, and no words where the log ends before them
+unfoldable pub recordAt : List ℕ → ℕ → List ℕ
+unfolding roomOf
+recordAt log k = part (ltb k (roomOf log)) (take recordWords (drop (recordWords * k) log))
+
+-- the first so many records of a log
+unfoldable pub records : List ℕ → ℕ → ℕ → List (List ℕ)
+unfolding recordAt
+records log k zero = []
+records log k (suc m) = recordAt log k ∷ records log (suc k) m
+
+-- the words of records one after the other
+unfoldable pub flat : List (List ℕ) → List ℕ
+flat [] = []
+flat (x ∷ xs) = x ++ flat xs
+
+-- the records first, the rest as before
+unfoldable pub logged : List (List ℕ) → List ℕ → List ℕ
+unfolding flat
+logged rs log = flat rs ++ drop (length (flat rs)) log
+
+-- every word 0
+unfoldable pub cleared : List ℕ → List ℕ
+cleared log = replicate (length log) 0

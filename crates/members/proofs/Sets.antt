@@ -1,0 +1,203 @@
+-- Member sets, over the number of words: the set of given members and what it has, that the members make the set, how many ones there are,
+-- and what is a member after one is put in.
+use Prim.Native.Nat.{ℕ, zero, suc, _+_, _*_, _/_, _%_, _^_, _≤_, _<_}
+use mathlib.Core.Path.{_≡_, refl, sym, ap, _∙_}
+use mathlib.Core.Bool.{Bool, true, false, not}
+use mathlib.Core.List.{List, [], _∷_}
+use native.Mathlib.Omega.{arith}
+use native.Mathlib.Decide.{decLt, ℕ-discrete}
+use native.Mathlib.Nat.{zero-div}
+use native.Mathlib.Numerals.{add-one}
+use borrow.Author.Tests.{eq-eqb, ne-eqb}
+use lib.Bits.{bitAnd, bitOr, or-lt}
+use lib.Count.{onesIn, ones}
+use lib.Dec.{eqb}
+use lib.ListN.{length, set, drop, length-set, drop-of-length-le, List·getD-eq-default}
+use lib.Pow.{pow-lt, pow-pos}
+use lib.Seq.{drop-cons, getD-set-same, getD-set-other, set-out}
+use Rattle.lists.specs.Lists.{_!_}
+use Rattle.lists.specs.Tests.{only}
+use Rattle.lists.specs.Sums.{total}
+use Rattle.lists.proofs.Lists.{set-any, same-list}
+use Rattle.lists.proofs.Sums.{total-zero, total-cong}
+use Rattle.lists.proofs.Stretches.{total-join}
+use Rattle.members.specs.Members.{has, onesOf, word, words, setOf, inserted, AreWords}
+use Rattle.members.proofs.Bits.{bitOf, bit-lt, mask-test, ones-bits, ones-most, ones-all, word-lt, word-bit, word-unique, or-same, or-other}
+
+-- ---- a bit as a test
+
+only-test : (c : Bool) → eqb (only c 1) 1 ≡ c
+only-test true = refl
+only-test false = refl
+
+test-only : (b : ℕ) → b < 2 → only (eqb b 1) 1 ≡ b
+test-only zero h = refl
+test-only (suc zero) h = refl
+test-only (suc (suc b)) h = absurd (omega arith)
+
+-- ---- what a set has
+
+-- there is no member beyond the words
+pub has-past : (ws : List ℕ) (k : ℕ) → 32 * length ws ≤ k → has ws k ≡ false
+unfolding has
+has-past ws k h = rw (List·getD-eq-default ws 0 {n = k / 32} (omega arith), zero-div)
+
+-- a member is tested by the mask of its bit
+pub has-mask : (ws : List ℕ) (k : ℕ) → not (eqb (bitAnd (ws ! (k / 32)) (2 ^ (k % 32))) 0) ≡ has ws k
+unfolding has
+has-mask ws k = mask-test (ws ! (k / 32)) (k % 32)
+
+-- word q of the set is the word of the 32 members from 32 q on
+words-at : (f : ℕ → Bool) (w b q : ℕ) → q < w → words f b w ! q ≡ word f (b + q * 32) 32
+unfolding words
+words-at f zero b q h = absurd (omega arith)
+words-at f (suc w) b zero h = let e : b + 0 * 32 ≡ b = omega arith in rw e
+words-at f (suc w) b (suc q) h =
+    let e : b + 32 + q * 32 ≡ b + suc q * 32 = omega arith in
+    words-at f w (b + 32) q (omega arith) ∙ ap (λ (k : ℕ). word f k 32) e
+
+words-length : (f : ℕ → Bool) (w b : ℕ) → length (words f b w) ≡ w
+unfolding words
+words-length f zero b = refl
+words-length f (suc w) b = ap suc (words-length f w (b + 32))
+
+pub setOf-length : (w : ℕ) (f : ℕ → Bool) → length (setOf w f) ≡ w
+unfolding setOf
+setOf-length w f = words-length f w 0
+
+pub setOf-at : (w : ℕ) (f : ℕ → Bool) (q : ℕ) → q < w → setOf w f ! q ≡ word f (q * 32) 32
+unfolding setOf
+setOf-at w f q h = let e : 0 + q * 32 ≡ q * 32 = omega arith in words-at f w 0 q h ∙ ap (λ (k : ℕ). word f k 32) e
+
+pub setOf-words : (w : ℕ) (f : ℕ → Bool) → AreWords (setOf w f)
+setOf-words w f q =
+    elim (decLt q w) [
+      | yes h ↦ rw (setOf-at w f q h) (word-lt f (q * 32) 32)
+      | no h ↦ rw (List·getD-eq-default (setOf w f) 0 {n = q} (omega (arith, setOf-length w f))) (pow-pos 32)
+    ]
+
+-- the members are those that were given
+pub has-setOf : (w : ℕ) (f : ℕ → Bool) (k : ℕ) → k < 32 * w → has (setOf w f) k ≡ f k
+unfolding has
+has-setOf w f k h =
+    let e : k / 32 * 32 + k % 32 ≡ k = omega arith in
+    rw (setOf-at w f (k / 32) (omega arith), word-bit f (k / 32 * 32) 32 (k % 32) (omega arith), e) (only-test (f k))
+
+pub has-beyond : (w : ℕ) (f : ℕ → Bool) (k : ℕ) → 32 * w ≤ k → has (setOf w f) k ≡ false
+has-beyond w f k h = has-past (setOf w f) k (omega (arith, setOf-length w f))
+
+-- ---- the members make the set
+
+-- bit i of word q, by the test
+bit-has : (ws : List ℕ) (q i : ℕ) → i < 32 → bitOf (ws ! q) i ≡ only (has ws (q * 32 + i)) 1
+unfolding has
+bit-has ws q i h =
+    let d : (q * 32 + i) / 32 ≡ q = omega arith in
+    let m : (q * 32 + i) % 32 ≡ i = omega arith in
+    rw (d, m) (sym (test-only (bitOf (ws ! q) i) (bit-lt (ws ! q) i)))
+
+-- words with the given members are the set of them
+pub setOf-unique : (w : ℕ) (f : ℕ → Bool) (ws : List ℕ) → length ws ≡ w → AreWords ws → ((k : ℕ) → k < 32 * w → has ws k ≡ f k) → ws ≡ setOf w f
+setOf-unique w f ws long small h = same-list w ws (setOf w f) long (setOf-length w f) at
+  where
+    at : (q : ℕ) → q < w → ws ! q ≡ setOf w f ! q
+    at q b =
+        word-unique f (q * 32) 32 (ws ! q) (small q) (λ i c. bit-has ws q i c ∙ ap (λ (t : Bool). only t 1) (h (q * 32 + i) (omega arith)))
+        ∙ sym (setOf-at w f q b)
+
+-- words are the set of their members
+pub setOf-self : (ws : List ℕ) → AreWords ws → ws ≡ setOf (length ws) (has ws)
+setOf-self ws small = setOf-unique (length ws) (has ws) ws refl small (λ k b. refl)
+
+pub setOf-cong : (w : ℕ) (f g : ℕ → Bool) → ((k : ℕ) → k < 32 * w → f k ≡ g k) → setOf w f ≡ setOf w g
+setOf-cong w f g h = setOf-unique w g (setOf w f) (setOf-length w f) (setOf-words w f) (λ k b. has-setOf w f k b ∙ h k b)
+
+-- ---- the number of ones
+
+has-first : (x : ℕ) (ws : List ℕ) (i : ℕ) → i < 32 → bitOf x i ≡ only (has (x ∷ ws) i) 1
+has-first x ws i h = let e : 0 * 32 + i ≡ i = omega arith in rw e at (bit-has (x ∷ ws) 0 i h)
+
+has-later : (x : ℕ) (ws : List ℕ) (k : ℕ) → has (x ∷ ws) (32 + k) ≡ has ws k
+unfolding has
+has-later x ws k =
+    let d : (32 + k) / 32 ≡ suc (k / 32) = omega arith in
+    let m : (32 + k) % 32 ≡ k % 32 = omega arith in
+    rw (d, m)
+
+pub ones-none : onesOf [] ≡ 0
+unfolding onesOf
+ones-none = refl
+
+pub ones-cons : (x : ℕ) (ws : List ℕ) → onesOf (x ∷ ws) ≡ onesIn 32 x + onesOf ws
+unfolding onesOf
+ones-cons x ws = refl
+
+-- the ones are as many as the members
+pub ones-members : (ws : List ℕ) → onesOf ws ≡ total (λ k. only (has ws k) 1) (32 * length ws)
+ones-members [] = ones-none ∙ sym (total-zero (λ k. only (has [] k) 1))
+ones-members (x ∷ ws) =
+    let e : 32 * suc (length ws) ≡ 32 + 32 * length ws = omega arith in
+    rw e (
+    omega (
+      arith,
+      ones-cons x ws,
+      total-join (λ k. only (has (x ∷ ws) k) 1) 32 (32 * length ws),
+      ones-bits 32 x,
+      total-cong (λ i. bitOf x i) (λ i. only (has (x ∷ ws) i) 1) 32 (λ i b. has-first x ws i b),
+      ones-members ws,
+      total-cong (λ k. only (has (x ∷ ws) (32 + k)) 1) (λ k. only (has ws k) 1) (32 * length ws) (λ k b. ap (λ (t : Bool). only t 1) (has-later x ws k)),
+    )
+    )
+
+pub ones-setOf : (w : ℕ) (f : ℕ → Bool) → onesOf (setOf w f) ≡ total (λ k. only (f k) 1) (32 * w)
+ones-setOf w f =
+    ones-members (setOf w f)
+    ∙ rw (setOf-length w f) (total-cong (λ k. only (has (setOf w f) k) 1) (λ k. only (f k) 1) (32 * w) (λ k b. ap (λ (t : Bool). only t 1) (has-setOf w f k b)))
+
+pub ones-fit : (ws : List ℕ) → onesOf ws ≤ 32 * length ws
+ones-fit [] = omega (arith, ones-none)
+ones-fit (x ∷ ws) = omega (arith, ones-cons x ws, ones-most 32 x, ones-fit ws)
+
+-- as a loop counts them: the ones of word i, and those of the words after it
+pub ones-drop : (ws : List ℕ) (i : ℕ) → i < length ws → ws ! i < 2 ^ 32 → onesOf (drop i ws) ≡ ones (ws ! i) + onesOf (drop (i + 1) ws)
+ones-drop ws i h b = rw (add-one, drop-cons ws i 0 h, ones-cons, ones-all 32 (ws ! i) b)
+
+pub ones-end : (ws : List ℕ) (i : ℕ) → length ws ≤ i → onesOf (drop i ws) ≡ 0
+ones-end ws i h = rw (drop-of-length-le ws h) ones-none
+
+-- ---- after one is put in
+
+pub inserted-length : (ws : List ℕ) (k : ℕ) → length (inserted ws k) ≡ length ws
+unfolding inserted
+inserted-length ws k = length-set ws (k / 32) (bitOr (ws ! (k / 32)) (2 ^ (k % 32)))
+
+pub inserted-words : (ws : List ℕ) (k : ℕ) → AreWords ws → AreWords (inserted ws k)
+unfolding inserted
+inserted-words ws k h q =
+    let bit : 2 ^ (k % 32) < 2 ^ 32 = pow-lt {i = k % 32} {j = 32} (omega arith) in
+    set-any (λ x. x < 2 ^ 32) ws (k / 32) (bitOr (ws ! (k / 32)) (2 ^ (k % 32))) q (λ e. or-lt 32 (ws ! (k / 32)) (2 ^ (k % 32)) (h (k / 32)) bit) (h q)
+
+-- beyond the words nothing is put in
+pub inserted-past : (ws : List ℕ) (k : ℕ) → 32 * length ws ≤ k → inserted ws k ≡ ws
+unfolding inserted
+inserted-past ws k h = set-out ws (k / 32) (bitOr (ws ! (k / 32)) (2 ^ (k % 32))) (omega arith)
+
+pub inserted-same : (ws : List ℕ) (k : ℕ) → k < 32 * length ws → has (inserted ws k) k ≡ true
+unfolding inserted has
+inserted-same ws k h =
+    let x = ws ! (k / 32) in
+    rw (getD-set-same ws (k / 32) (bitOr x (2 ^ (k % 32))) 0 (omega arith)) (eq-eqb _ 1 (or-same x (k % 32)))
+
+pub inserted-other : (ws : List ℕ) (k i : ℕ) → (i ≡ k → ⊥) → has (inserted ws k) i ≡ has ws i
+unfolding inserted has
+inserted-other ws k i ne =
+    let x = ws ! (k / 32) in
+    let y = bitOr x (2 ^ (k % 32)) in
+    elim (ℕ-discrete (i / 32) (k / 32)) [
+      | no d ↦ rw (getD-set-other ws (k / 32) (i / 32) y 0 d)
+      | yes e ↦
+          elim (decLt k (32 * length ws)) [
+            | yes h ↦ rw (e, getD-set-same ws (k / 32) y 0 (omega arith), or-other x (k % 32) (i % 32) (λ q. ne (omega arith)))
+            | no h ↦ rw (set-out ws (k / 32) y (omega arith))
+          ]
+    ]

@@ -1,0 +1,5 @@
+pub mod Facts
+pub mod Law
+pub mod Exact
+pub mod Order
+pub mod Meaning

@@ -1,0 +1,80 @@
+-- Time-tabling does not look at the jobs' numbers: renumbered, the same rules apply.
+use Prim.Native.Nat.{ℕ, zero, suc, _+_, _≤_, _<_}
+use native.Mathlib.Omega.{arith}
+use mathlib.Core.Path.{_≡_, refl, sym, ap, subst, _∙_}
+use mathlib.Core.Bool.{Bool, not}
+use mathlib.Core.List.{List}
+use lib.Dec.{eqb}
+use Rattle.lists.specs.Lists.{_!_}
+use Rattle.lists.specs.Tests.{both, only}
+use Rattle.lists.specs.Sums.{total}
+use Rattle.lists.specs.Turns.{Turn, SameList}
+use Rattle.lists.proofs.Sums.{total-cong}
+use Rattle.lists.proofs.Turns.{turned, total-turn, eqb-turn, list-back}
+use Rattle.narrowing.specs.Windows.{Win, Side, early, late}
+use Rattle.narrowing.specs.Rules.{Largest, NoCandidate}
+use Rattle.narrowing.specs.Renumbered.{SameWin, Alike}
+use Rattle.narrowing.proofs.Renumbered.{largest-same, none-same}
+use Rattle.timetable.specs.Time.{Jobs, sure, load, Crowded, Applies}
+
+-- the same jobs, numbered anew
+pub record SameJobs (π : ℕ → ℕ) (J I : Jobs) : Type 0 where
+  pub count : I .n ≡ J .n
+  pub supply : I .cap ≡ J .cap
+  pub lasts : SameList (J .n) π (J .p) (I .p)
+  pub takes : SameList (J .n) π (J .r) (I .r)
+
+summand : Jobs → Win → ℕ → ℕ → ℕ → ℕ
+summand J W j t k = only (both (not (eqb k j)) (sure (J .p) W k t)) (J .r ! k)
+
+module _ (π σ : ℕ → ℕ) (J I : Jobs) (h : Turn (J .n) π σ) (s : SameJobs π J I) where
+  module _ (W U : Win) (v : SameWin (J .n) π W U) where
+    summand-same : (j t k : ℕ) → j < J .n → k < J .n → summand I U j t k ≡ summand J W (π j) t (π k)
+    unfolding summand sure
+    summand-same j t k b c = rw (eqb-turn (J .n) π σ h k j c b, s .takes k c, s .lasts k c, v .early k c, v .late k c)
+
+    load-same : (j t : ℕ) → j < J .n → load I U j t ≡ load J W (π j) t
+    unfolding load summand
+    load-same j t b =
+        ap (total (summand I U j t)) (s .count)
+        ∙ total-cong (summand I U j t) (λ k. summand J W (π j) t (π k)) (J .n) (λ k c. summand-same j t k b c)
+        ∙ total-turn (J .n) π σ h (summand J W (π j) t)
+
+    crowded-same : (j t : ℕ) → j < J .n → Crowded I U j t → Crowded J W (π j) t
+    crowded-same j t b c = omega (arith, load-same j t b, s .supply, s .lasts j b, s .takes j b)
+
+  pub alike : Alike (J .n) π (Applies J) (Applies I)
+  unfolding Alike
+  alike W U v j early (suc t) c a =
+      record { from = omega (arith, v .early j c); to = omega (arith, v .early j c, s .lasts j c); crowded = crowded-same W U v j t c (a .crowded) }
+  alike W U v j late t c a =
+      record { from = omega (arith, v .late j c, s .lasts j c); to = omega (arith, v .late j c); crowded = crowded-same W U v j t c (a .crowded) }
+
+  jobs-back : SameJobs σ I J
+  jobs-back =
+      record {
+        count = sym (s .count);
+        supply = sym (s .supply);
+        lasts = rw (s .count) (list-back (J .n) π σ h (J .p) (I .p) (s .lasts));
+        takes = rw (s .count) (list-back (J .n) π σ h (J .r) (I .r) (s .takes));
+      }
+
+turn-count : (n m : ℕ) (π σ : ℕ → ℕ) → m ≡ n → Turn n π σ → Turn m π σ
+turn-count n m π σ e h = rw e h
+
+-- the largest windows of the renumbered jobs are the renumbered ones, and where those jobs have none the first have none
+module _ (π σ : ℕ → ℕ) (J I : Jobs) (h : Turn (J .n) π σ) (s : SameJobs π J I) (W U : Win) (v : SameWin (J .n) π W U) where
+  alike-back : Alike (J .n) σ (Applies I) (Applies J)
+  alike-back =
+      subst (λ (m : ℕ). Alike m σ (Applies I) (Applies J)) (s .count)
+      (alike σ π I J (turn-count (J .n) (I .n) σ π (s .count) (turned (J .n) π σ h)) (jobs-back π σ J I h s))
+
+  pub same-largest : (X Y : Win) → Largest (J .n) (J .p) (Applies J) W X → Largest (I .n) (I .p) (Applies I) U Y → SameWin (J .n) π X Y
+  same-largest X Y f g =
+      largest-same (J .n) π σ h (J .p) (I .p) (s .lasts) (Applies J) (Applies I) (alike π σ J I h s) alike-back W U X Y v f
+      (subst (λ (m : ℕ). Largest m (I .p) (Applies I) U Y) (s .count) g)
+
+  pub same-none : NoCandidate (I .n) (I .p) (Applies I) U → NoCandidate (J .n) (J .p) (Applies J) W
+  same-none f =
+      none-same (J .n) π σ h (J .p) (I .p) (s .lasts) (Applies J) (Applies I) (alike π σ J I h s) W U v
+      (subst (λ (m : ℕ). NoCandidate m (I .p) (Applies I) U) (s .count) f)

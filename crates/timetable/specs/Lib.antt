@@ -1,0 +1,5 @@
+pub mod Time
+pub mod Search
+pub mod Table
+pub mod Promise
+pub mod Reason

@@ -1,0 +1,40 @@
+-- What a record says (document 01, 'Log records'), of arbitrary start times, with no window mentioned.
+use Prim.Native.Nat.{ℕ, suc, _+_, _≤_, _<_}
+use mathlib.Core.Path.{_≡_}
+use mathlib.Core.Bool.{Bool, true}
+use mathlib.Core.List.{List}
+use lib.Dec.{eqb}
+use Rattle.lists.specs.Lists.{_!_}
+use Rattle.lists.specs.Tests.{both, either, only}
+use Rattle.lists.specs.Sums.{total}
+use Rattle.narrowing.specs.Windows.{Win, Side, early, late}
+use Rattle.timetable.specs.Time.{Jobs, runs}
+
+-- the moved job, on side 0, starts no earlier than t - p + 1; on side 1, no later than t
+abbrev pub OwnFact : List ℕ → List ℕ → ℕ → Side → ℕ → Type 0
+OwnFact p s j early t = t < s ! j + p ! j
+OwnFact p s j late t = s ! j ≤ t
+
+-- the stated facts of the starts s: each member of M started no earlier than t - p + 1 and no later than t, and the moved job's own
+pub record Stated (n : ℕ) (p s : List ℕ) (M : ℕ → Bool) (j : ℕ) (side : Side) (t : ℕ) : Type 0 where
+  pub members : (k : ℕ) → k < n → M k ≡ true → (t < s ! k + p ! k) × (s ! k ≤ t)
+  pub own : OwnFact p s j side t
+
+-- the demands of the named jobs, members and moved job, that run at t
+unfoldable pub namedDrawn : Jobs → List ℕ → (ℕ → Bool) → ℕ → ℕ → ℕ
+unfolding total runs
+namedDrawn J s M j t = total (λ k. only (both (either (M k) (eqb k j)) (runs (J .p) s k t)) (J .r ! k)) (J .n)
+
+-- the change: on side 0 the moved job starts no earlier than t + 1, on side 1 it ends by t
+abbrev pub Changed : List ℕ → List ℕ → ℕ → Side → ℕ → Type 0
+Changed p s j early t = suc t ≤ s ! j
+Changed p s j late t = s ! j + p ! j ≤ t
+
+-- from these facts and the capacity at t alone follows the change, for any whole starts
+abbrev pub Implied : Jobs → (ℕ → Bool) → ℕ → Side → ℕ → Type 0
+Implied J M j side t = (s : List ℕ) → Stated (J .n) (J .p) s M j side t → namedDrawn J s M j t ≤ J .cap → Changed (J .p) s j side t
+
+-- starts within the windows W
+pub record Within (n : ℕ) (p : List ℕ) (W : Win) (s : List ℕ) : Type 0 where
+  pub from : (k : ℕ) → k < n → W .e ! k ≤ s ! k
+  pub to : (k : ℕ) → k < n → s ! k + p ! k ≤ W .l ! k

@@ -1,0 +1,40 @@
+-- What the defined run looks for and writes (document 01, 'Order of work' and 'Log records'): side 0 at the greatest crowded time, side 1 at
+-- the least; and the record of a move.
+use Prim.Native.Nat.{ℕ, _+_, _-_}
+use mathlib.Core.Bool.{Bool, not}
+use mathlib.Core.List.{List}
+use mathlib.Core.Option.{Option}
+use lib.Dec.{ltb, leb, eqb}
+use Rattle.lists.specs.Lists.{_!_}
+use Rattle.lists.specs.Tests.{both}
+use Rattle.lists.specs.Searches.{greatest, least}
+use Rattle.narrowing.specs.Windows.{Win, Side, early, late, number}
+use Rattle.narrowing.specs.Run.{Search, Move}
+use Rattle.members.specs.Members.{setWords, setOf}
+use Rattle.journal.specs.Journal.{written}
+use Rattle.timetable.specs.Time.{Jobs, sure, load, bound}
+
+-- the test of `Crowded`
+unfoldable pub crowded : Jobs → Win → ℕ → ℕ → Bool
+unfolding load
+crowded J W j t = both (leb 1 (J .p ! j)) (both (leb 1 (J .r ! j)) (ltb (J .cap) (load J W j t + J .r ! j)))
+
+-- side 0: the greatest crowded t with e ≤ t < e + p; side 1: the least with l - p ≤ t < l
+unfoldable pub best : Jobs → Win → ℕ → Side → Option ℕ
+unfolding crowded greatest least
+best J W j early = greatest (crowded J W j) (W .e ! j) (J .p ! j)
+best J W j late = least (crowded J W j) (W .l ! j - J .p ! j) (J .p ! j)
+
+unfoldable pub search : Jobs → Search
+unfolding best
+search J = record { n = J .n; p = J .p; best = best J; bound = bound }
+
+-- the writer's members: all other jobs with r ≥ 1 whose sure part holds t
+unfoldable pub member : Jobs → Win → ℕ → ℕ → ℕ → Bool
+unfolding sure
+member J W j t k = both (ltb k (J .n)) (both (not (eqb k j)) (both (leb 1 (J .r ! k)) (sure (J .p) W k t)))
+
+-- the record of a move: its job, side, time and members
+unfoldable pub entry : Jobs → Move → List ℕ
+unfolding setOf member
+entry J m = written (m .job) (number (m .side)) (m .choice) (setOf setWords (member J (m .before) (m .job) (m .choice)))

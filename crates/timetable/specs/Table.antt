@@ -1,0 +1,62 @@
+-- Document 01's answer table as one definition: what narrowing says, and what it leaves in every lent word.
+use Prim.Native.Nat.{ℕ, zero, suc}
+use mathlib.Core.List.{List, [], _∷_, map}
+use lib.ListN.{length}
+use Rattle.narrowing.specs.Windows.{Win}
+use Rattle.narrowing.specs.Run.{Out, settled, clash, short, run}
+use Rattle.answers.specs.Said.{Word, Said, said}
+use Rattle.joblist.specs.Limits.{Column, jobs, fourLists, supply}
+use Rattle.joblist.specs.GoodList.{GoodList, refusal}
+use Rattle.journal.specs.Journal.{roomOf, logged, cleared}
+use Rattle.timetable.specs.Time.{Jobs}
+use Rattle.timetable.specs.Search.{search, entry}
+
+-- a call of narrowing, or of the checker: the submitted windows, durations, demands, the capacity and the log
+pub record Call : Type 0 where
+  pub win : Win
+  pub p : List ℕ
+  pub r : List ℕ
+  pub cap : ℕ
+  pub log : List ℕ
+
+abbrev pub call : Win → List ℕ → List ℕ → ℕ → List ℕ → Call
+call W p r cap log = record { win = W; p = p; r = r; cap = cap; log = log }
+
+-- its jobs
+abbrev pub jobsOf : Call → Jobs
+jobsOf c = record { n = jobs (c .win); p = c .p; r = c .r; cap = c .cap }
+
+-- it has a good list, in facts; and the number of its refusal by tests 1 to 4
+abbrev pub Good : Call → Type 0
+Good c = GoodList (c .win) (c .p) (fourLists (c .win) (c .p) (c .r)) (supply (c .cap))
+
+unfoldable pub refusalOf : Call → ℕ
+unfolding refusal
+refusalOf c = refusal (c .win) (c .p) (fourLists (c .win) (c .p) (c .r)) (supply (c .cap))
+
+-- what a call leaves: its answer, the windows and the log
+pub record After : Type 0 where
+  pub says : Said
+  pub win : Win
+  pub log : List ℕ
+
+abbrev pub leaves : Said → Win → List ℕ → After
+leaves a W log = record { says = a; win = W; log = log }
+
+-- the rows of a run's end
+unfoldable pub ended : Call → Out → After
+unfolding logged cleared entry
+ended c (settled U ms) = leaves (said Word.settled (length ms ∷ [])) U (logged (map (entry (jobsOf c)) ms) (c .log))
+ended c (clash j ms) = leaves (said Word.clash (length ms ∷ j ∷ [])) (c .win) (logged (map (entry (jobsOf c)) ms) (c .log))
+ended c short = leaves (said Word.refused (5 ∷ [])) (c .win) (cleared (c .log))
+
+-- the rows of refusals 1 to 4, else the run's
+unfoldable pub tabled : Call → ℕ → After
+unfolding ended run search roomOf
+tabled c zero = ended c (run (search (jobsOf c)) (roomOf (c .log)) (c .win))
+tabled c (suc k) = leaves (said Word.refused (suc k ∷ [])) (c .win) (c .log)
+
+-- what narrowing answers and leaves
+unfoldable pub narrowed : Call → After
+unfolding tabled refusalOf
+narrowed c = tabled c (refusalOf c)
