@@ -1,7 +1,7 @@
 -- Sums below a number, cut in two: the first terms, and the terms after them.
 use Prim.Native.Nat.{ℕ, zero, suc, _+_}
 use native.Mathlib.Omega.{arith}
-use mathlib.Core.Path.{_≡_, ap, sym}
+use mathlib.Core.Path.{_≡_}
 use Rattle.lists.specs.Sums.{total}
 
 -- the first m terms, and the n terms after them

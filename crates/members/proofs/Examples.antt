@@ -5,13 +5,13 @@ use mathlib.Core.Bool.{Bool, true, false}
 use mathlib.Core.List.{[], _∷_}
 use lib.Dec.{eqb}
 use Rattle.lists.specs.Tests.{either}
-use Rattle.members.specs.Members.{setWords, has, onesOf, setOf, inserted}
+use Rattle.members.specs.Members.{has, onesOf, setOf, inserted}
 
 -- either of two numbers
 abbrev pub pair : ℕ → ℕ → ℕ → Bool
 pair a b k = either (eqb k a) (eqb k b)
 
-pub examples : (setOf setWords (pair 1 2) ≡ 6 ∷ 0 ∷ 0 ∷ 0 ∷ 0 ∷ 0 ∷ 0 ∷ 0 ∷ [])
+pub examples : (setOf 8 (pair 1 2) ≡ 6 ∷ 0 ∷ 0 ∷ 0 ∷ 0 ∷ 0 ∷ 0 ∷ 0 ∷ [])
     × (setOf 2 (pair 31 32) ≡ 2147483648 ∷ 1 ∷ [])
     × (has (0 ∷ 2 ∷ []) 33 ≡ true)
     × (has (0 ∷ 2 ∷ []) 65 ≡ false)

@@ -8,11 +8,11 @@ use native.Mathlib.Omega.{arith}
 use native.Mathlib.Decide.{decLt, ℕ-discrete}
 use native.Mathlib.Nat.{zero-div}
 use native.Mathlib.Numerals.{add-one}
-use borrow.Author.Tests.{eq-eqb, ne-eqb}
+use borrow.Author.Tests.{eq-eqb}
 use lib.Bits.{bitAnd, bitOr, or-lt}
 use lib.Count.{onesIn, ones}
 use lib.Dec.{eqb}
-use lib.ListN.{length, set, drop, length-set, drop-of-length-le, List·getD-eq-default}
+use lib.ListN.{length, drop, length-set, drop-of-length-le, List·getD-eq-default}
 use lib.Pow.{pow-lt, pow-pos}
 use lib.Seq.{drop-cons, getD-set-same, getD-set-other, set-out}
 use Rattle.lists.specs.Lists.{_!_}
@@ -41,6 +41,14 @@ test-only (suc (suc b)) h = absurd (omega arith)
 pub has-past : (ws : List ℕ) (k : ℕ) → 32 * length ws ≤ k → has ws k ≡ false
 unfolding has
 has-past ws k h = rw (List·getD-eq-default ws 0 {n = k / 32} (omega arith), zero-div)
+
+-- a member lies within the words
+pub has-within : (ws : List ℕ) (k : ℕ) → has ws k ≡ true → k < 32 * length ws
+has-within ws k h =
+    elim (decLt k (32 * length ws)) [
+      | yes b ↦ b
+      | no b ↦ let z : _≡_ {A = ℕ} 0 1 = cc (has-past ws k (omega arith)) in omega arith
+    ]
 
 -- a member is tested by the mask of its bit
 pub has-mask : (ws : List ℕ) (k : ℕ) → not (eqb (bitAnd (ws ! (k / 32)) (2 ^ (k % 32))) 0) ≡ has ws k
@@ -136,17 +144,19 @@ ones-cons x ws = refl
 pub ones-members : (ws : List ℕ) → onesOf ws ≡ total (λ k. only (has ws k) 1) (32 * length ws)
 ones-members [] = ones-none ∙ sym (total-zero (λ k. only (has [] k) 1))
 ones-members (x ∷ ws) =
-    let e : 32 * suc (length ws) ≡ 32 + 32 * length ws = omega arith in
-    rw e (
+    let n = 32 * length ws in
+    let in-all : ℕ → ℕ = λ k. only (has (x ∷ ws) k) 1 in
+    let in-rest : ℕ → ℕ = λ k. only (has ws k) 1 in
+    let e : 32 * suc (length ws) ≡ 32 + n = omega arith in
     omega (
       arith,
+      ap (total in-all) e,
+      total-join in-all 32 n,
       ones-cons x ws,
-      total-join (λ k. only (has (x ∷ ws) k) 1) 32 (32 * length ws),
       ones-bits 32 x,
-      total-cong (λ i. bitOf x i) (λ i. only (has (x ∷ ws) i) 1) 32 (λ i b. has-first x ws i b),
+      total-cong (bitOf x) in-all 32 (has-first x ws),
       ones-members ws,
-      total-cong (λ k. only (has (x ∷ ws) (32 + k)) 1) (λ k. only (has ws k) 1) (32 * length ws) (λ k b. ap (λ (t : Bool). only t 1) (has-later x ws k)),
-    )
+      total-cong (λ k. in-all (32 + k)) in-rest n (λ k b. ap (λ (t : Bool). only t 1) (has-later x ws k)),
     )
 
 pub ones-setOf : (w : ℕ) (f : ℕ → Bool) → onesOf (setOf w f) ≡ total (λ k. only (f k) 1) (32 * w)

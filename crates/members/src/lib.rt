@@ -1,7 +1,7 @@
 // Member sets (01, 'Log records'): member k is bit (k mod 32) of word (k div 32), bit 0 lowest, whatever the number of words.
 // A number beyond the words is no member, and putting it in changes nothing.
 ghost use mathlib.Core.Path.{_≡_};
-ghost use Prim.Native.Nat.{ℕ, _*_, _%_, _^_, _<_};
+ghost use Prim.Native.Nat.{_*_, _%_, _^_, _<_};
 ghost use lib.ListN.{length, replicate};
 ghost use Rattle.members.specs.Members.{setWords, has, onesOf, inserted};
 

@@ -24,6 +24,11 @@ abbrev pub number : Side → ℕ
 number early = 0
 number late = 1
 
+-- and the side of a number
+abbrev pub sideOf : ℕ → Side
+sideOf zero = early
+sideOf (suc s) = late
+
 -- each of the n windows is long enough for its job
 unfoldable pub Long : ℕ → List ℕ → Win → Type 0
 Long n p W = (k : ℕ) → k < n → W .e ! k + p ! k ≤ W .l ! k

@@ -1,0 +1,3 @@
+pub mod Codes
+pub mod Replay
+pub mod Promise

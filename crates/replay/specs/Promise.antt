@@ -1,0 +1,42 @@
+-- What the checker promises, of a call, the number of claimed records, and what it finds (the mission's demand 2).
+use Prim.Native.Nat.{ℕ, zero, suc, _<_}
+use mathlib.Core.Path.{_≡_}
+use mathlib.Core.List.{List}
+use Rattle.lists.specs.Lists.{_!_}
+use Rattle.narrowing.specs.Windows.{Win}
+use Rattle.answers.specs.Said.{Word, Said}
+use Rattle.journal.specs.Journal.{recordAt}
+use Rattle.timetable.specs.Table.{Call, jobsOf}
+use Rattle.timetable.specs.Promise.{Scheduled}
+use Rattle.timetable.specs.Reason.{Stated, Implied, Within}
+use Rattle.replay.specs.Codes.{jobOf, side, timeOf, isMember}
+use Rattle.replay.specs.Replay.{Checked, checked, reached}
+
+-- the number of records that an answer takes: all where it holds or clashes, those before the bad one where it is rejected
+abbrev pub takenBy : Word → ℕ → ℕ
+takenBy Word.holds k = k
+takenBy Word.clash k = k
+takenBy Word.rejected k = k
+takenBy Word.settled k = 0
+takenBy Word.refused k = 0
+takenBy Word.none k = 0
+takenBy Word.overload k = 0
+
+abbrev pub taken : Said → ℕ
+taken a = takenBy (a .word) (a .numbers ! 0)
+
+-- record i implies its own change from the facts that it names, for any whole starts; and the facts hold of all starts in the windows reached
+pub record Reasoned (c : Call) (i : ℕ) : Type 0 where
+  pub implies : Implied (jobsOf c) (isMember (recordAt (c .log) i)) (jobOf (recordAt (c .log) i)) (side (recordAt (c .log) i)) (timeOf (recordAt (c .log) i))
+  pub true-there : (s : List ℕ) → Within (jobsOf c .n) (c .p) (reached c i) s
+      → Stated (jobsOf c .n) (c .p) s (isMember (recordAt (c .log) i)) (jobOf (recordAt (c .log) i)) (side (recordAt (c .log) i)) (timeOf (recordAt (c .log) i))
+
+-- the contract of the checker
+pub record Checks (c : Call) (count : ℕ) (a : Checked) : Type 0 where
+  pub answered : a ≡ checked c count
+  -- for every record it takes, whoever wrote it
+  pub implied : (i : ℕ) → i < taken (a .says) → Reasoned c i
+  -- every schedule within the submitted windows lies within those left
+  pub kept : (s : List ℕ) → Scheduled c (c .win) s → Scheduled c (a .win) s
+  -- a clash means that there is none
+  pub none : a .says .word ≡ Word.clash → (s : List ℕ) → Scheduled c (c .win) s → ⊥

@@ -1,0 +1,85 @@
+-- The replay of a log from the submitted windows (document 01, 'Answer table', the checker): records in turn, to the first bad one.
+use Prim.Native.Nat.{ℕ, zero, suc, _+_, _≤_, _<_}
+use mathlib.Core.Bool.{Bool, true, false}
+use mathlib.Core.List.{List, [], _∷_}
+use lib.Dec.{ltb}
+use Rattle.lists.specs.Lists.{_!_}
+use Rattle.narrowing.specs.Windows.{Win, moved, closes}
+use Rattle.answers.specs.Said.{Word, Said, said}
+use Rattle.journal.specs.Journal.{roomOf, recordAt, records}
+use Rattle.timetable.specs.Time.{Jobs, bound}
+use Rattle.timetable.specs.Table.{Call, jobsOf, refusalOf}
+use Rattle.replay.specs.Codes.{jobOf, side, timeOf, code}
+
+-- the windows after a record: one bound of its job moves, to t + 1 on side 0 and to t on side 1
+unfoldable pub changed : Win → List ℕ → Win
+changed W x = moved W (jobOf x) (side x) (bound (side x) (timeOf x))
+
+-- what a replay comes to: the windows reached; the job whose window was closed; the place and code of the first bad record
+pub data Verdict : Type 0 where
+  holds : Win → Verdict
+  clashes : ℕ → Verdict
+  rejected : ℕ → ℕ → Verdict
+
+-- after a closing record there may be no other: code 20
+abbrev pub closing : ℕ → ℕ → List (List ℕ) → Verdict
+closing i j [] = clashes j
+closing i j (x ∷ xs) = rejected (suc i) 20
+
+abbrev pub orBad : ℕ → ℕ → Verdict → Verdict
+orBad i zero v = v
+orBad i (suc c) v = rejected i (suc c)
+
+abbrev pub orClosed : Bool → Verdict → Verdict → Verdict
+orClosed true a b = a
+orClosed false a b = b
+
+-- the records from place i on, on the windows reached so far
+unfoldable pub replay : Jobs → Win → ℕ → List (List ℕ) → Verdict
+unfolding code changed
+replay J W i [] = holds W
+replay J W i (x ∷ xs) =
+    let U = changed W x in
+    let rest = replay J U (suc i) xs in
+    let good = orClosed (closes (J .p) U (jobOf x)) (closing i (jobOf x) xs) rest in
+    orBad i (code J W x) good
+
+-- what the checker answers and leaves in the windows; the log is only read
+pub record Checked : Type 0 where
+  pub says : Said
+  pub win : Win
+
+abbrev pub finds : Said → Win → Checked
+finds a W = record { says = a; win = W }
+
+-- the rows of a verdict on so many records
+abbrev pub judged : Call → ℕ → Verdict → Checked
+judged c count (holds U) = finds (said Word.holds (count ∷ [])) U
+judged c count (clashes j) = finds (said Word.clash (count ∷ j ∷ [])) (c .win)
+judged c count (rejected i k) = finds (said Word.rejected (i ∷ k ∷ [])) (c .win)
+
+abbrev pub refuses : Call → ℕ → Checked
+refuses c k = finds (said Word.refused (k ∷ [])) (c .win)
+
+-- 6: the log is shorter than a record's words for each claimed record
+abbrev pub orSix : Bool → Checked → Checked → Checked
+orSix true six v = six
+orSix false six v = v
+
+unfoldable pub rows : Call → ℕ → ℕ → Checked
+unfolding roomOf records replay
+rows c count zero =
+    let v = judged c count (replay (jobsOf c) (c .win) 0 (records (c .log) 0 count)) in
+    orSix (ltb (roomOf (c .log)) count) (refuses c 6) v
+rows c count (suc k) = refuses c (suc k)
+
+-- the checker's answer on a call with so many claimed records
+unfoldable pub checked : Call → ℕ → Checked
+unfolding rows refusalOf
+checked c count = rows c count (refusalOf c)
+
+-- the windows reached by the first i records of the log
+unfoldable pub reached : Call → ℕ → Win
+unfolding changed recordAt
+reached c zero = c .win
+reached c (suc i) = changed (reached c i) (recordAt (c .log) i)
