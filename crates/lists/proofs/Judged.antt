@@ -1,12 +1,12 @@
 -- A test with the fact that it stands for and the fault that can be named where it fails.
 use Prim.Native.Nat.{ℕ, zero, suc, _≤_, _<_}
 use native.Mathlib.Omega.{arith}
-use mathlib.Core.Path.{_≡_, refl}
-use mathlib.Core.Bool.{Bool, true, false}
+use mathlib.Core.Path.{_≡_, refl, sym}
+use mathlib.Core.Bool.{Bool, true, false, not}
 use mathlib.Core.Logic.{_⊎_, inl, inr}
-use lib.Dec.{eqb, leb}
-use borrow.Author.Tests.{eqb-true, eqb-false, leb-true, leb-false}
-use Rattle.lists.specs.Tests.{both, every}
+use lib.Dec.{eqb, leb, ltb}
+use borrow.Author.Tests.{eqb-true, eqb-false, leb-true, leb-false, ltb-true, ltb-false}
+use Rattle.lists.specs.Tests.{both, every, where?}
 use Rattle.lists.proofs.Tests.{both-true, every-at}
 
 -- the test b passes where the fact holds and fails where the fault is there; they are never both there
@@ -80,3 +80,22 @@ judged-every A N f j m = record {
   failed = λ h. let x = every-failed f m h in (x .0, x .1, j (x .0) .failed (x .2));
   apart = λ a g. j (g .0) .apart (a (g .0) (g .1)) (g .2);
 }
+
+pub judged-ltb : (a b : ℕ) → Judged (a < b) (b ≤ a) (ltb a b)
+judged-ltb a b = record { passed = ltb-true a b; failed = ltb-false a b; apart = λ f g. omega arith }
+
+pub judged-not : {A N : Type 0} {b : Bool} → Judged A N b → Judged N A (not b)
+judged-not {A} {N} {b} j = record { passed = λ h. j .failed (off b h); failed = λ h. j .passed (on b h); apart = λ f g. j .apart g f }
+  where
+    off : (c : Bool) → not c ≡ true → c ≡ false
+    off true h = sym h
+    off false h = refl
+
+    on : (c : Bool) → not c ≡ false → c ≡ true
+    on true h = refl
+    on false h = sym h
+
+-- asked only where a passes
+pub judged-where : {A N : Type 0} (a : Bool) {b : Bool} → Judged A N b → Judged (a ≡ true → A) ((a ≡ true) × N) (where? a b)
+judged-where true j = record { passed = λ h e. j .passed h; failed = λ h. (refl, j .failed h); apart = λ f g. j .apart (f refl) (g .1) }
+judged-where false j = record { passed = λ h e. never (sym e); failed = λ h. never h; apart = λ f g. never (sym (g .0)) }

@@ -5,3 +5,4 @@ pub mod Searches
 pub mod Turns
 pub mod Stretches
 pub mod Judged
+pub mod Chains

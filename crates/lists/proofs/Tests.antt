@@ -54,3 +54,10 @@ pub at-every : (f : ℕ → Bool) (m : ℕ) → ((k : ℕ) → k < m → f k ≡
 unfolding every
 at-every f zero h = refl
 at-every f (suc m) h = true-both (f m) (every f m) (h m (omega arith)) (at-every f m (λ k b. h k (omega arith)))
+
+pub either-left : (a b : Bool) → a ≡ true → either a b ≡ true
+either-left a b h = rw h
+
+pub either-right : (a b : Bool) → b ≡ true → either a b ≡ true
+either-right true b h = refl
+either-right false b h = h

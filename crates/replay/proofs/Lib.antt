@@ -1,0 +1,4 @@
+pub mod Codes
+pub mod Fates
+pub mod Sound
+pub mod Meaning

@@ -3,6 +3,7 @@ use Prim.Native.Nat.{ℕ, _+_, _*_, _≤_, _<_}
 use mathlib.Core.Path.{_≡_}
 use mathlib.Core.Bool.{Bool, true, not}
 use mathlib.Core.List.{List}
+use mathlib.Core.Logic.{_⊎_}
 use lib.ListN.{length}
 use lib.Dec.{ltb, leb, eqb}
 use Rattle.lists.specs.Lists.{_!_}
@@ -83,6 +84,44 @@ pub record GoodRecord (J : Jobs) (W : Win) (x : List ℕ) : Type 0 where
   pub exceeds : Exceeds J x
   pub stated : StatedTrue J W x
   pub tightens : Tightens W (jobOf x) (side x) (timeOf x)
+
+-- ---- faults, each the contrary of its fact
+
+abbrev pub OutOfRange : Jobs → List ℕ → Type 0
+OutOfRange J x = (J .n ≤ jobOf x) ⊎ ((1 < x ! sideWord) ⊎ (mostTime < timeOf x))
+
+-- p = 0 or r = 0
+abbrev pub Idle : Jobs → ℕ → Type 0
+Idle J k = (J .p ! k ≡ 0) ⊎ (J .r ! k ≡ 0)
+
+-- the moved job or a member has p = 0 or r = 0, or a member is not in the list or is the moved job
+abbrev pub BadPartner : Jobs → List ℕ → Type 0
+BadPartner J x = Idle J (jobOf x) ⊎ ((k : ℕ) × (isMember x k ≡ true) × ((J .n ≤ k) ⊎ (Idle J k ⊎ (k ≡ jobOf x))))
+
+abbrev pub OwnFalse : List ℕ → Win → ℕ → Side → ℕ → Type 0
+OwnFalse p W j early t = W .e ! j + p ! j ≤ t
+OwnFalse p W j late t = t + p ! j < W .l ! j
+
+-- a stated fact is not true: the moved job's, or a member could start later than t, or earlier than t - p + 1
+abbrev pub Untrue : Jobs → Win → List ℕ → Type 0
+Untrue J W x =
+    OwnFalse (J .p) W (jobOf x) (side x) (timeOf x)
+    ⊎ ((k : ℕ) × (isMember x k ≡ true) × ((timeOf x + J .p ! k < W .l ! k) ⊎ (W .e ! k + J .p ! k ≤ timeOf x)))
+
+-- the change tightens nothing
+abbrev pub Idles : Win → ℕ → Side → ℕ → Type 0
+Idles W j early t = t < W .e ! j
+Idles W j late t = W .l ! j ≤ t
+
+-- when code k is given: its fault is there and the facts of the codes before it hold; 0 stands for a good record
+abbrev pub Coded : Jobs → Win → List ℕ → ℕ → Type 0
+Coded J W x k =
+    (OutOfRange J x × (21 ≡ k)) ⊎ (InRange J x
+    × ((BadPartner J x × (22 ≡ k)) ⊎ (Partners J x
+    × (((Counted x → ⊥) × (23 ≡ k)) ⊎ (Counted x
+    × (((named J x + J .r ! jobOf x ≤ J .cap) × (24 ≡ k)) ⊎ (Exceeds J x
+    × ((Untrue J W x × (25 ≡ k)) ⊎ (StatedTrue J W x
+    × ((Idles W (jobOf x) (side x) (timeOf x) × (26 ≡ k)) ⊎ (Tightens W (jobOf x) (side x) (timeOf x) × (0 ≡ k))))))))))))
 
 -- ---- tests
 

@@ -1,3 +1,4 @@
 pub mod Codes
 pub mod Replay
+pub mod Fate
 pub mod Promise

@@ -5,12 +5,12 @@ use mathlib.Core.List.{List}
 use Rattle.lists.specs.Lists.{_!_}
 use Rattle.narrowing.specs.Windows.{Win}
 use Rattle.answers.specs.Said.{Word, Said}
-use Rattle.journal.specs.Journal.{recordAt}
 use Rattle.timetable.specs.Table.{Call, jobsOf}
 use Rattle.timetable.specs.Promise.{Scheduled}
 use Rattle.timetable.specs.Reason.{Stated, Implied, Within}
 use Rattle.replay.specs.Codes.{jobOf, side, timeOf, isMember}
-use Rattle.replay.specs.Replay.{Checked, checked, reached}
+use Rattle.replay.specs.Replay.{Checked, checked}
+use Rattle.replay.specs.Fate.{nth, reached}
 
 -- the number of records that an answer takes: all where it holds or clashes, those before the bad one where it is rejected
 abbrev pub takenBy : Word → ℕ → ℕ
@@ -27,9 +27,9 @@ taken a = takenBy (a .word) (a .numbers ! 0)
 
 -- record i implies its own change from the facts that it names, for any whole starts; and the facts hold of all starts in the windows reached
 pub record Reasoned (c : Call) (i : ℕ) : Type 0 where
-  pub implies : Implied (jobsOf c) (isMember (recordAt (c .log) i)) (jobOf (recordAt (c .log) i)) (side (recordAt (c .log) i)) (timeOf (recordAt (c .log) i))
+  pub implies : Implied (jobsOf c) (isMember (nth c i)) (jobOf (nth c i)) (side (nth c i)) (timeOf (nth c i))
   pub true-there : (s : List ℕ) → Within (jobsOf c .n) (c .p) (reached c i) s
-      → Stated (jobsOf c .n) (c .p) s (isMember (recordAt (c .log) i)) (jobOf (recordAt (c .log) i)) (side (recordAt (c .log) i)) (timeOf (recordAt (c .log) i))
+      → Stated (jobsOf c .n) (c .p) s (isMember (nth c i)) (jobOf (nth c i)) (side (nth c i)) (timeOf (nth c i))
 
 -- the contract of the checker
 pub record Checks (c : Call) (count : ℕ) (a : Checked) : Type 0 where

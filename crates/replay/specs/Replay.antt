@@ -77,9 +77,3 @@ rows c count (suc k) = refuses c (suc k)
 unfoldable pub checked : Call → ℕ → Checked
 unfolding rows refusalOf
 checked c count = rows c count (refusalOf c)
-
--- the windows reached by the first i records of the log
-unfoldable pub reached : Call → ℕ → Win
-unfolding changed recordAt
-reached c zero = c .win
-reached c (suc i) = changed (reached c i) (recordAt (c .log) i)

@@ -1,0 +1,130 @@
+-- The replay comes to a verdict exactly where the facts of that verdict hold of the log's records.
+use Prim.Native.Nat.{ℕ, zero, suc, _+_, _-_, _≤_, _<_}
+use native.Mathlib.Omega.{arith}
+use native.Mathlib.Decide.{ℕ-discrete}
+use mathlib.Core.Path.{_≡_, refl, sym, ap, subst, _∙_}
+use mathlib.Core.Bool.{Bool, true, false}
+use mathlib.Core.List.{List, [], _∷_}
+use mathlib.Core.Logic.{_⊎_, inl, inr, _↔_}
+use borrow.Author.Tests.{ltb-true, ltb-false, lt-ltb, le-ltb}
+use Rattle.lists.specs.Lists.{_!_}
+use Rattle.narrowing.specs.Windows.{Win, closes}
+use Rattle.journal.specs.Journal.{records}
+use Rattle.timetable.specs.Time.{Jobs}
+use Rattle.timetable.specs.Table.{Call, jobsOf}
+use Rattle.replay.specs.Codes.{jobOf, code, Coded, GoodRecord}
+use Rattle.replay.specs.Replay.{changed, Verdict, holds, clashes, rejected, closing, orBad, orClosed, replay}
+use Rattle.replay.specs.Fate.{nth, reached, Takes, Held, Closed, Open, Closing, Fate}
+use Rattle.replay.proofs.Codes.{code-exactly, good-record, record-good}
+
+module _ (c : Call) where
+  abbrev J : Jobs
+  J = jobsOf c
+
+  -- the replay from place i, with m records left
+  unfoldable from : ℕ → ℕ → Verdict
+  unfolding replay records
+  from i m = replay J (reached c i) i (records (c .log) i m)
+
+  open-more : (i : ℕ) → Open c i → Takes c i → Held c i → Open c (suc i)
+  open-more i o t q h b = elim (ℕ-discrete h i) [ yes e ↦ rw e (t, q) | no e ↦ o h (omega arith) ]
+
+  -- ---- one record
+
+  at-none : (i : ℕ) → from i 0 ≡ holds (reached c i)
+  unfolding from replay records
+  at-none i = refl
+
+  at-bad : (i m k : ℕ) → code J (reached c i) (nth c i) ≡ suc k → from i (suc m) ≡ rejected i (suc k)
+  unfolding from replay records
+  at-bad i m k e = rw e
+
+  at-held : (i m : ℕ) → Takes c i → Held c i → from i (suc m) ≡ from (suc i) m
+  unfolding from replay records reached
+  at-held i m t q =
+      rw (record-good J (reached c i) (nth c i) t, le-ltb (changed (reached c i) (nth c i) .l ! jobOf (nth c i)) (changed (reached c i) (nth c i) .e ! jobOf (nth c i) + c .p ! jobOf (nth c i)) q)
+
+  at-closed : (i m : ℕ) → Takes c i → Closed c i → from i (suc m) ≡ closing i (jobOf (nth c i)) (records (c .log) (suc i) m)
+  unfolding from replay reached
+  at-closed i m t q =
+      rw (
+        record-good J (reached c i) (nth c i) t,
+        lt-ltb (changed (reached c i) (nth c i) .l ! jobOf (nth c i)) (changed (reached c i) (nth c i) .e ! jobOf (nth c i) + c .p ! jobOf (nth c i)) q,
+      )
+
+  closing-one : (i j : ℕ) → closing i j (records (c .log) (suc i) 0) ≡ clashes j
+  unfolding records
+  closing-one i j = refl
+
+  closing-more : (i j m : ℕ) → closing i j (records (c .log) (suc i) (suc m)) ≡ rejected (suc i) 20
+  unfolding records
+  closing-more i j m = refl
+
+  -- ---- the facts give the verdict
+
+  open-from : (i m : ℕ) → Open c i → from 0 (i + m) ≡ from i m
+  open-from zero m o = let e : 0 + m ≡ m = omega arith in ap (from 0) e
+  open-from (suc i) m o =
+      let e : suc i + m ≡ i + suc m = omega arith in
+      ap (from 0) e ∙ open-from i (suc m) (λ h b. o h (omega arith)) ∙ at-held i m (o i (omega arith) .0) (o i (omega arith) .1)
+
+  closing-from : (h m : ℕ) → Closing c h → from 0 (h + suc m) ≡ closing h (jobOf (nth c h)) (records (c .log) (suc h) m)
+  closing-from h m x = open-from h (suc m) (x .before) ∙ at-closed h m (x .takes) (x .closed)
+
+  from-at : (a b : ℕ) → a ≡ b → from 0 a ≡ from 0 b
+  from-at a b e = ap (from 0) e
+
+  fate-verdict : (count : ℕ) (v : Verdict) → Fate c count v → from 0 count ≡ v
+  fate-verdict count (holds U) f =
+      from-at count (count + 0) (omega arith) ∙ open-from count 0 (f .1) ∙ at-none count ∙ ap holds (sym (f .0))
+  fate-verdict count (clashes j) (h, e, x, q) =
+      from-at count (h + 1) (omega arith) ∙ closing-from h 0 x ∙ closing-one h (jobOf (nth c h)) ∙ ap clashes (sym q)
+  fate-verdict count (rejected i k) (b, inl (h, e, x, q)) =
+      from-at count (h + suc (suc (count - suc (suc h)))) (omega arith)
+      ∙ closing-from h (suc (count - suc (suc h))) x
+      ∙ closing-more h (jobOf (nth c h)) (count - suc (suc h))
+      ∙ rw (e, q)
+  fate-verdict count (rejected i zero) (b, inr (o, d, n)) = absurd (n refl)
+  fate-verdict count (rejected i (suc k)) (b, inr (o, d, n)) =
+      from-at count (i + suc (count - suc i)) (omega arith)
+      ∙ open-from i (suc (count - suc i)) o
+      ∙ at-bad i (count - suc i) k (code-exactly J (reached c i) (nth c i) (suc k) .1 d)
+
+  -- ---- and the verdict has its facts
+
+  fate-at : (a b : ℕ) → a ≡ b → (v : Verdict) → Fate c a v → Fate c b v
+  fate-at a b e v f = subst (λ (n : ℕ). Fate c n v) e f
+
+  fate-from : (m i : ℕ) → Open c i → Fate c (i + m) (from i m)
+  fate-from zero i o =
+      let e : i ≡ i + 0 = omega arith in
+      fate-at i (i + 0) e (from i 0) (rw (at-none i) (refl, o))
+  fate-from (suc m) i o = go (code J (reached c i) (nth c i)) refl (λ q. fate-from m (suc i) q)
+    where
+      last : (n : ℕ) → n ≡ m → Closing c i → Fate c (i + suc n) (closing i (jobOf (nth c i)) (records (c .log) (suc i) n))
+      last zero e x = rw (closing-one i (jobOf (nth c i))) (i, omega arith, x, refl)
+      last (suc n) e x = rw (closing-more i (jobOf (nth c i)) n) (omega arith, inl (i, refl, x, refl))
+
+      by-window : (b : Bool) → closes (c .p) (reached c (suc i)) (jobOf (nth c i)) ≡ b → Takes c i → (Open c (suc i) → Fate c (suc i + m) (from (suc i) m))
+          → Fate c (i + suc m) (from i (suc m))
+      by-window true e t f =
+          let q : Closed c i = ltb-true (reached c (suc i) .l ! jobOf (nth c i)) _ e in
+          rw (at-closed i m t q) (last m refl (record { before = o; takes = t; closed = q }))
+      by-window false e t f =
+          let q : Held c i = ltb-false (reached c (suc i) .l ! jobOf (nth c i)) _ e in
+          let d : suc i + m ≡ i + suc m = omega arith in
+          rw (at-held i m t q) (fate-at (suc i + m) (i + suc m) d (from (suc i) m) (f (open-more i o t q)))
+
+      go : (k : ℕ) → code J (reached c i) (nth c i) ≡ k → (Open c (suc i) → Fate c (suc i + m) (from (suc i) m)) → Fate c (i + suc m) (from i (suc m))
+      go zero e f = by-window (closes (c .p) (reached c (suc i)) (jobOf (nth c i))) refl (good-record J (reached c i) (nth c i) e) f
+      go (suc k) e f =
+          rw (at-bad i m k e)
+          (omega arith, inr (o, code-exactly J (reached c i) (nth c i) (suc k) .0 e, λ z. omega arith))
+
+  -- the verdict on the first so many records
+  pub fate-exactly : (count : ℕ) (v : Verdict) → (replay (jobsOf c) (c .win) 0 (records (c .log) 0 count) ≡ v) ↔ Fate c count v
+  unfolding from reached
+  fate-exactly count v = (
+    λ e. subst (Fate c count) e (let z : 0 + count ≡ count = omega arith in fate-at (0 + count) count z (from 0 count) (fate-from count 0 (λ h b. absurd (omega arith)))),
+    λ f. fate-verdict count v f,
+  )

@@ -1,0 +1,109 @@
+-- A good record is a rule's move, implies its own change from the facts that it names, and these hold of all starts in the windows reached.
+use Prim.Native.Nat.{ℕ, zero, suc, _+_, _≤_, _<_}
+use native.Mathlib.Omega.{arith}
+use native.Mathlib.Decide.{ℕ-discrete, decLt, decLe}
+use mathlib.Core.Path.{_≡_, refl, sym, ap}
+use mathlib.Core.Bool.{Bool, true, false, not}
+use mathlib.Core.List.{List}
+use lib.Dec.{eqb}
+use borrow.Author.Tests.{eq-eqb, ne-eqb}
+use Rattle.lists.specs.Lists.{_!_}
+use Rattle.lists.specs.Tests.{both, either, only}
+use Rattle.lists.specs.Sums.{total}
+use Rattle.lists.proofs.Tests.{only-le, true-both, either-left, either-right}
+use Rattle.lists.proofs.Sums.{total-le, total-others}
+use Rattle.narrowing.specs.Windows.{Win, Side, early, late, moved}
+use Rattle.narrowing.specs.Rules.{Step}
+use Rattle.narrowing.proofs.Steps.{step-refl, step-trans, step-move}
+use Rattle.timetable.specs.Time.{Jobs, Runs, runs, Sure, sure, load, Crowded, Early, Late, Applies, bound}
+use Rattle.timetable.specs.Reason.{OwnFact, Stated, namedDrawn, Changed, Implied, Within}
+use Rattle.timetable.specs.Table.{Call, jobsOf}
+use Rattle.timetable.proofs.Facts.{yes-sure, yes-runs}
+use Rattle.timetable.proofs.Law.{lawful}
+use Rattle.replay.specs.Codes.{jobOf, side, timeOf, isMember, named, OwnTrue, Tightens, GoodRecord}
+use Rattle.replay.specs.Replay.{changed}
+use Rattle.replay.specs.Fate.{reached, Takes, Open}
+
+module _ (J : Jobs) (W : Win) (x : List ℕ) (g : GoodRecord J W x) where
+  -- ---- a rule's move
+
+  member-counts : (k : ℕ) → isMember x k ≡ true → both (not (eqb k (jobOf x))) (sure (J .p) W k (timeOf x)) ≡ true
+  member-counts k h =
+      true-both (not (eqb k (jobOf x))) (sure (J .p) W k (timeOf x))
+      (rw (ne-eqb k (jobOf x) (g .partners .members k h .1)))
+      (yes-sure (J .p) W k (timeOf x) (g .stated .members k h))
+
+  named-load : named J x ≤ load J W (jobOf x) (timeOf x)
+  unfolding named load
+  named-load =
+      total-le (λ k. only (isMember x k) (J .r ! k)) (λ k. only (both (not (eqb k (jobOf x))) (sure (J .p) W k (timeOf x))) (J .r ! k)) (J .n)
+      (λ k b. only-le (isMember x k) (both (not (eqb k (jobOf x))) (sure (J .p) W k (timeOf x))) (J .r ! k) (member-counts k))
+
+  crowded-there : Crowded J W (jobOf x) (timeOf x)
+  crowded-there = record { lasts = g .partners .lasts; takes = g .partners .takes; over = omega (arith, g .exceeds, named-load) }
+
+  by-side : (s : Side) → OwnTrue (J .p) W (jobOf x) s (timeOf x) → Tightens W (jobOf x) s (timeOf x) → Applies J W (jobOf x) s (bound s (timeOf x))
+  by-side early a b = record { from = b; to = a; crowded = crowded-there }
+  by-side late a b = record { from = a; to = b; crowded = crowded-there }
+
+  pub record-applies : Applies J W (jobOf x) (side x) (bound (side x) (timeOf x))
+  record-applies = by-side (side x) (g .stated .own) (g .tightens)
+
+  pub record-step : Step (J .n) (J .p) (Applies J) W (changed W x)
+  unfolding changed
+  record-step = step-move (J .n) (J .p) (Applies J) (lawful J) W (jobOf x) (side x) (bound (side x) (timeOf x)) (g .in-range .job) record-applies
+
+  -- ---- what the record says follows from its facts alone
+
+  module _ (s : List ℕ) (members : (k : ℕ) → k < J .n → isMember x k ≡ true → (timeOf x < s ! k + J .p ! k) × (s ! k ≤ timeOf x)) where
+    abbrev counts : ℕ → Bool
+    counts k = both (either (isMember x k) (eqb k (jobOf x))) (runs (J .p) s k (timeOf x))
+
+    -- the members and the moved job, all running, draw more than the capacity
+    over-named : runs (J .p) s (jobOf x) (timeOf x) ≡ true → J .cap < namedDrawn J s (isMember x) (jobOf x) (timeOf x)
+    unfolding namedDrawn named
+    over-named h =
+        let a = total-others counts (λ k. J .r ! k) (jobOf x) (J .n) (g .in-range .job) in
+        let own : counts (jobOf x) ≡ true = true-both _ _ (either-right (isMember x (jobOf x)) _ (eq-eqb (jobOf x) (jobOf x) refl)) h in
+        let e : only (counts (jobOf x)) (J .r ! jobOf x) ≡ J .r ! jobOf x = rw own in
+        let b =
+        total-le (λ k. only (isMember x k) (J .r ! k)) (λ k. only (both (not (eqb k (jobOf x))) (counts k)) (J .r ! k)) (J .n)
+        (λ k c.
+        only-le (isMember x k) (both (not (eqb k (jobOf x))) (counts k)) (J .r ! k)
+        (λ q.
+        true-both (not (eqb k (jobOf x))) (counts k) (rw (ne-eqb k (jobOf x) (g .partners .members k q .1)))
+        (true-both _ _ (either-left (isMember x k) _ q) (let m = members k c q in yes-runs (J .p) s k (timeOf x) (record { from = m .1; to = m .0 }))))) in
+        omega (arith, a, e, b, g .exceeds)
+
+  pub implies : Implied J (isMember x) (jobOf x) (side x) (timeOf x)
+  implies s f d = by (side x) (f .own)
+    where
+      runs-not : Runs (J .p) s (jobOf x) (timeOf x) → ⊥
+      runs-not q = omega (arith, over-named s (f .members) (yes-runs (J .p) s (jobOf x) (timeOf x) q))
+
+      by : (v : Side) → OwnFact (J .p) s (jobOf x) v (timeOf x) → Changed (J .p) s (jobOf x) v (timeOf x)
+      by early o = elim (decLt (timeOf x) (s ! jobOf x)) [ yes b ↦ b | no b ↦ absurd (runs-not (record { from = omega arith; to = o })) ]
+      by late o = elim (decLe (s ! jobOf x + J .p ! jobOf x) (timeOf x)) [ yes b ↦ b | no b ↦ absurd (runs-not (record { from = o; to = omega arith })) ]
+
+  -- ---- and the facts hold of all starts within the windows
+
+  pub true-there : (s : List ℕ) → Within (J .n) (J .p) W s → Stated (J .n) (J .p) s (isMember x) (jobOf x) (side x) (timeOf x)
+  true-there s w =
+      record {
+        members = λ k b h. let q = g .stated .members k h in (omega (arith, q .to, w .from k b), omega (arith, q .from, w .to k b));
+        own = by (side x) (g .stated .own);
+      }
+    where
+      by : (v : Side) → OwnTrue (J .p) W (jobOf x) v (timeOf x) → OwnFact (J .p) s (jobOf x) v (timeOf x)
+      by early o = omega (arith, w .from (jobOf x) (g .in-range .job))
+      by late o = omega (arith, w .to (jobOf x) (g .in-range .job))
+
+-- ---- the records one after the other
+
+module _ (c : Call) where
+  pub reached-step : (i : ℕ) → ((h : ℕ) → h < i → Takes c h) → Step (jobsOf c .n) (c .p) (Applies (jobsOf c)) (c .win) (reached c i)
+  unfolding reached
+  reached-step zero t = step-refl (jobsOf c .n) (c .p) (Applies (jobsOf c)) (c .win)
+  reached-step (suc i) t =
+      step-trans (jobsOf c .n) (c .p) (Applies (jobsOf c)) (c .win) (reached c i) _ (reached-step i (λ h b. t h (omega arith)))
+      (record-step (jobsOf c) (reached c i) _ (t i (omega arith)))

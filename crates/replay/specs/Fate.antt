@@ -1,0 +1,50 @@
+-- What a replay comes to, in facts: which records are good on the windows reached, which one closes a window, which one is bad.
+use Prim.Native.Nat.{ℕ, zero, suc, _+_, _≤_, _<_}
+use mathlib.Core.Path.{_≡_}
+use mathlib.Core.List.{List}
+use mathlib.Core.Logic.{_⊎_}
+use Rattle.lists.specs.Lists.{_!_}
+use Rattle.narrowing.specs.Windows.{Win}
+use Rattle.journal.specs.Journal.{recordAt}
+use Rattle.timetable.specs.Table.{Call, jobsOf}
+use Rattle.replay.specs.Codes.{jobOf, GoodRecord, Coded}
+use Rattle.replay.specs.Replay.{changed, Verdict, holds, clashes, rejected}
+
+-- record i of the call's log
+abbrev pub nth : Call → ℕ → List ℕ
+nth c i = recordAt (c .log) i
+
+-- the windows reached by the first i records of the log
+unfoldable pub reached : Call → ℕ → Win
+unfolding changed recordAt
+reached c zero = c .win
+reached c (suc i) = changed (reached c i) (nth c i)
+
+-- record i is good on the windows reached so far
+abbrev pub Takes : Call → ℕ → Type 0
+Takes c i = GoodRecord (jobsOf c) (reached c i) (nth c i)
+
+-- its window still holds the job; or is closed
+abbrev pub Held : Call → ℕ → Type 0
+Held c i = reached c (suc i) .e ! jobOf (nth c i) + c .p ! jobOf (nth c i) ≤ reached c (suc i) .l ! jobOf (nth c i)
+
+abbrev pub Closed : Call → ℕ → Type 0
+Closed c i = reached c (suc i) .l ! jobOf (nth c i) < reached c (suc i) .e ! jobOf (nth c i) + c .p ! jobOf (nth c i)
+
+-- the first i records are good and close no window
+abbrev pub Open : Call → ℕ → Type 0
+Open c i = (h : ℕ) → h < i → Takes c h × Held c h
+
+-- record h is the first that closes a window
+pub record Closing (c : Call) (h : ℕ) : Type 0 where
+  pub before : Open c h
+  pub takes : Takes c h
+  pub closed : Closed c h
+
+-- the verdict on so many records
+abbrev pub Fate : Call → ℕ → Verdict → Type 0
+Fate c count (holds U) = (U ≡ reached c count) × Open c count
+Fate c count (clashes j) = (h : ℕ) × (count ≡ suc h) × Closing c h × (j ≡ jobOf (nth c h))
+Fate c count (rejected i k) =
+    (i < count)
+    × (((h : ℕ) × (i ≡ suc h) × Closing c h × (k ≡ 20)) ⊎ (Open c i × Coded (jobsOf c) (reached c i) (nth c i) k × (k ≡ 0 → ⊥)))
