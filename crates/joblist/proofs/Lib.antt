@@ -1,1 +1,4 @@
 pub mod Refusals
+pub mod Tests
+pub mod Copies
+pub mod Renumbered

@@ -1,2 +1,4 @@
 pub mod Limits
 pub mod GoodList
+pub mod Halves
+pub mod Renumbered

@@ -28,10 +28,6 @@ times xs = record { list = xs; most = mostTime }
 abbrev pub demands : List ℕ → Column
 demands xs = record { list = xs; most = mostDemand }
 
--- the windows that two lists give
-abbrev pub windows : List ℕ → List ℕ → Win
-windows est lct = record { e = est; l = lct }
-
 -- the number of jobs
 abbrev pub jobs : Win → ℕ
 jobs W = length (W .e)

@@ -1,1 +1,163 @@
-// No code yet.
+// Job lists (document 01, 'Job lists' and 'Answer table'): the limits, the tests 1 to 4 in the order of their numbers, and copies of windows.
+ghost use mathlib.Core.Path.{_≡_};
+ghost use Prim.Native.Nat.{ℕ, _≤_};
+ghost use mathlib.Core.Bool.{Bool, not};
+ghost use mathlib.Core.List.{List, [], _++_};
+ghost use lib.Dec.{leb};
+ghost use lib.ListN.{length, take, drop};
+ghost use Rattle.lists.specs.Lists.{Every};
+ghost use Rattle.lists.specs.Tests.{pick};
+ghost use Rattle.narrowing.specs.Windows.{win};
+ghost use Rattle.joblist.specs.Limits.{mostJobs, fourLists, threeLists, supply};
+ghost use Rattle.joblist.specs.GoodList.{Sized, Within, atMost, within, long, refusal};
+ghost use Rattle.joblist.specs.Halves.{sizesOf, spansOf};
+
+// The most jobs that a list may have.
+pub const MOST: usize = 256;
+
+// The greatest time and the longest duration.
+pub const TIME: u32 = 1_000_000;
+
+// The greatest demand and the greatest capacity.
+pub const DRAW: u32 = 10_000;
+
+fn larger(a: u32, b: u32) -> u32
+    ensures { λ r. ⌜ r ≡ pick (leb a b) b a ⌝ }
+{
+    if a <= b {
+        return b;
+    }
+    a
+}
+
+// Whether some number of the list is above `most`: its largest one is.
+fn above(list: &[u32], most: u32) -> bool
+    ensures { λ r. ⌜ r ≡ not (atMost most (now (list .entry))) ⌝ }
+{
+    let mut top: u32 = 0;
+    let mut i = 0;
+    while i < list.len() {
+        top = larger(top, list[i]);
+        i += 1;
+    }
+    most < top
+}
+
+// Tests 1 and 2 of the three lists that every call has: the number of the first that fails, and 0 where none does.
+fn sizes(est: &[u32], lct: &[u32], dur: &[u32]) -> u32
+    ensures { λ r. ⌜ r ≡ sizesOf (win (now (est .entry)) (now (lct .entry))) (now (dur .entry)) ⌝ }
+{
+    if lct.len() != est.len() {
+        return 1;
+    }
+    if dur.len() != est.len() {
+        return 1;
+    }
+    if MOST < est.len() {
+        return 2;
+    }
+    0
+}
+
+// Test 3 of them.
+fn too_late(est: &[u32], lct: &[u32], dur: &[u32]) -> bool
+    ensures { λ r. ⌜ r ≡ not (within (threeLists (win (now (est .entry)) (now (lct .entry))) (now (dur .entry)))) ⌝ }
+{
+    if above(est, TIME) {
+        return true;
+    }
+    if above(lct, TIME) {
+        return true;
+    }
+    above(dur, TIME)
+}
+
+// Test 4. It comes after test 3, so that no sum wraps.
+fn too_short(est: &[u32], lct: &[u32], dur: &[u32]) -> bool
+    requires { ⌜ Every (Sized (length (now est))) (threeLists (win (now est) (now lct)) (now dur)) × Every Within (threeLists (win (now est) (now lct)) (now dur)) ⌝ }
+    ensures { λ r. ⌜ r ≡ not (long (win (now (est .entry)) (now (lct .entry))) (now (dur .entry))) ⌝ }
+{
+    let mut i = 0;
+    while i < est.len() {
+        if lct[i] < est[i] + dur[i] {
+            return true;
+        }
+        i += 1;
+    }
+    false
+}
+
+// Tests 3 and 4 of the three lists.
+fn spans(est: &[u32], lct: &[u32], dur: &[u32]) -> u32
+    requires { ⌜ Every (Sized (length (now est))) (threeLists (win (now est) (now lct)) (now dur)) ⌝ }
+    ensures { λ r. ⌜ r ≡ spansOf (win (now (est .entry)) (now (lct .entry))) (now (dur .entry)) ⌝ }
+{
+    if too_late(est, lct, dur) {
+        return 3;
+    }
+    if too_short(est, lct, dur) {
+        return 4;
+    }
+    0
+}
+
+// The number of the first test that a list with demands and a capacity fails, and 0 where it is good.
+pub fn refusal(est: &[u32], lct: &[u32], dur: &[u32], dem: &[u32], cap: u32) -> u32
+    ensures { λ r. ⌜ r ≡ refusal (win (now (est .entry)) (now (lct .entry))) (now (dur .entry)) (fourLists (win (now (est .entry)) (now (lct .entry))) (now (dur .entry)) (now (dem .entry))) (supply cap) ⌝ }
+{
+    if dem.len() != est.len() {
+        return 1;
+    }
+    let size = sizes(est, lct, dur);
+    if size != 0 {
+        return size;
+    }
+    if above(dem, DRAW) {
+        return 3;
+    }
+    if DRAW < cap {
+        return 3;
+    }
+    spans(est, lct, dur)
+}
+
+// The same of a list with neither.
+pub fn refusal_of_three(est: &[u32], lct: &[u32], dur: &[u32]) -> u32
+    ensures { λ r. ⌜ r ≡ refusal (win (now (est .entry)) (now (lct .entry))) (now (dur .entry)) (threeLists (win (now (est .entry)) (now (lct .entry))) (now (dur .entry))) [] ⌝ }
+{
+    let size = sizes(est, lct, dur);
+    if size != 0 {
+        return size;
+    }
+    spans(est, lct, dur)
+}
+
+// Copies `from` over the front of `to`, as far as both go.
+pub fn copy(from: &[u32], to: &mut [u32])
+    ensures { λ _. ⌜ now (to .exit) ≡ take (length (now (to .entry))) (now (from .entry)) ++ drop (length (now (from .entry))) (now (to .entry)) ⌝ }
+{
+    let mut i = 0;
+    while i < from.len() {
+        if to.len() <= i {
+            return;
+        }
+        to[i] = from[i];
+        i += 1;
+    }
+}
+
+// A copy of a list in a local array.
+pub fn save(from: &[u32], to: &mut [u32; MOST])
+    requires { ⌜ (length (now from) ≤ mostJobs) × (length (now to) ≡ mostJobs) ⌝ }
+    ensures { λ _. ⌜ (now (to .exit) ≡ now (from .entry) ++ drop (length (now (from .entry))) (now (to .entry))) × (length (now (to .exit)) ≡ mostJobs) ⌝ }
+{
+    copy(from, to);
+}
+
+// A list from the front of such an array.
+pub fn restore(from: &[u32; MOST], to: &mut [u32])
+    requires { ⌜ (length (now to) ≤ mostJobs) × (length (now from) ≡ mostJobs) ⌝ }
+    ensures { λ _. ⌜ now (to .exit) ≡ take (length (now (to .entry))) (now (from .entry)) ⌝ }
+{
+    copy(from, to);
+}

@@ -9,3 +9,4 @@ pub mod Runs
 pub mod Room
 pub mod Walk
 pub mod Rounds
+pub mod Again

@@ -20,6 +20,12 @@ Good n p G W (settled U ms) = Largest n p G W U
 Good n p G W (clash j ms) = NoCandidate n p G W
 Good n p G W short = Unit {0}
 
+-- how many moves an end has, by the room and the slack of the windows W
+abbrev pub Bounded : Search → ℕ → Win → Out → Type 0
+Bounded R room W (settled U ms) = (length ms ≤ slack (R .p) W (R .n)) × (length ms ≤ room)
+Bounded R room W (clash j ms) = (length ms ≤ suc (slack (R .p) W (R .n))) × (length ms ≤ room)
+Bounded R room W short = room ≤ slack (R .p) W (R .n)
+
 module _ (R : Search) (G : Family) (search : Searches R G) where
   -- ---- induction over the work: what holds where it rests, short of room and at a closing move, and is kept by each other move, holds of its end
 
@@ -105,20 +111,15 @@ module _ (R : Search) (G : Family) (search : Searches R G) where
 
     -- ---- how many moves
 
-    abbrev pub Bounded : ℕ → Win → Out → Type 0
-    Bounded room W (settled U ms) = (length ms ≤ slack (R .p) W (R .n)) × (length ms ≤ room)
-    Bounded room W (clash j ms) = (length ms ≤ suc (slack (R .p) W (R .n))) × (length ms ≤ room)
-    Bounded room W short = room ≤ slack (R .p) W (R .n)
-
     push-bounded : (room : ℕ) (W U : Win) (m : Move) (o : Out) → suc (slack (R .p) U (R .n)) ≤ slack (R .p) W (R .n)
-        → Bounded room U o → Bounded (suc room) W (push m o)
+        → Bounded R room U o → Bounded R (suc room) W (push m o)
     push-bounded room W U m (settled X ms) d q = omega arith
     push-bounded room W U m (clash j ms) d q = omega arith
     push-bounded room W U m short d q = omega arith
 
-    work-bounded : (room : ℕ) (W : Win) (j : ℕ) (s : Side) → Long (R .n) (R .p) W → Place (R .n) j s → Whole (R .n) W → Bounded room W (work R room W j s)
+    work-bounded : (room : ℕ) (W : Win) (j : ℕ) (s : Side) → Long (R .n) (R .p) W → Place (R .n) j s → Whole (R .n) W → Bounded R room W (work R room W j s)
     work-bounded =
-        work-ind (λ room W j s o. Whole (R .n) W → Bounded room W o)
+        work-ind (λ room W j s o. Whole (R .n) W → Bounded R room W o)
         (λ room W j s L q h. omega arith)
         (λ W j s i v c L a h. omega arith)
         (λ room W j s i v c L a e h. omega arith)
@@ -128,11 +129,11 @@ module _ (R : Search) (G : Family) (search : Searches R G) where
         (g (whole-after (R .n) W i v (R .bound v c) h)))
 
     -- at most the slack, and one more in a clash; short of room only where the room is at most the slack
-    pub run-bounded : (room : ℕ) (W : Win) → Long (R .n) (R .p) W → Whole (R .n) W → Bounded room W (run R room W)
+    pub run-bounded : (room : ℕ) (W : Win) → Long (R .n) (R .p) W → Whole (R .n) W → Bounded R room W (run R room W)
     unfolding run
     run-bounded room W L h = work-bounded room W 0 early L (omega arith) h
 
     pub never-short : (room : ℕ) (W : Win) → Long (R .n) (R .p) W → Whole (R .n) W → slack (R .p) W (R .n) < room → run R room W ≡ short → ⊥
     never-short room W L h d e =
-        let q : room ≤ slack (R .p) W (R .n) = subst (Bounded room W) e (run-bounded room W L h) in
+        let q : room ≤ slack (R .p) W (R .n) = subst (Bounded R room W) e (run-bounded room W L h) in
         omega arith

@@ -114,6 +114,11 @@ movesOf short = []
 abbrev pub count : Out → ℕ
 count o = length (movesOf o)
 
+-- the windows that moves lead to: each moves one bound of one job
+abbrev pub reachedBy : Search → Win → List Move → Win
+reachedBy R W [] = W
+reachedBy R W (m ∷ ms) = reachedBy R (after R W (m .job) (m .side) (m .choice)) ms
+
 -- the moves that the work needs: those of the run with a quota that is always enough
 unfoldable pub needed : Search → Win → ℕ
 unfolding run slack

@@ -2,3 +2,4 @@ pub mod Codes
 pub mod Fates
 pub mod Sound
 pub mod Meaning
+pub mod Taken

@@ -3,3 +3,5 @@ pub mod Law
 pub mod Exact
 pub mod Order
 pub mod Meaning
+pub mod Rows
+pub mod Logs

@@ -1,0 +1,153 @@
+-- The tests as the code makes them: the largest number of a list against the limit, and one list more in a test of columns.
+use Prim.Native.Nat.{ℕ, zero, suc, _+_, _≤_, _<_}
+use native.Mathlib.Omega.{arith}
+use native.Mathlib.Decide.{decLe}
+use native.Mathlib.Numerals.{add-one}
+use mathlib.Core.Path.{_≡_, refl, sym, ap, _∙_}
+use mathlib.Core.Bool.{Bool, true, false, not}
+use mathlib.Core.List.{List, [], _∷_, _++_}
+use lib.ListN.{length, drop, getD, drop-of-length-le}
+use lib.Seq.{drop-cons}
+use lib.Dec.{eqb, leb, ltb}
+use borrow.Author.Tests.{le-leb, lt-leb, lt-ltb, le-ltb, eq-eqb, ne-eqb}
+use Rattle.lists.specs.Lists.{_!_, Every}
+use Rattle.lists.specs.Tests.{both, pick, unless}
+use Rattle.lists.proofs.Tests.{unless-none}
+use Rattle.narrowing.specs.Windows.{Win}
+use Rattle.joblist.specs.Limits.{Column, demands, jobs, mostJobs, mostTime, mostDemand, threeLists, fourLists, supply}
+use Rattle.joblist.specs.GoodList.{Sized, sized, atMost, within, long, refusal}
+use Rattle.joblist.specs.Halves.{sizesOf, spansOf}
+use Rattle.joblist.proofs.Refusals.{sized-judged}
+
+-- ---- the largest number so far is `top`, the numbers from i on are left
+
+both-assoc : (a b c : Bool) → both a (both b c) ≡ both (both a b) c
+both-assoc true b c = refl
+both-assoc false b c = refl
+
+both-swap : (a b c : Bool) → both a (both b c) ≡ both b (both a c)
+both-swap true b c = refl
+both-swap false true c = refl
+both-swap false false c = refl
+
+both-end : (a : Bool) → both a true ≡ a
+both-end true = refl
+both-end false = refl
+
+both-never : (a : Bool) → both a false ≡ false
+both-never true = refl
+both-never false = refl
+
+pub most-none : (m : ℕ) (xs : List ℕ) → both (leb 0 m) (atMost m xs) ≡ atMost m xs
+most-none m xs = rw (le-leb 0 m (omega arith))
+
+-- the larger of two is within the limit exactly when both are
+larger-within : (t x m : ℕ) → both (leb t m) (leb x m) ≡ leb (pick (leb t x) x t) m
+larger-within t x m =
+    elim (decLe t x) [
+      | yes h ↦ rw (le-leb t x h) (elim (decLe x m) [ yes k ↦ rw (le-leb x m k, le-leb t m (omega arith)) | no k ↦ rw (lt-leb x m (omega arith)) (both-never (leb t m)) ])
+      | no h ↦ rw (lt-leb t x (omega arith)) (elim (decLe t m) [ yes k ↦ rw (le-leb t m k, le-leb x m (omega arith)) | no k ↦ rw (lt-leb t m (omega arith)) ])
+    ]
+
+pub most-more : (m : ℕ) (xs : List ℕ) (t i : ℕ) → i < length xs
+    → both (leb t m) (atMost m (drop i xs)) ≡ both (leb (pick (leb t (xs ! i)) (xs ! i) t) m) (atMost m (drop (i + 1) xs))
+unfolding atMost
+most-more m xs t i h = rw (add-one, drop-cons xs i 0, ← larger-within t (xs ! i) m) (both-assoc (leb t m) (leb (xs ! i) m) (atMost m (drop (suc i) xs)))
+
+pub most-end : (m : ℕ) (xs : List ℕ) (t i : ℕ) → length xs ≤ i → both (leb t m) (atMost m (drop i xs)) ≡ leb t m
+unfolding atMost
+most-end m xs t i h = rw (drop-of-length-le xs h) (both-end (leb t m))
+
+pub above-not : (m t : ℕ) → ltb m t ≡ not (leb t m)
+above-not m t = elim (decLe t m) [ yes h ↦ rw (le-leb t m h, le-ltb m t h) | no h ↦ rw (lt-leb t m (omega arith), lt-ltb m t (omega arith)) ]
+
+-- ---- the halves of the tests
+
+-- one column at the end is tested first
+sized-last : (n : ℕ) (cs : List Column) (c : Column) → sized n (cs ++ c ∷ []) ≡ both (eqb (length (c .list)) n) (sized n cs)
+unfolding sized
+sized-last n [] c = refl
+sized-last n (d ∷ cs) c =
+    ap (both (eqb (length (d .list)) n)) (sized-last n cs c) ∙ both-swap (eqb (length (d .list)) n) (eqb (length (c .list)) n) (sized n cs)
+
+within-last : (cs : List Column) (c : Column) → within (cs ++ c ∷ []) ≡ both (atMost (c .most) (c .list)) (within cs)
+unfolding within
+within-last [] c = refl
+within-last (d ∷ cs) c =
+    ap (both (atMost (d .most) (d .list))) (within-last cs c) ∙ both-swap (atMost (d .most) (d .list)) (atMost (c .most) (c .list)) (within cs)
+
+within-supply : (cap : ℕ) → within (supply cap) ≡ leb cap mostDemand
+unfolding within atMost
+within-supply cap = both-end _ ∙ both-end _
+
+-- test 1 of the three lists: the earliest starts are as long as themselves
+pub sized-three : (W : Win) (p : List ℕ) → sized (jobs W) (threeLists W p) ≡ both (eqb (length (W .l)) (jobs W)) (eqb (length p) (jobs W))
+unfolding sized
+sized-three W p = rw (eq-eqb (jobs W) (jobs W) refl) (ap (both (eqb (length (W .l)) (jobs W))) (both-end (eqb (length p) (jobs W))))
+
+pub within-three : (W : Win) (p : List ℕ) → within (threeLists W p) ≡ both (atMost mostTime (W .e)) (both (atMost mostTime (W .l)) (atMost mostTime p))
+unfolding within
+within-three W p = ap (λ (b : Bool). both (atMost mostTime (W .e)) (both (atMost mostTime (W .l)) b)) (both-end (atMost mostTime p))
+
+-- tests 1 and 2 passed
+pub sizes-passed : (W : Win) (p : List ℕ) → sizesOf W p ≡ 0 → Every (Sized (jobs W)) (threeLists W p)
+unfolding sizesOf
+sizes-passed W p h = sized-judged (jobs W) (threeLists W p) .passed (unless-none (sized (jobs W) (threeLists W p)) 0 _ h .0)
+
+-- a chain of two tests before others
+first-failed : (s f : Bool) (x : ℕ) → (unless s 1 (unless f 2 0) ≡ 0 → ⊥) → unless s 1 (unless f 2 x) ≡ unless s 1 (unless f 2 0)
+first-failed true true x h = absurd (h refl)
+first-failed true false x h = refl
+first-failed false f x h = refl
+
+none-failed : (s f : Bool) (x : ℕ) → unless s 1 (unless f 2 0) ≡ 0 → unless s 1 (unless f 2 x) ≡ x
+none-failed true true x h = refl
+none-failed true false x h = absurd (omega arith)
+none-failed false f x h = absurd (omega arith)
+
+-- the three lists
+of-three : (W : Win) (p : List ℕ) → refusal W p (threeLists W p) [] ≡ unless (sized (jobs W) (threeLists W p)) 1 (unless (leb (jobs W) mostJobs) 2 (spansOf W p))
+unfolding refusal spansOf
+of-three W p = rw (both-end (within (threeLists W p)))
+
+pub three-sizes : (W : Win) (p : List ℕ) → (sizesOf W p ≡ 0 → ⊥) → refusal W p (threeLists W p) [] ≡ sizesOf W p
+unfolding sizesOf
+three-sizes W p h = of-three W p ∙ first-failed (sized (jobs W) (threeLists W p)) (leb (jobs W) mostJobs) (spansOf W p) h
+
+pub three-spans : (W : Win) (p : List ℕ) → sizesOf W p ≡ 0 → refusal W p (threeLists W p) [] ≡ spansOf W p
+unfolding sizesOf
+three-spans W p h = of-three W p ∙ none-failed (sized (jobs W) (threeLists W p)) (leb (jobs W) mostJobs) (spansOf W p) h
+
+-- the four lists with the capacity
+module _ (W : Win) (p r : List ℕ) (cap : ℕ) where
+  of-four : refusal W p (fourLists W p r) (supply cap)
+      ≡ unless (both (eqb (length r) (jobs W)) (sized (jobs W) (threeLists W p))) 1
+      (unless (leb (jobs W) mostJobs) 2
+      (unless (both (both (atMost mostDemand r) (within (threeLists W p))) (leb cap mostDemand)) 3 (unless (long W p) 4 0)))
+  unfolding refusal
+  of-four = rw (sized-last (jobs W) (threeLists W p) (demands r), within-last (threeLists W p) (demands r), within-supply cap)
+
+  -- the demands are not as many as the jobs
+  pub four-unequal : (length r ≡ jobs W → ⊥) → refusal W p (fourLists W p r) (supply cap) ≡ 1
+  four-unequal h = rw (of-four, ne-eqb (length r) (jobs W) h)
+
+  pub four-sizes : length r ≡ jobs W → (sizesOf W p ≡ 0 → ⊥) → refusal W p (fourLists W p r) (supply cap) ≡ sizesOf W p
+  unfolding sizesOf
+  four-sizes h k = rw (of-four, eq-eqb (length r) (jobs W) h) (first-failed (sized (jobs W) (threeLists W p)) (leb (jobs W) mostJobs) _ k)
+
+  -- tests 1 and 2 passed
+  four-rest : length r ≡ jobs W → sizesOf W p ≡ 0 → refusal W p (fourLists W p r) (supply cap)
+      ≡ unless (both (both (atMost mostDemand r) (within (threeLists W p))) (leb cap mostDemand)) 3 (unless (long W p) 4 0)
+  unfolding sizesOf
+  four-rest h k = rw (of-four, eq-eqb (length r) (jobs W) h) (none-failed (sized (jobs W) (threeLists W p)) (leb (jobs W) mostJobs) _ k)
+
+  pub four-demand : length r ≡ jobs W → sizesOf W p ≡ 0 → atMost mostDemand r ≡ false → refusal W p (fourLists W p r) (supply cap) ≡ 3
+  four-demand h k d = four-rest h k ∙ rw d
+
+  pub four-supply : length r ≡ jobs W → sizesOf W p ≡ 0 → mostDemand < cap → refusal W p (fourLists W p r) (supply cap) ≡ 3
+  four-supply h k c = four-rest h k ∙ rw (lt-leb cap mostDemand c, both-never (both (atMost mostDemand r) (within (threeLists W p))))
+
+  pub four-spans : length r ≡ jobs W → sizesOf W p ≡ 0 → atMost mostDemand r ≡ true → cap ≤ mostDemand
+      → refusal W p (fourLists W p r) (supply cap) ≡ spansOf W p
+  unfolding spansOf
+  four-spans h k d c = four-rest h k ∙ rw (d, le-leb cap mostDemand c, both-end (within (threeLists W p)))

@@ -1,0 +1,59 @@
+-- What a run leaves: lists as long as before, and windows that a second run leaves alone; each move goes to its own bound.
+use Prim.Native.Nat.{ℕ, zero, suc, _≤_, _<_}
+use native.Mathlib.Omega.{arith}
+use mathlib.Core.Path.{_≡_, refl, _∙_}
+use mathlib.Core.List.{List, [], _∷_}
+use lib.ListN.{length, length-set}
+use Rattle.narrowing.specs.Windows.{Win, Side, early, late, Long, moved}
+use Rattle.narrowing.specs.Rules.{Family, Stable}
+use Rattle.narrowing.specs.Run.{Search, Searches, Next, rests, moves, nextMove, Move, move, Out, settled, clash, short, push, follow, after, work, run, reachedBy}
+use Rattle.narrowing.proofs.Next.{Ahead, next-is}
+use Rattle.narrowing.proofs.Runs.{work-ind}
+
+-- U's lists are as long as W's
+pub record SameLengths (W U : Win) : Type 0 where
+  pub early : length (U .e) ≡ length (W .e)
+  pub late : length (U .l) ≡ length (W .l)
+
+moved-lengths : (W : Win) (j : ℕ) (s : Side) (b : ℕ) → SameLengths W (moved W j s b)
+moved-lengths W j early b = record { early = rw length-set; late = refl }
+moved-lengths W j late b = record { early = refl; late = rw length-set }
+
+lengths-trans : (A B C : Win) → SameLengths A B → SameLengths B C → SameLengths A C
+lengths-trans A B C f g = record { early = g .early ∙ f .early; late = g .late ∙ f .late }
+
+-- a settled end's windows are those that its moves reach, on lists of the same lengths
+abbrev pub Reached : Search → Win → Out → Type 0
+Reached R W (settled U ms) = SameLengths W U × (U ≡ reachedBy R W ms)
+Reached R W (clash j ms) = Unit {0}
+Reached R W short = Unit {0}
+
+module _ (R : Search) (G : Family) (search : Searches R G) where
+  push-reached : (W : Win) (j : ℕ) (s : Side) (c : ℕ) (o : Out) → Reached R (after R W j s c) o → Reached R W (push (move W j s c) o)
+  push-reached W j s c (settled U ms) g = (lengths-trans W (after R W j s c) U (moved-lengths W j s (R .bound s c)) (g .0), g .1)
+  push-reached W j s c (clash i ms) g = tt
+  push-reached W j s c short g = tt
+
+  pub run-reached : (room : ℕ) (W : Win) → Long (R .n) (R .p) W → Reached R W (run R room W)
+  unfolding run
+  run-reached room W L =
+      work-ind R G search (λ room W j s o. Reached R W o)
+      (λ room W j s L q. (record { early = refl; late = refl }, refl))
+      (λ W j s i v c L a. tt)
+      (λ room W j s i v c L a e. tt)
+      (λ room W j s i v c o L a e g. push-reached W i v c o g)
+      room W 0 early L (omega arith)
+
+  -- where no rule applies the run settles at once, whatever the room
+  pub run-rests : (room : ℕ) (W : Win) → Long (R .n) (R .p) W → Stable (R .n) G W → run R room W ≡ settled W []
+  unfolding run work Stable
+  run-rests zero W L q = go (nextMove R W 0 early) (next-is R G search W L 0 early (omega arith))
+    where
+      go : (x : Next) → Ahead R G search W L 0 early x → follow W x (λ i v c. short) ≡ settled W []
+      go rests h = refl
+      go (moves i v c) h = absurd (q i v (R .bound v c) (h .listed) (h .applies))
+  run-rests (suc room) W L q = go (nextMove R W 0 early) (next-is R G search W L 0 early (omega arith)) _
+    where
+      go : (x : Next) → Ahead R G search W L 0 early x → (f : ℕ → Side → ℕ → Out) → follow W x f ≡ settled W []
+      go rests h f = refl
+      go (moves i v c) h f = absurd (q i v (R .bound v c) (h .listed) (h .applies))

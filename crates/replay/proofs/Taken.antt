@@ -1,0 +1,191 @@
+-- The checker takes the planner's logs: each record that the defined run writes is good on the windows reached, and its replay ends as the run did.
+use Prim.Native.Nat.{ℕ, zero, suc, _+_, _*_, _≤_, _<_}
+use native.Mathlib.Omega.{arith}
+use native.Mathlib.Decide.{decLt}
+use mathlib.Core.Path.{_≡_, refl, sym, ap, _∙_}
+use mathlib.Core.Bool.{Bool, true, false, not}
+use mathlib.Core.List.{List, [], _∷_, map}
+use lib.ListN.{drop}
+use lib.Dec.{ltb, leb, eqb}
+use borrow.Author.Tests.{ltb-true, leb-true, lt-ltb, le-leb, eq-eqb}
+use Rattle.lists.specs.Lists.{_!_}
+use Rattle.lists.specs.Tests.{both, only}
+use Rattle.lists.specs.Sums.{total}
+use Rattle.lists.proofs.Tests.{both-true, true-both, only-cong}
+use Rattle.lists.proofs.Sums.{total-cong}
+use Rattle.lists.proofs.Lists.{set-any}
+use Rattle.narrowing.specs.Windows.{Win, Side, early, late, number, sideOf, Long, moved, closes}
+use Rattle.narrowing.specs.Run.{Move, move, Out, settled, clash, short, push, run}
+use Rattle.narrowing.proofs.Runs.{work-ind}
+use Rattle.members.specs.Members.{setWords, has, setOf}
+use Rattle.members.proofs.Sets.{has-setOf, has-beyond}
+use Rattle.joblist.specs.Limits.{mostTime}
+use Rattle.journal.specs.Journal.{setOfRecord}
+use Rattle.timetable.specs.Time.{Jobs, Sure, sure, load, Crowded, Applies, bound}
+use Rattle.timetable.specs.Search.{search, member, entry}
+use Rattle.timetable.proofs.Facts.{sure-yes}
+use Rattle.timetable.proofs.Law.{searches}
+use Rattle.replay.specs.Codes.{jobOf, side, timeOf, isMember, named, OwnTrue, Tightens, GoodRecord, code}
+use Rattle.replay.specs.Replay.{changed, Verdict, holds, clashes, replay}
+use Rattle.replay.proofs.Codes.{record-good}
+
+side-number : (s : Side) → sideOf (number s) ≡ s
+side-number early = refl
+side-number late = refl
+
+number-most : (s : Side) → number s ≤ 1
+number-most early = omega arith
+number-most late = omega arith
+
+-- ---- one record
+
+module _ (J : Jobs) (W : Win) (few : J .n ≤ 32 * setWords) (L : Long (J .n) (J .p) W) (j : ℕ) (s : Side) (t : ℕ) (b : j < J .n) (small : W .l ! j ≤ mostTime) (a : Applies J W j s (bound s t)) where
+  crowded-at : (v : Side) → Applies J W j v (bound v t) → Crowded J W j t
+  crowded-at early d = d .crowded
+  crowded-at late d = d .crowded
+
+  before-end : (v : Side) → Applies J W j v (bound v t) → t < W .l ! j
+  unfolding Long
+  before-end early d = omega (arith, d .to, L j b)
+  before-end late d = d .to
+
+  own-at : (v : Side) → Applies J W j v (bound v t) → OwnTrue (J .p) W j v t
+  own-at early d = d .to
+  own-at late d = d .from
+
+  tightens-at : (v : Side) → Applies J W j v (bound v t) → Tightens W j v t
+  tightens-at early d = d .from
+  tightens-at late d = d .to
+
+  -- what a member of the writer's is
+  pub record Written (k : ℕ) : Type 0 where
+    pub listed : k < J .n
+    pub other : not (eqb k j) ≡ true
+    pub takes : 1 ≤ J .r ! k
+    pub sure-there : sure (J .p) W k t ≡ true
+
+  member-yes : (k : ℕ) → member J W j t k ≡ true → Written k
+  unfolding member
+  member-yes k h =
+      let c = both-true (ltb k (J .n)) (both (not (eqb k j)) (both (leb 1 (J .r ! k)) (sure (J .p) W k t))) h in
+      let d = both-true (not (eqb k j)) (both (leb 1 (J .r ! k)) (sure (J .p) W k t)) (c .1) in
+      let e = both-true (leb 1 (J .r ! k)) (sure (J .p) W k t) (d .1) in
+      record { listed = ltb-true k (J .n) (c .0); other = d .0; takes = leb-true 1 (J .r ! k) (e .0); sure-there = e .1 }
+
+  yes-member : (k : ℕ) → k < J .n → both (not (eqb k j)) (sure (J .p) W k t) ≡ true → (J .r ! k ≡ 0 → ⊥) → member J W j t k ≡ true
+  unfolding member
+  yes-member k c h r =
+      let d = both-true (not (eqb k j)) (sure (J .p) W k t) h in
+      true-both (ltb k (J .n)) _ (lt-ltb _ _ c)
+      (true-both (not (eqb k j)) _ (d .0) (true-both (leb 1 (J .r ! k)) (sure (J .p) W k t) (omega (arith, le-leb)) (d .1)))
+
+  abbrev set : List ℕ
+  set = setOf setWords (member J W j t)
+
+  has-member : (k : ℕ) → has set k ≡ true → member J W j t k ≡ true
+  has-member k h =
+      elim (decLt k (32 * setWords)) [
+        | yes d ↦ sym (has-setOf setWords (member J W j t) k d) ∙ h
+        | no d ↦ absurd (let z : _≡_ {A = Bool} true false = sym h ∙ has-beyond setWords (member J W j t) k (omega arith) in let q : _≡_ {A = ℕ} 0 1 = cc in omega arith)
+      ]
+
+  -- the members' demands are the others' load
+  members-load : total (λ k. only (has set k) (J .r ! k)) (J .n) ≡ load J W j t
+  unfolding load
+  members-load =
+      total-cong (λ k. only (has set k) (J .r ! k)) (λ k. only (both (not (eqb k j)) (sure (J .p) W k t)) (J .r ! k)) (J .n)
+      (λ k c.
+      rw (has-setOf setWords (member J W j t) k (omega arith))
+      (only-cong (member J W j t k) (both (not (eqb k j)) (sure (J .p) W k t)) (J .r ! k)
+      (λ q. let m = member-yes k q in true-both (not (eqb k j)) (sure (J .p) W k t) (m .other) (m .sure-there))
+      (yes-member k c)))
+
+  not-self : (k : ℕ) → not (eqb k j) ≡ true → k ≡ j → ⊥
+  not-self k h e = let z : not (eqb k j) ≡ false = rw (eq-eqb k j e) in let q : _≡_ {A = ℕ} 0 1 = cc in omega arith
+
+  pub entry-good : GoodRecord J W (entry J (move W j s t))
+  unfolding entry named Long
+  entry-good =
+      let c = crowded-at s a in
+      record {
+        in-range = record { job = b; side = number-most s; time = omega (arith, before-end s a) };
+        partners = record {
+          lasts = c .lasts;
+          takes = c .takes;
+          members = λ k h.
+              let m = member-yes k (has-member k h) in
+              let q = sure-yes (J .p) W k t (m .sure-there) in
+              (record { listed = m .listed; lasts = omega (arith, q .from, q .to, L k (m .listed)); takes = m .takes }, not-self k (m .other));
+        };
+        counted = refl;
+        exceeds = omega (arith, c .over, members-load);
+        stated = record {
+          own = rw (side-number s) (own-at s a);
+          members = λ k h. sure-yes (J .p) W k t (member-yes k (has-member k h) .sure-there);
+        };
+        tightens = rw (side-number s) (tightens-at s a);
+      }
+
+-- ---- the whole log
+
+changed-entry : (J : Jobs) (W : Win) (j : ℕ) (s : Side) (t : ℕ) → changed W (entry J (move W j s t)) ≡ moved W j s (bound s t)
+unfolding changed entry
+changed-entry J W j early t = refl
+changed-entry J W j late t = refl
+
+entry-job : (J : Jobs) (m : Move) → jobOf (entry J m) ≡ m .job
+unfolding entry
+entry-job J m = refl
+
+-- what the replay of an end's records comes to
+abbrev pub Replays : Jobs → Win → Out → Type 0
+Replays J W (settled U ms) = (i : ℕ) → replay J W i (map (entry J) ms) ≡ holds U
+Replays J W (clash j ms) = (i : ℕ) → replay J W i (map (entry J) ms) ≡ clashes j
+Replays J W short = Unit {0}
+
+module _ (J : Jobs) (W U : Win) (x : List ℕ) (j : ℕ) (good : code J W x ≡ 0) (to : changed W x ≡ U) (job : jobOf x ≡ j) where
+  replay-on : closes (J .p) U j ≡ false → (i : ℕ) (rs : List (List ℕ)) → replay J W i (x ∷ rs) ≡ replay J U (suc i) rs
+  unfolding replay
+  replay-on e i rs = rw (good, to, job, e)
+
+  replay-end : closes (J .p) U j ≡ true → (i : ℕ) → replay J W i (x ∷ []) ≡ clashes j
+  unfolding replay
+  replay-end e i = rw (good, to, job, e)
+
+replay-none : (J : Jobs) (W : Win) (i : ℕ) → replay J W i [] ≡ holds W
+unfolding replay
+replay-none J W i = refl
+
+-- no latest end is above the limit of times
+Small : Jobs → Win → Type 0
+Small J W = (k : ℕ) → W .l ! k ≤ mostTime
+
+small-after : (J : Jobs) (W : Win) (j : ℕ) (s : Side) (t : ℕ) → Applies J W j s (bound s t) → Small J W → Small J (moved W j s (bound s t))
+unfolding Small
+small-after J W j early t a h = h
+small-after J W j late t a h = λ k. set-any (λ (x : ℕ). x ≤ mostTime) (W .l) j t k (λ e. omega (arith, a .to, h j)) (h k)
+
+push-replays : (J : Jobs) (W U : Win) (m : Move) (o : Out) → ((i : ℕ) (rs : List (List ℕ)) → replay J W i (entry J m ∷ rs) ≡ replay J U (suc i) rs)
+    → Replays J U o → Replays J W (push m o)
+push-replays J W U m (settled X ms) f g = λ i. f i (map (entry J) ms) ∙ g (suc i)
+push-replays J W U m (clash j ms) f g = λ i. f i (map (entry J) ms) ∙ g (suc i)
+push-replays J W U m short f g = tt
+
+module _ (J : Jobs) (few : J .n ≤ 32 * setWords) where
+  good-entry : (W : Win) (j : ℕ) (s : Side) (t : ℕ) → Long (J .n) (J .p) W → j < J .n → Applies J W j s (bound s t) → Small J W → code J W (entry J (move W j s t)) ≡ 0
+  unfolding Small
+  good-entry W j s t L b a h = record-good J W (entry J (move W j s t)) (entry-good J W few L j s t b (h j) a)
+
+  pub run-replays : (room : ℕ) (W : Win) → Long (J .n) (J .p) W → ((k : ℕ) → W .l ! k ≤ mostTime) → Replays J W (run (search J) room W)
+  unfolding search run Small
+  run-replays room W L h =
+      work-ind (search J) (Applies J) (searches J) (λ room W j s o. Small J W → Replays J W o)
+      (λ room W j s L q h i. replay-none J W i)
+      (λ W j s i v t L a h. tt)
+      (λ room W j s i v t L a e h k.
+      replay-end J W (moved W i v (bound v t)) (entry J (move W i v t)) i (good-entry W i v t L (a .listed) (a .applies) h) (changed-entry J W i v t) (entry-job J (move W i v t)) e k)
+      (λ room W j s i v t o L a e g h.
+      push-replays J W (moved W i v (bound v t)) (move W i v t) o
+      (λ k rs. replay-on J W (moved W i v (bound v t)) (entry J (move W i v t)) i (good-entry W i v t L (a .listed) (a .applies) h) (changed-entry J W i v t) (entry-job J (move W i v t)) e k rs)
+      (g (small-after J W i v t (a .applies) h)))
+      room W 0 early L (omega arith) h
