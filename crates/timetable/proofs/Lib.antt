@@ -5,3 +5,4 @@ pub mod Order
 pub mod Meaning
 pub mod Rows
 pub mod Logs
+pub mod Reordered

@@ -50,7 +50,7 @@ module _ (π σ : ℕ → ℕ) (J I : Jobs) (h : Turn (J .n) π σ) (s : SameJob
   alike W U v j late t c a =
       record { from = omega (arith, v .late j c, s .lasts j c); to = omega (arith, v .late j c); crowded = crowded-same W U v j t c (a .crowded) }
 
-  jobs-back : SameJobs σ I J
+  pub jobs-back : SameJobs σ I J
   jobs-back =
       record {
         count = sym (s .count);
@@ -59,7 +59,7 @@ module _ (π σ : ℕ → ℕ) (J I : Jobs) (h : Turn (J .n) π σ) (s : SameJob
         takes = rw (s .count) (list-back (J .n) π σ h (J .r) (I .r) (s .takes));
       }
 
-turn-count : (n m : ℕ) (π σ : ℕ → ℕ) → m ≡ n → Turn n π σ → Turn m π σ
+pub turn-count : (n m : ℕ) (π σ : ℕ → ℕ) → m ≡ n → Turn n π σ → Turn m π σ
 turn-count n m π σ e h = rw e h
 
 -- the largest windows of the renumbered jobs are the renumbered ones, and where those jobs have none the first have none

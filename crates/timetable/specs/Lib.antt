@@ -3,3 +3,4 @@ pub mod Search
 pub mod Table
 pub mod Promise
 pub mod Reason
+pub mod Reordered

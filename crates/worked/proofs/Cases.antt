@@ -1,0 +1,60 @@
+-- The runs on the record come out as document 01 says. A wrong row is refused at its own line.
+use Prim.Native.Nat.{ℕ}
+use mathlib.Core.Path.{_≡_, refl}
+use Rattle.lists.specs.Lists.{Every}
+use Rattle.members.specs.Members.{onesOf}
+use Rattle.timetable.specs.Table.{narrowed}
+use Rattle.worked.specs.Rows.{Right}
+use Rattle.worked.specs.Cases.{narrowings}
+
+pub cases : Every Right narrowings
+unfolding narrowed onesOf
+cases = (
+  refl,  -- 1
+  (
+    refl,  -- 2
+    (
+      refl,  -- 3
+      (
+        refl,  -- 4
+        (
+          refl,  -- 5
+          (
+            refl,  -- 6
+            (
+              refl,  -- 6
+              (
+                refl,  -- 7
+                (
+                  refl,  -- 7
+                  (
+                    refl,  -- 8
+                    (
+                      refl,  -- 9
+                      (
+                        refl,  -- 9
+                        (
+                          refl,  -- 20
+                          (
+                            refl,  -- 21
+                            (
+                              refl,  -- 22
+                              (
+                                refl,  -- 23
+                                tt,
+                              ),
+                            ),
+                          ),
+                        ),
+                      ),
+                    ),
+                  ),
+                ),
+              ),
+            ),
+          ),
+        ),
+      ),
+    ),
+  ),
+)

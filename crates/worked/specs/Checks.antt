@@ -1,0 +1,56 @@
+-- Logs by hand for the checker: what holds, what clashes, refusal 6 and each code 20 to 26 (document 01, 'Answer table'). A row's number is 40 for
+-- holds, 41 for clash, 6 for the refusal, and the code else; then the capacity, the jobs, the claimed records and the log.
+use Prim.Native.Nat.{ℕ}
+use mathlib.Core.List.{List, [], _∷_, _++_}
+use Rattle.answers.specs.Said.{Word, said}
+use Rattle.timetable.specs.Table.{Call, call}
+use Rattle.replay.specs.Replay.{Checked, finds, checked}
+use Rattle.worked.specs.Rows.{Row, Job, job, windows, durations, draws, Span, span, spans, line}
+
+abbrev pub with : ℕ → List Job → List ℕ → Call
+with cap js log = call (windows js) (durations js) (draws js) cap log
+
+abbrev pub holding : ℕ → List Job → ℕ → List ℕ → List Span → Row Checked
+holding cap js count log xs = record { number = 40; done = checked (with cap js log) count; due = finds (said Word.holds (count ∷ [])) (spans xs) }
+
+abbrev pub clashing : ℕ → List Job → ℕ → List ℕ → ℕ → Row Checked
+clashing cap js count log j = record { number = 41; done = checked (with cap js log) count; due = finds (said Word.clash (count ∷ j ∷ [])) (windows js) }
+
+abbrev pub refusing : ℕ → ℕ → List Job → ℕ → List ℕ → Row Checked
+refusing k cap js count log = record { number = k; done = checked (with cap js log) count; due = finds (said Word.refused (k ∷ [])) (windows js) }
+
+abbrev pub rejecting : ℕ → ℕ → ℕ → List Job → ℕ → List ℕ → Row Checked
+rejecting code place cap js count log = record { number = code; done = checked (with cap js log) count; due = finds (said Word.rejected (place ∷ code ∷ [])) (windows js) }
+
+-- cases 2 and 4 of the runs on the record, and Example 4.1 of 004
+abbrev pub two : List Job
+two = job 2 10 3 2 ∷ job 2 7 3 2 ∷ job 2 8 4 2 ∷ []
+
+abbrev pub four : List Job
+four = job 0 2 2 1 ∷ job 0 2 2 1 ∷ []
+
+abbrev pub pair : List Job
+pair = job 3 7 2 1 ∷ job 2 7 3 2 ∷ []
+
+abbrev pub checks : List (Row Checked)
+checks =
+    holding 5 two 0 [] (span 2 10 ∷ span 2 7 ∷ span 2 8 ∷ []) ∷
+    holding 5 two 1 (line 0 0 4 2 6) (span 5 10 ∷ span 2 7 ∷ span 2 8 ∷ []) ∷
+    -- the second record's facts are true of the windows reached, and not of the submitted ones
+    holding 2 pair 2 (line 0 0 4 1 2 ++ line 1 1 5 1 1) (span 5 7 ∷ span 2 5 ∷ []) ∷
+    clashing 1 four 1 (line 0 0 1 1 2) 0 ∷
+    refusing 6 5 two 2 (line 0 0 4 2 6 ++ (7 ∷ 7 ∷ [])) ∷
+    refusing 4 5 (job 2 4 3 2 ∷ []) 1 [] ∷
+    rejecting 20 1 1 four 2 (line 0 0 1 1 2 ++ line 0 0 1 1 2) ∷
+    rejecting 21 0 5 two 1 (line 3 0 4 2 6) ∷
+    rejecting 21 0 5 two 1 (line 0 2 4 2 6) ∷
+    rejecting 21 0 5 two 1 (line 0 0 1000001 2 6) ∷
+    -- a member that is not in the list; one that is the moved job; a moved job of demand 0
+    rejecting 22 0 5 two 1 (line 0 0 4 3 14) ∷
+    rejecting 22 0 5 two 1 (line 0 0 4 3 7) ∷
+    rejecting 22 0 5 (job 2 10 3 0 ∷ job 2 7 3 3 ∷ job 2 8 4 3 ∷ []) 1 (line 0 0 4 2 6) ∷
+    rejecting 23 0 5 two 1 (line 0 0 4 3 6) ∷
+    rejecting 24 0 5 two 1 (line 0 0 4 1 2) ∷
+    rejecting 25 0 5 two 1 (line 0 0 5 2 6) ∷
+    rejecting 26 1 5 two 2 (line 0 0 4 2 6 ++ line 0 0 4 2 6) ∷
+    []

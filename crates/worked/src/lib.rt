@@ -1,0 +1,1 @@
+// No code: tables (specs/) and their proofs (proofs/).
