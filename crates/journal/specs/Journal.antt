@@ -1,10 +1,11 @@
 -- Log records (document 01, 'Log records'): the layout of a record's words in this one place, the room of a log, and what a log holds.
 use Prim.Native.Nat.{ℕ, zero, suc, _+_, _*_, _/_}
-use mathlib.Core.Bool.{Bool, true, false}
+use mathlib.Core.Path.{_≡_}
+use mathlib.Core.Bool.{Bool, true, false, cond}
 use mathlib.Core.List.{List, [], _∷_, _++_}
 use lib.ListN.{length, take, drop, replicate}
 use lib.Dec.{ltb}
-use Rattle.lists.specs.Lists.{_!_}
+use Rattle.lists.specs.Lists.{_!_, Every}
 use Rattle.members.specs.Members.{setWords, onesOf}
 
 -- the places of the words before the member set, and their number
@@ -59,10 +60,19 @@ unfoldable pub flat : List (List ℕ) → List ℕ
 flat [] = []
 flat (x ∷ xs) = x ++ flat xs
 
+-- each of them has a record's number of words
+abbrev pub AreRecords : List (List ℕ) → Type 0
+AreRecords rs = Every (λ x. length x ≡ recordWords) rs
+
 -- the records first, the rest as before
 unfoldable pub logged : List (List ℕ) → List ℕ → List ℕ
 unfolding flat
 logged rs log = flat rs ++ drop (length (flat rs)) log
+
+-- record k written anew, the rest as before; a log that ends before it stays
+unfoldable pub rewritten : List ℕ → ℕ → List ℕ → List ℕ
+unfolding roomOf
+rewritten log k x = cond (ltb k (roomOf log)) (take (recordWords * k) log ++ x ++ drop (recordWords * suc k) log) log
 
 -- every word 0
 unfoldable pub cleared : List ℕ → List ℕ

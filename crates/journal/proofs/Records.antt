@@ -1,0 +1,238 @@
+-- Laws of the log: the room and the records of a log, what was written is read back, one record more, records written anew, cleared logs.
+use Prim.Native.Nat.{ℕ, zero, suc, _+_, _*_, _-_, _/_, _≤_, _<_}
+use native.Mathlib.Omega.{arith}
+use native.Mathlib.Decide.{ℕ-discrete, decLt}
+use mathlib.Core.Path.{_≡_, refl, sym, ap, _∙_}
+use mathlib.Core.Bool.{Bool, true, false, cond}
+use mathlib.Core.List.{List, [], _∷_, _++_, append-assoc, append-nil}
+use lib.ListN.{length, take, drop, getD, replicate, length-append, length-take, length-drop, length-replicate, getD-replicate}
+use lib.Seq.{length-take-le, take-at, drop-at, drop-drop, drop-append-add, getD-take, getD-drop, take-length, paste, take-paste, drop-paste}
+use lib.Dec.{ltb}
+use borrow.Author.Tests.{lt-ltb, le-ltb}
+use Rattle.lists.specs.Lists.{_!_, Every}
+use Rattle.members.specs.Members.{setWords, onesOf}
+use Rattle.journal.specs.Journal.{headWords, recordWords, written, roomOf, part, recordAt, records, flat, AreRecords, logged, rewritten, cleared}
+
+-- ---- the room
+
+pub room-words : (log : List ℕ) (k : ℕ) → k < roomOf log → recordWords * k + recordWords ≤ length log
+unfolding roomOf
+room-words log k h = omega arith
+
+pub words-room : (log : List ℕ) (k : ℕ) → recordWords * k + recordWords ≤ length log → k < roomOf log
+unfolding roomOf
+words-room log k h = omega arith
+
+pub room-length : (log out : List ℕ) → length out ≡ length log → roomOf out ≡ roomOf log
+unfolding roomOf
+room-length log out h = rw h
+
+-- ---- one record
+
+pub record-in : (log : List ℕ) (k : ℕ) → k < roomOf log → recordAt log k ≡ take recordWords (drop (recordWords * k) log)
+unfolding recordAt
+record-in log k h = rw (lt-ltb k (roomOf log) h)
+
+pub record-out : (log : List ℕ) (k : ℕ) → roomOf log ≤ k → recordAt log k ≡ []
+unfolding recordAt
+record-out log k h = rw (le-ltb k (roomOf log) h)
+
+-- the part of the log between the record's ends
+pub record-part : (log : List ℕ) (k : ℕ) → k < roomOf log → take (recordWords * k + recordWords - recordWords * k) (drop (recordWords * k) log) ≡ recordAt log k
+record-part log k h =
+    let e : recordWords * k + recordWords - recordWords * k ≡ recordWords = omega arith in
+    rw e (sym (record-in log k h))
+
+pub record-length : (log : List ℕ) (k : ℕ) → k < roomOf log → length (recordAt log k) ≡ recordWords
+record-length log k h = rw (record-in log k h) (length-take-le recordWords (drop (recordWords * k) log) (rw length-drop (omega (arith, room-words log k h))))
+
+-- the words of a record are words of the log
+pub record-at : (log : List ℕ) (k i : ℕ) → k < roomOf log → i < recordWords → recordAt log k ! i ≡ log ! (recordWords * k + i)
+record-at log k i h b = rw (record-in log k h) (getD-take recordWords (drop (recordWords * k) log) i 0 b ∙ getD-drop (recordWords * k) log i 0)
+
+-- two parts that the contract of showing a record allows are the same words
+pub shown-firm : (log x y : List ℕ) (k : ℕ) → x ≡ recordAt log k → y ≡ recordAt log k → x ≡ y
+shown-firm log x y k f g = f ∙ sym g
+
+pub written-length : (job side time : ℕ) (set : List ℕ) → length set ≡ setWords → length (written job side time set) ≡ recordWords
+written-length job side time set h = rw h
+
+-- ---- a record written anew
+
+pub rewritten-in : (log : List ℕ) (k : ℕ) (x : List ℕ) → k < roomOf log
+    → rewritten log k x ≡ take (recordWords * k) log ++ x ++ drop (recordWords * suc k) log
+unfolding rewritten
+rewritten-in log k x h = rw (lt-ltb k (roomOf log) h)
+
+pub rewritten-out : (log : List ℕ) (k : ℕ) (x : List ℕ) → roomOf log ≤ k → rewritten log k x ≡ log
+unfolding rewritten
+rewritten-out log k x h = rw (le-ltb k (roomOf log) h)
+
+-- a copy right behind a copy
+paste-paste : (l : List ℕ) (at : ℕ) (xs ys : List ℕ) → at + length xs ≤ length l
+    → paste (paste l at xs (length xs)) (at + length xs) ys (length ys) ≡ take at l ++ (xs ++ ys) ++ drop (at + length xs + length ys) l
+paste-paste l at xs ys h =
+    let m = at + length xs in
+    let p = paste l at xs (length xs) in
+    let a : at ≤ length l = omega arith in
+    let front : take m p ≡ take at l ++ xs = take-paste l at xs (length xs) a (omega arith) ∙ ap (λ (z : List ℕ). take at l ++ z) (take-length xs) in
+    let back : drop (m + length ys) p ≡ drop (m + length ys) l =
+    sym (drop-drop (length ys) m p) ∙ ap (drop (length ys)) (drop-paste l at xs (length xs) a (omega arith)) ∙ drop-drop (length ys) m l in
+    ap (λ (z : List ℕ). z ++ take (length ys) ys ++ drop (m + length ys) p) front
+    ∙ ap (λ (z : List ℕ). take at l ++ xs ++ z ++ drop (m + length ys) p) (take-length ys)
+    ∙ ap (λ (z : List ℕ). take at l ++ xs ++ ys ++ z) back
+    ∙ ap (λ (z : List ℕ). z ++ drop (m + length ys) l) (append-assoc (take at l) xs ys)
+
+module _ (log : List ℕ) (k : ℕ) (x : List ℕ) (h : k < roomOf log) (e : length x ≡ recordWords) where
+  front-length : length (take (recordWords * k) log) ≡ recordWords * k
+  front-length = length-take-le (recordWords * k) log (omega (arith, room-words log k h))
+
+  pub rewritten-length : length (rewritten log k x) ≡ length log
+  rewritten-length = rw (rewritten-in log k x h, length-append, length-append, front-length, e, length-drop) (omega (arith, room-words log k h))
+
+  pub rewritten-same : recordAt (rewritten log k x) k ≡ x
+  rewritten-same =
+      record-in (rewritten log k x) k (omega (arith, room-length log (rewritten log k x) rewritten-length))
+      ∙ rw (
+        rewritten-in log k x h,
+        append-assoc (take (recordWords * k) log) x (drop (recordWords * suc k) log),
+        drop-at (take (recordWords * k) log) (x ++ drop (recordWords * suc k) log) (recordWords * k) front-length,
+      ) (take-at x (drop (recordWords * suc k) log) recordWords e)
+
+  -- the head first, then the set
+  pub rewritten-parts : (head set : List ℕ) → head ++ set ≡ x
+      → paste (paste log (recordWords * k) head (length head)) (recordWords * k + length head) set (length set) ≡ rewritten log k x
+  rewritten-parts head set f =
+      let n : length head + length set ≡ recordWords = sym (length-append head set) ∙ ap length f ∙ e in
+      let i : recordWords * k + length head + length set ≡ recordWords * suc k = omega arith in
+      paste-paste log (recordWords * k) head set (omega (arith, room-words log k h))
+      ∙ rw (f, i) (sym (rewritten-in log k x h))
+
+-- ---- records one after the other
+
+pub flat-append : (rs qs : List (List ℕ)) → flat (rs ++ qs) ≡ flat rs ++ flat qs
+unfolding flat
+flat-append [] qs = refl
+flat-append (x ∷ rs) qs = ap (λ (l : List ℕ). x ++ l) (flat-append rs qs) ∙ sym (append-assoc x (flat rs) (flat qs))
+
+pub flat-one : (x : List ℕ) → flat (x ∷ []) ≡ x
+unfolding flat
+flat-one x = append-nil x
+
+pub flat-length : (rs : List (List ℕ)) → AreRecords rs → length (flat rs) ≡ recordWords * length rs
+unfolding flat
+flat-length [] e = refl
+flat-length (x ∷ rs) e = rw (length-append, e .0, flat-length rs (e .1)) (omega arith)
+
+-- record k of records, whatever comes after them
+flat-at : (rs : List (List ℕ)) (k : ℕ) (ys : List ℕ) → AreRecords rs → k < length rs → take recordWords (drop (recordWords * k) (flat rs ++ ys)) ≡ getD rs k []
+unfolding flat
+flat-at [] k ys e h = absurd (omega arith)
+flat-at (x ∷ rs) zero ys e h = rw append-assoc (take-at x (flat rs ++ ys) recordWords (e .0))
+flat-at (x ∷ rs) (suc k) ys e h =
+    let i : recordWords * suc k ≡ length x + recordWords * k = omega (arith, e .0) in
+    rw (append-assoc, i, drop-append-add x (flat rs ++ ys) (recordWords * k)) (flat-at rs k ys (e .1) (omega arith))
+
+-- ---- records first, the rest as before
+
+pub logged-none : (log : List ℕ) → logged [] log ≡ log
+unfolding logged flat
+logged-none log = refl
+
+module _ (rs : List (List ℕ)) (log : List ℕ) (e : AreRecords rs) (b : length rs ≤ roomOf log) where
+  fits : recordWords * length rs ≤ length log
+  unfolding roomOf
+  fits = omega arith
+
+  -- in words: the records, then what stood behind them
+  pub logged-words : logged rs log ≡ flat rs ++ drop (recordWords * length rs) log
+  unfolding logged
+  logged-words = rw (flat-length rs e)
+
+  pub logged-length : length (logged rs log) ≡ length log
+  logged-length = rw (logged-words, length-append, length-drop, flat-length rs e) (omega (arith, fits))
+
+  pub logged-room : roomOf (logged rs log) ≡ roomOf log
+  logged-room = room-length log (logged rs log) logged-length
+
+  -- what was written is read back
+  pub logged-record : (k : ℕ) → k < length rs → recordAt (logged rs log) k ≡ getD rs k []
+  logged-record k h =
+      record-in (logged rs log) k (omega (arith, logged-room))
+      ∙ rw logged-words (flat-at rs k (drop (recordWords * length rs) log) e h)
+
+  -- the words behind the records
+  pub logged-rest : drop (recordWords * length rs) (logged rs log) ≡ drop (recordWords * length rs) log
+  logged-rest = rw logged-words (drop-at (flat rs) (drop (recordWords * length rs) log) (recordWords * length rs) (flat-length rs e))
+
+  behind : (k : ℕ) → length rs ≤ k → drop (recordWords * k) (logged rs log) ≡ drop (recordWords * k) log
+  behind k h =
+      let m = recordWords * length rs in
+      let d = recordWords * (k - length rs) in
+      let i : recordWords * k ≡ m + d = omega arith in
+      rw i (sym (drop-drop d m (logged rs log)) ∙ ap (drop d) logged-rest ∙ drop-drop d m log)
+
+  -- the records behind them
+  pub logged-beyond : (k : ℕ) → length rs ≤ k → recordAt (logged rs log) k ≡ recordAt log k
+  unfolding recordAt
+  logged-beyond k h = rw (logged-room, behind k h)
+
+  -- one record more
+  pub logged-more : (x : List ℕ) → length x ≡ recordWords → length rs < roomOf log → logged (rs ++ x ∷ []) log ≡ rewritten (logged rs log) (length rs) x
+  unfolding logged
+  logged-more x f h =
+      let w : flat (rs ++ x ∷ []) ≡ flat rs ++ x = flat-append rs (x ∷ []) ∙ ap (λ (l : List ℕ). flat rs ++ l) (flat-one x) in
+      let n : length (flat rs ++ x) ≡ recordWords * suc (length rs) = rw (length-append, flat-length rs e, f) (omega arith) in
+      let front : take (recordWords * length rs) (logged rs log) ≡ flat rs =
+      rw logged-words (take-at (flat rs) (drop (recordWords * length rs) log) (recordWords * length rs) (flat-length rs e)) in
+      rw (w, n) (sym (rewritten-in (logged rs log) (length rs) x (omega (arith, logged-room))
+      ∙ rw (front, behind (suc (length rs)) (omega arith))))
+
+-- ---- the records of a log as a list
+
+pub records-length : (log : List ℕ) (k m : ℕ) → length (records log k m) ≡ m
+unfolding records
+records-length log k zero = refl
+records-length log k (suc m) = ap suc (records-length log (suc k) m)
+
+pub records-at : (log : List ℕ) (k m i : ℕ) → i < m → getD (records log k m) i [] ≡ recordAt log (k + i)
+unfolding records
+records-at log k zero i h = absurd (omega arith)
+records-at log k (suc m) zero h = ap (recordAt log) (omega arith)
+records-at log k (suc m) (suc i) h = records-at log (suc k) m i (omega arith) ∙ ap (recordAt log) (omega arith)
+
+pub records-are : (log : List ℕ) (k m : ℕ) → k + m ≤ roomOf log → AreRecords (records log k m)
+unfolding records
+records-are log k zero h = tt
+records-are log k (suc m) h = (record-length log k (omega arith), records-are log (suc k) m (omega arith))
+
+-- records that agree with a list place by place are that list
+records-is : (log : List ℕ) (k : ℕ) (rs : List (List ℕ)) → ((i : ℕ) → i < length rs → recordAt log (k + i) ≡ getD rs i []) → records log k (length rs) ≡ rs
+unfolding records
+records-is log k [] f = refl
+records-is log k (x ∷ rs) f =
+    let a : recordAt log k ≡ x = ap (recordAt log) (omega arith) ∙ f 0 (omega arith) in
+    rw (a, records-is log (suc k) rs (λ i h. ap (recordAt log) (omega arith) ∙ f (suc i) (omega arith)))
+
+-- all that was written is read back
+pub logged-records : (rs : List (List ℕ)) (log : List ℕ) → AreRecords rs → length rs ≤ roomOf log → records (logged rs log) 0 (length rs) ≡ rs
+logged-records rs log e b = records-is (logged rs log) 0 rs (λ i h. ap (recordAt (logged rs log)) (omega arith) ∙ logged-record rs log e b i h)
+
+pub more-records : (rs : List (List ℕ)) (x : List ℕ) → AreRecords rs → length x ≡ recordWords → AreRecords (rs ++ x ∷ [])
+more-records [] x e f = (f, tt)
+more-records (y ∷ rs) x e f = (e .0, more-records rs x (e .1) f)
+
+-- ---- every word 0
+
+pub cleared-length : (log : List ℕ) → length (cleared log) ≡ length log
+unfolding cleared
+cleared-length log = length-replicate (length log) 0
+
+pub cleared-at : (log : List ℕ) (k : ℕ) → cleared log ! k ≡ 0
+unfolding cleared
+cleared-at log k = zeros (length log) k
+  where
+    zeros : (n k : ℕ) → _≡_ {A = ℕ} (getD (replicate n 0) k 0) 0
+    zeros zero k = refl
+    zeros (suc n) zero = refl
+    zeros (suc n) (suc k) = zeros n k

@@ -1,0 +1,12 @@
+-- `journal::room` meets its contract: it is the definition.
+use mathlib.Core.Path.{refl}
+use Rattle.journal.specs.Journal.{roomOf}
+use Rattle.journal.proofs.room.Statement.{statement}
+use Rattle.journal.proofs.room.Tie as tie
+
+returns : tie.Need-returns
+unfolding roomOf
+returns c = refl
+
+pub room-spec : {M : Type 1} → statement M
+room-spec = tie.close (tie.spec returns)
