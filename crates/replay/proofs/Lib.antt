@@ -3,3 +3,5 @@ pub mod Fates
 pub mod Sound
 pub mod Meaning
 pub mod Taken
+pub mod Logs
+pub mod Rows

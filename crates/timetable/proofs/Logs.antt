@@ -121,17 +121,17 @@ module _ (c : Call) where
       abbrev end : Settles n
       end = settled-logs n e
 
-      same-jobs : jobsOf next ≡ J
+      pub same-jobs : jobsOf next ≡ J
       same-jobs = ap (λ (m : ℕ). record { n = m; p = c .p; r = c .r; cap = c .cap }) (settled-logs n e .lengths .early)
 
-      word : a .says .word ≡ Word.settled
+      pub word : a .says .word ≡ Word.settled
       word = ap (λ (y : Said). y .word) e
 
       past : (xs : List ℕ) (k : ℕ) → length xs ≡ jobs (c .win) → (k < jobs (c .win) → ⊥) → xs ! k ≡ 0
       past xs k q b = List·getD-eq-default xs 0 (omega arith)
 
       -- the windows left are those of a good list
-      good-again : Good next
+      pub good-again : Good next
       unfolding Long
       good-again =
           let s = settled-logs n e in

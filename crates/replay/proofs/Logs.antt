@@ -1,0 +1,125 @@
+-- Laws over the two contracts: every log that narrowing writes is taken, replayed from the submitted windows, to the same end; replayed from the
+-- windows that it left it is rejected.
+use Prim.Native.Nat.{ℕ, zero, suc, _+_, _*_, _≤_, _<_}
+use native.Mathlib.Omega.{arith}
+use mathlib.Core.Path.{_≡_, refl, sym, ap, subst, _∙_}
+use mathlib.Core.Bool.{Bool, true, false}
+use mathlib.Core.List.{List, [], _∷_, map}
+use mathlib.Core.Logic.{_⊎_, inl, inr}
+use lib.ListN.{length}
+use lib.Dec.{ltb}
+use borrow.Author.Tests.{le-ltb}
+use Rattle.lists.specs.Lists.{_!_, Every}
+use Rattle.narrowing.specs.Windows.{Win, number}
+use Rattle.narrowing.specs.Run.{Move, Out, settled, clash, short, run}
+use Rattle.narrowing.proofs.Runs.{Bounded, run-bounded}
+use Rattle.answers.specs.Said.{Word, Said, said}
+use Rattle.members.specs.Members.{setWords, setOf}
+use Rattle.members.proofs.Sets.{setOf-length}
+use Rattle.journal.specs.Journal.{recordWords, roomOf, records, logged, AreRecords}
+use Rattle.journal.proofs.Records.{written-length, logged-room, logged-records}
+use Rattle.timetable.specs.Time.{Jobs, Applies}
+use Rattle.timetable.specs.Search.{search, entry, member}
+use Rattle.timetable.specs.Table.{Call, call, jobsOf, Good, refusalOf, After, ended}
+use Rattle.timetable.specs.Promise.{Narrows}
+use Rattle.timetable.proofs.Law.{lawful, searches}
+use Rattle.timetable.proofs.Meaning.{call-good, whole, not-said}
+use Rattle.timetable.proofs.Rows.{Case, cased, ran, settled-refused, clash-refused}
+use Rattle.replay.specs.Replay.{Verdict, holds, clashes, replay, Checked, finds, judged, refuses, rows, checked}
+use Rattle.replay.specs.Promise.{Checks}
+use Rattle.replay.proofs.Taken.{Replays, run-replays}
+
+entry-length : (J : Jobs) (m : Move) → length (entry J m) ≡ recordWords
+unfolding entry
+entry-length J m =
+    written-length (m .job) (number (m .side)) (m .choice) (setOf setWords (member J (m .before) (m .job) (m .choice)))
+    (setOf-length setWords (member J (m .before) (m .job) (m .choice)))
+
+entries : (J : Jobs) (ms : List Move) → AreRecords (map (entry J) ms)
+entries J [] = tt
+entries J (m ∷ ms) = (entry-length J m, entries J ms)
+
+many : {A B : Type 0} (f : A → B) (xs : List A) → length (map f xs) ≡ length xs
+many f [] = refl
+many f (x ∷ xs) = ap suc (many f xs)
+
+module _ (c : Call) where
+  abbrev J : Jobs
+  J = jobsOf c
+
+  -- the same call with the log that was left
+  abbrev pub after : List ℕ → Call
+  after log = call (c .win) (c .p) (c .r) (c .cap) log
+
+  module _ (g : Good c) (ms : List Move) (fits : length ms ≤ roomOf (c .log)) where
+    abbrev left : List ℕ
+    left = logged (map (entry J) ms) (c .log)
+
+    good-after : refusalOf (after left) ≡ 0
+    unfolding refusalOf
+    good-after = call-good c g
+
+    read-back : records left 0 (length ms) ≡ map (entry J) ms
+    read-back = ap (records left 0) (sym (many (entry J) ms)) ∙ logged-records (map (entry J) ms) (c .log) (entries J ms) (omega (arith, many (entry J) ms))
+
+    same-room : roomOf left ≡ roomOf (c .log)
+    same-room = logged-room (map (entry J) ms) (c .log) (entries J ms) (omega (arith, many (entry J) ms))
+
+    -- the checker replays just the records of the moves
+    checked-left : checked (after left) (length ms) ≡ judged (after left) (length ms) (replay J (c .win) 0 (map (entry J) ms))
+    unfolding checked rows
+    checked-left = rw (good-after, le-ltb (roomOf left) (length ms) (omega (arith, same-room)), read-back)
+
+  replays : Good c → Replays J (c .win) (ran c)
+  replays g = run-replays J (omega (arith, g .few)) (roomOf (c .log)) (c .win) (g .long) (g .within .1 .0)
+
+  module _ (a : After) (h : Narrows c a) (b : Checked) where
+    -- settled: holds, with the same count and windows
+    pub settled-taken : (n : ℕ) → a .says ≡ said Word.settled (n ∷ []) → Checks (after (a .log)) n b → b ≡ finds (said Word.holds (n ∷ [])) (a .win)
+    unfolding ended search
+    settled-taken n e k = go (cased c a h)
+      where
+        by-run : (g : Good c) (o : Out) → Replays J (c .win) o → Bounded (search J) (roomOf (c .log)) (c .win) o → a ≡ ended c o → b ≡ finds (said Word.holds (n ∷ [])) (a .win)
+        by-run g (settled U ms) r d q =
+            let z : length ms ≡ n = ap (λ (y : Said). y .numbers ! 0) (sym (ap (λ (y : After). y .says) q) ∙ e) in
+            let l : a .log ≡ logged (map (entry J) ms) (c .log) = ap (λ (y : After). y .log) q in
+            let w : a .win ≡ U = ap (λ (y : After). y .win) q in
+            k .answered
+            ∙ ap (λ (x : List ℕ). checked (after x) n) l
+            ∙ ap (checked (after (logged (map (entry J) ms) (c .log)))) (sym z)
+            ∙ checked-left g ms (d .1)
+            ∙ ap (judged (after (logged (map (entry J) ms) (c .log))) (length ms)) (r 0)
+            ∙ rw (z, w)
+        by-run g (clash j ms) r d q =
+            absurd (not-said Word.clash Word.settled (λ z. omega arith) (ap (λ (y : Said). y .word) (sym (ap (λ (y : After). y .says) q) ∙ e)))
+        by-run g short r d q = absurd (settled-refused c _ _ (sym (sym (ap (λ (y : After). y .says) q) ∙ e)))
+
+        go : Case c a → b ≡ finds (said Word.holds (n ∷ [])) (a .win)
+        go (inl (i, d, q)) = absurd (settled-refused c _ _ (sym (sym (ap (λ (y : After). y .says) q) ∙ e)))
+        go (inr (g, q)) =
+            by-run g (ran c) (replays g) (run-bounded (search J) (Applies J) (searches J) (lawful J) (roomOf (c .log)) (c .win) (g .long) (whole c g)) q
+
+    -- clash: the same count and job
+    pub clash-taken : (n j : ℕ) → a .says ≡ said Word.clash (n ∷ j ∷ []) → Checks (after (a .log)) n b → b ≡ finds (said Word.clash (n ∷ j ∷ [])) (c .win)
+    unfolding ended search
+    clash-taken n j e k = go (cased c a h)
+      where
+        by-run : (g : Good c) (o : Out) → Replays J (c .win) o → Bounded (search J) (roomOf (c .log)) (c .win) o → a ≡ ended c o → b ≡ finds (said Word.clash (n ∷ j ∷ [])) (c .win)
+        by-run g (settled U ms) r d q =
+            absurd (not-said Word.settled Word.clash (λ z. omega arith) (ap (λ (y : Said). y .word) (sym (ap (λ (y : After). y .says) q) ∙ e)))
+        by-run g (clash i ms) r d q =
+            let z : length ms ≡ n = ap (λ (y : Said). y .numbers ! 0) (sym (ap (λ (y : After). y .says) q) ∙ e) in
+            let v : i ≡ j = ap (λ (y : Said). y .numbers ! 1) (sym (ap (λ (y : After). y .says) q) ∙ e) in
+            let l : a .log ≡ logged (map (entry J) ms) (c .log) = ap (λ (y : After). y .log) q in
+            k .answered
+            ∙ ap (λ (x : List ℕ). checked (after x) n) l
+            ∙ ap (checked (after (logged (map (entry J) ms) (c .log)))) (sym z)
+            ∙ checked-left g ms (d .1)
+            ∙ ap (judged (after (logged (map (entry J) ms) (c .log))) (length ms)) (r 0)
+            ∙ rw (z, v)
+        by-run g short r d q = absurd (clash-refused c _ _ (sym (sym (ap (λ (y : After). y .says) q) ∙ e)))
+
+        go : Case c a → b ≡ finds (said Word.clash (n ∷ j ∷ [])) (c .win)
+        go (inl (i, d, q)) = absurd (clash-refused c _ _ (sym (sym (ap (λ (y : After). y .says) q) ∙ e)))
+        go (inr (g, q)) =
+            by-run g (ran c) (replays g) (run-bounded (search J) (Applies J) (searches J) (lawful J) (roomOf (c .log)) (c .win) (g .long) (whole c g)) q
