@@ -5,3 +5,4 @@ pub mod Meaning
 pub mod Taken
 pub mod Logs
 pub mod Rows
+pub mod Again

@@ -35,11 +35,11 @@ entry-length J m =
     written-length (m .job) (number (m .side)) (m .choice) (setOf setWords (member J (m .before) (m .job) (m .choice)))
     (setOf-length setWords (member J (m .before) (m .job) (m .choice)))
 
-entries : (J : Jobs) (ms : List Move) → AreRecords (map (entry J) ms)
+pub entries : (J : Jobs) (ms : List Move) → AreRecords (map (entry J) ms)
 entries J [] = tt
 entries J (m ∷ ms) = (entry-length J m, entries J ms)
 
-many : {A B : Type 0} (f : A → B) (xs : List A) → length (map f xs) ≡ length xs
+pub many : {A B : Type 0} (f : A → B) (xs : List A) → length (map f xs) ≡ length xs
 many f [] = refl
 many f (x ∷ xs) = ap suc (many f xs)
 

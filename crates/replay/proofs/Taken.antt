@@ -29,7 +29,7 @@ use Rattle.replay.specs.Codes.{jobOf, side, timeOf, isMember, named, Own
 use Rattle.replay.specs.Replay.{changed, Verdict, holds, clashes, replay}
 use Rattle.replay.proofs.Codes.{record-good}
 
-side-number : (s : Side) → sideOf (number s) ≡ s
+pub side-number : (s : Side) → sideOf (number s) ≡ s
 side-number early = refl
 side-number late = refl
 
