@@ -1,0 +1,171 @@
+-- The wrong versions that document 01 names under 'How firm the statements are', each refuted by the promise that 01 names for it, without the
+-- help of `answered`: so no promise is empty.
+use Prim.Native.Nat.{ℕ, zero, suc, _+_, _≤_, _<_}
+use native.Mathlib.Omega.{arith}
+use native.Mathlib.Decide.{decLt}
+use mathlib.Core.Path.{_≡_, refl, sym, ap, subst, _∙_}
+use mathlib.Core.Bool.{Bool, true, false}
+use mathlib.Core.List.{List, [], _∷_, _++_}
+use mathlib.Core.Logic.{_⊎_, inl, inr}
+use Rattle.lists.specs.Lists.{_!_}
+use Rattle.lists.specs.Tests.{only}
+use Rattle.narrowing.specs.Windows.{Win, Side, early, late}
+use Rattle.answers.specs.Said.{Word, Said, said}
+use Rattle.members.specs.Members.{has, onesOf}
+use Rattle.journal.specs.Journal.{roomOf, recordAt}
+use Rattle.timetable.specs.Time.{Jobs, Runs, runs, drawn, Fits, Early, Crowded}
+use Rattle.timetable.specs.Search.{crowded}
+use Rattle.timetable.specs.Reason.{Stated, namedDrawn, Within}
+use Rattle.timetable.specs.Table.{Call, jobsOf, Good, refusalOf, After, narrowed}
+use Rattle.timetable.specs.Promise.{Scheduled, needs, Room, Kept, Narrowest, Narrows}
+use Rattle.timetable.proofs.Facts.{crowded-yes, runs-yes}
+use Rattle.timetable.proofs.Meaning.{good-call, not-said}
+use Rattle.timetable.proofs.Rows.{clash-count}
+use Rattle.replay.specs.Replay.{changed, Checked, finds}
+use Rattle.replay.specs.Fate.{reached}
+use Rattle.replay.specs.Promise.{taken, Reasoned, Checks}
+use Rattle.replay.proofs.Logs.{after, settled-taken}
+use Rattle.worked.specs.Rows.{job, line, windows}
+use Rattle.worked.specs.Cases.{lent}
+use Rattle.worked.specs.Checks.{with, pair}
+
+-- cases 2, 5 and 6 of the runs on the record
+abbrev case2 : Call
+case2 = lent 5 (job 2 10 3 2 ∷ job 2 7 3 2 ∷ job 2 8 4 2 ∷ []) 1
+
+abbrev case5 : Call
+case5 = lent 1 (job 0 2 2 1 ∷ job 2 4 2 1 ∷ []) 8
+
+abbrev case6 : Call
+case6 = lent 1 (job 0 3 1 2 ∷ []) 3
+
+-- ---- refusing every list: with room for the work the answer is settled or clash
+
+good5 : Good case5
+unfolding refusalOf
+good5 = good-call case5 refl
+
+room5 : Room case5
+unfolding needs roomOf
+room5 = omega arith
+
+pub refusing-all : (a : After) → (Good case5 → Narrowest case5 a) → a .says .word ≡ Word.refused → ⊥
+refusing-all a h e = go (h good5 .decided room5)
+  where
+    go : (a .says .word ≡ Word.settled) ⊎ (a .says .word ≡ Word.clash) → ⊥
+    go (inl x) = not-said Word.settled Word.refused (λ z. omega arith) (sym x ∙ e)
+    go (inr x) = not-said Word.clash Word.refused (λ z. omega arith) (sym x ∙ e)
+
+-- ---- settling everything with nothing moved: on case 2 a rule still applies
+
+good2 : Good case2
+unfolding refusalOf
+good2 = good-call case2 refl
+
+crowded2 : crowded (jobsOf case2) (case2 .win) 0 4 ≡ true
+unfolding crowded
+crowded2 = refl
+
+rule2 : Early (jobsOf case2) (case2 .win) 0 4
+rule2 = record { from = omega arith; to = omega arith; crowded = crowded-yes (jobsOf case2) (case2 .win) 0 4 crowded2 }
+
+pub settling-all : (a : After) → (Good case2 → Narrowest case2 a) → a .says .word ≡ Word.settled → a .win ≡ case2 .win → ⊥
+unfolding Rattle.narrowing.specs.Rules.Stable
+settling-all a h e w = (rw w at (h good2 .settled e)) .one .stable 0 early 5 (omega arith) rule2
+
+-- ---- clashing always: case 5 has a schedule, 0 and 2
+
+fits5 : Fits (jobsOf case5) (0 ∷ 2 ∷ [])
+unfolding Fits drawn Rattle.lists.specs.Sums.total
+fits5 t = go (runs (2 ∷ 2 ∷ []) (0 ∷ 2 ∷ []) 0 t) refl (runs (2 ∷ 2 ∷ []) (0 ∷ 2 ∷ []) 1 t) refl
+  where
+    go : (x : Bool) → runs (2 ∷ 2 ∷ []) (0 ∷ 2 ∷ []) 0 t ≡ x → (y : Bool) → runs (2 ∷ 2 ∷ []) (0 ∷ 2 ∷ []) 1 t ≡ y → 0 + only x 1 + only y 1 ≤ 1
+    go true a true b = absurd (let q = runs-yes (2 ∷ 2 ∷ []) (0 ∷ 2 ∷ []) 0 t a in let r = runs-yes (2 ∷ 2 ∷ []) (0 ∷ 2 ∷ []) 1 t b in omega (arith, q .to, r .from))
+    go true a false b = omega arith
+    go false a true b = omega arith
+    go false a false b = omega arith
+
+schedule5 : Scheduled case5 (case5 .win) (0 ∷ 2 ∷ [])
+schedule5 = record { from = from; to = to; fits = fits5 }
+  where
+    from : (k : ℕ) → k < 2 → case5 .win .e ! k ≤ (0 ∷ 2 ∷ []) ! k
+    from zero b = omega arith
+    from (suc zero) b = omega arith
+    from (suc (suc k)) b = absurd (omega arith)
+
+    to : (k : ℕ) → k < 2 → (0 ∷ 2 ∷ []) ! k + case5 .p ! k ≤ case5 .win .l ! k
+    to zero b = omega arith
+    to (suc zero) b = omega arith
+    to (suc (suc k)) b = absurd (omega arith)
+
+pub clashing-always : (a : After) → Kept case5 a → a .says .word ≡ Word.clash → ⊥
+clashing-always a h e = h .none e (0 ∷ 2 ∷ []) schedule5
+
+-- ---- an invented count: case 6 needs three records
+
+needs6 : needs case6 ≡ 3
+unfolding needs
+needs6 = refl
+
+pub invented-count : (a : After) → Narrows case6 a → a .says ≡ said Word.clash (1 ∷ 0 ∷ []) → ⊥
+invented-count a h e = omega (arith, clash-count case6 a h 1 0 e, needs6)
+
+-- ---- one record that carries a whole run: on case 6 the first record moves the earliest start to 1 and no further
+
+pub whole-run : changed (case6 .win) (line 0 0 0 0 0) .e ! 0 ≡ 3 → ⊥
+unfolding changed
+whole-run e = omega arith
+
+-- ---- a checker that takes all: a record with no members on case 5 does not imply its change
+
+abbrev alone : Call
+alone = with 1 (job 0 2 2 1 ∷ job 2 4 2 1 ∷ []) (line 0 0 1 0 0)
+
+not-implied : Reasoned alone 0 → ⊥
+unfolding recordAt has namedDrawn runs
+not-implied r =
+    omega (
+      arith,
+      r .implies (0 ∷ 9 ∷ []) (record { members = λ k b h. let z : _≡_ {A = ℕ} 0 1 = cc (none k b h) in absurd (omega arith); own = omega arith }) (omega arith),
+    )
+  where
+    none : (k : ℕ) → k < 2 → has (0 ∷ 0 ∷ 0 ∷ 0 ∷ 0 ∷ 0 ∷ 0 ∷ 0 ∷ []) k ≡ true → true ≡ false
+    none zero b h = sym h
+    none (suc zero) b h = sym h
+    none (suc (suc k)) b h = absurd (omega arith)
+
+pub taking-all : (a : Checked) → ((i : ℕ) → i < taken (a .says) → Reasoned alone i) → a .says ≡ said Word.holds (1 ∷ []) → ⊥
+taking-all a h e = not-implied (h 0 (rw e (omega arith)))
+
+-- ---- a checker against the final windows: it would take the records of 004's Example 4.1 in the other order, whose first states what is not yet so
+
+abbrev turned : Call
+turned = with 2 pair (line 1 1 5 1 1 ++ line 0 0 4 1 2)
+
+not-there : Reasoned turned 0 → ⊥
+unfolding recordAt has reached
+not-there r = omega (arith, r .true-there (3 ∷ 2 ∷ []) (record { from = from; to = to }) .members 0 (omega arith) refl .0)
+  where
+    from : (k : ℕ) → k < 2 → turned .win .e ! k ≤ (3 ∷ 2 ∷ []) ! k
+    from zero b = omega arith
+    from (suc zero) b = omega arith
+    from (suc (suc k)) b = absurd (omega arith)
+
+    to : (k : ℕ) → k < 2 → (3 ∷ 2 ∷ []) ! k + turned .p ! k ≤ turned .win .l ! k
+    to zero b = omega arith
+    to (suc zero) b = omega arith
+    to (suc (suc k)) b = absurd (omega arith)
+
+pub final-windows : (a : Checked) → ((i : ℕ) → i < taken (a .says) → Reasoned turned i) → a .says ≡ said Word.holds (2 ∷ []) → ⊥
+final-windows a h e = not-there (h 0 (rw e (omega arith)))
+
+-- ---- a checker that rejects all: case 2's log is taken
+
+said2 : narrowed case2 .says ≡ said Word.settled (1 ∷ [])
+unfolding narrowed
+said2 = refl
+
+pub rejecting-all : (a : After) → Narrows case2 a → (b : Checked) → Checks (after case2 (a .log)) 1 b → b .says .word ≡ Word.rejected → ⊥
+rejecting-all a h b k e =
+    let t = settled-taken case2 a h b 1 (ap (λ (x : After). x .says) (h .answered) ∙ said2) k in
+    not-said Word.holds Word.rejected (λ z. omega arith) (sym (ap (λ (x : Checked). x .says .word) t) ∙ e)
