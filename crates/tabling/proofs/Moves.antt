@@ -1,0 +1,95 @@
+-- What the search and a move give to those who call them: an answer is the time at which a rule applies, that time is small, and windows that
+-- moved and did not close are good again.
+use Prim.Native.Nat.{ℕ, zero, suc, _+_, _≤_, _<_}
+use native.Mathlib.Omega.{arith}
+use mathlib.Core.Path.{_≡_, refl, subst}
+use mathlib.Core.Bool.{false}
+use mathlib.Core.List.{List}
+use mathlib.Core.Option.{Option, none, some}
+use lib.ListN.{length-set}
+use Rattle.lists.specs.Lists.{_!_}
+use Rattle.lists.proofs.Lists.{set-any}
+use Rattle.narrowing.specs.Windows.{Win, Side, early, late, number, Long, closes, moved, sideOf}
+use Rattle.narrowing.specs.Run as run
+use Rattle.narrowing.proofs.Moves.{long-after}
+use Rattle.joblist.specs.Limits.{jobs, mostTime}
+use Rattle.timetable.specs.Time.{Jobs, Applies, bound}
+use Rattle.timetable.specs.Search.{best, search}
+use Rattle.timetable.specs.Table.{Call, call, jobsOf, Good}
+use Rattle.timetable.proofs.Law.{searches}
+use Rattle.tabling.specs.declared.Found.{Found}
+use Rattle.tabling.specs.Found.{found}
+
+-- ---- answers
+
+pub found-some : (x : Option ℕ) (t : ℕ) → found x ≡ Found.At t → x ≡ some t
+found-some none t h = cc
+found-some (some u) t h = cc
+
+pub found-none : (x : Option ℕ) → found x ≡ Found.Nothing → x ≡ none
+found-none none h = refl
+found-none (some u) h = cc
+
+-- the numbers of the two sides
+pub side-of-number : (s : Side) → sideOf (number s) ≡ s
+side-of-number early = refl
+side-of-number late = refl
+
+pub number-of-side : (k : ℕ) → k ≤ 1 → number (sideOf k) ≡ k
+number-of-side zero h = refl
+number-of-side (suc k) h = omega arith
+
+-- ---- the search
+
+module _ (c : Call) (g : Good c) (j : ℕ) (s : Side) (b : j < jobs (c .win)) where
+  best-is : run.Found (Applies (jobsOf c) (c .win) j s) (bound s) (best (jobsOf c) (c .win) j s)
+  unfolding search
+  best-is = searches (jobsOf c) .best-is (c .win) j s (g .long) b
+
+  -- the time found is one at which the rule applies
+  pub best-applies : (t : ℕ) → best (jobsOf c) (c .win) j s ≡ some t → Applies (jobsOf c) (c .win) j s (bound s t)
+  best-applies t h = subst (run.Found (Applies (jobsOf c) (c .win) j s) (bound s)) h best-is
+
+  -- where none is found the rule applies nowhere
+  pub best-rests : best (jobsOf c) (c .win) j s ≡ none → (d : ℕ) → Applies (jobsOf c) (c .win) j s d → ⊥
+  best-rests h = subst (run.Found (Applies (jobsOf c) (c .win) j s) (bound s)) h best-is
+
+-- ---- a move
+
+-- a rule's time lies before the job's latest end
+pub time-before : (J : Jobs) (W : Win) (j : ℕ) (s : Side) (t : ℕ) → W .e ! j + J .p ! j ≤ W .l ! j → Applies J W j s (bound s t) → t < W .l ! j
+time-before J W j early t h a = omega (arith, a .to)
+time-before J W j late t h a = a .to
+
+module _ (W : Win) (p r : List ℕ) (cap : ℕ) (log : List ℕ) (g : Good (call W p r cap log)) where
+  -- so it is small
+  pub time-small : (j : ℕ) (s : Side) (t : ℕ) → j < jobs W → Applies (jobsOf (call W p r cap log)) W j s (bound s t) → t < mostTime
+  unfolding Long
+  time-small j s t b a = omega (arith, time-before (jobsOf (call W p r cap log)) W j s t (g .long j b) a, g .within .1 .0 j)
+
+  bound-small : (s : Side) (t : ℕ) → t < mostTime → bound s t ≤ mostTime
+  bound-small early t h = h
+  bound-small late t h = omega arith
+
+  -- windows whose bound moved to a time within the limit, and that did not close, are good
+  pub moved-good : (j : ℕ) (s : Side) (d : ℕ) → d ≤ mostTime → closes p (moved W j s d) j ≡ false → (after : List ℕ)
+      → Good (call (moved W j s d) p r cap after)
+  moved-good j early d m h after = record {
+    sized = simp length-set (g .sized);
+    few = simp length-set (g .few);
+    within = (λ k. set-any (λ (x : ℕ). x ≤ mostTime) (W .e) j d k (λ q. m) (g .within .0 k), g .within .1);
+    beside = g .beside;
+    long = simp length-set (long-after (jobs W) p W j early d (g .long) h);
+  }
+  moved-good j late d m h after = record {
+    sized = simp length-set (g .sized);
+    few = g .few;
+    within = (g .within .0, (λ k. set-any (λ (x : ℕ). x ≤ mostTime) (W .l) j d k (λ q. m) (g .within .1 .0 k), g .within .1 .1));
+    beside = g .beside;
+    long = long-after (jobs W) p W j late d (g .long) h;
+  }
+
+  -- after a rule's move that closed nothing the list is good again, whatever the log
+  pub good-after : (j : ℕ) (s : Side) (t : ℕ) → j < jobs W → Applies (jobsOf (call W p r cap log)) W j s (bound s t)
+      → closes p (moved W j s (bound s t)) j ≡ false → (after : List ℕ) → Good (call (moved W j s (bound s t)) p r cap after)
+  good-after j s t b a h after = moved-good j s (bound s t) (bound-small s t (time-small j s t b a)) h after

@@ -1,0 +1,3 @@
+pub mod Side
+pub mod Found
+pub mod Search
