@@ -1,0 +1,83 @@
+-- The call's answer is the answer table's: a refusal by tests 1 to 4, else what the work leaves, with the windows as submitted unless it settled,
+-- and the log cleared where the room is short.
+use Prim.Native.Nat.{ℕ, zero, suc}
+use native.Mathlib.Omega.{arith}
+use mathlib.Core.Path.{_≡_, refl, sym, ap, ap₂, subst, _∙_}
+use mathlib.Core.List.{List, [], _∷_, _++_}
+use lib.ListN.{length, take}
+use lib.Seq.{take-at}
+use Rattle.narrowing.specs.Windows.{Win, win}
+use Rattle.narrowing.specs.Run.{Out, settled, clash, short}
+use Rattle.answers.specs.declared.Answer.{Answer}
+use Rattle.answers.specs.Said.{Word, said, says}
+use Rattle.journal.specs.Journal.{cleared}
+use Rattle.joblist.specs.Limits.{fourLists, supply}
+use Rattle.joblist.specs.GoodList.{refusal}
+use Rattle.timetable.specs.Table.{Call, call, Good, refusalOf, After, leaves, ended, tabled, narrowed}
+use Rattle.timetable.specs.Promise.{Narrows}
+use Rattle.timetable.proofs.Meaning.{good-call, narrows}
+use Rattle.planner.specs.Work.{WorkLeaves, ran}
+
+-- what narrowing leaves, by the work's answer: the windows, and the log
+abbrev pub winBy : Call → Answer → Win → Win
+winBy c (Answer.Settled n) W = W
+winBy c (Answer.Clash n j) W = c .win
+winBy c (Answer.Refused k) W = c .win
+
+abbrev pub logBy : Call → Answer → List ℕ → List ℕ
+logBy c (Answer.Settled n) log = log
+logBy c (Answer.Clash n j) log = log
+logBy c (Answer.Refused k) log = cleared (c .log)
+
+-- a copy at the front of an array
+pub front : (n : ℕ) (xs zs array : List ℕ) → length xs ≡ n → array ≡ xs ++ zs → take n array ≡ xs
+front n xs zs array h e = rw e (take-at xs zs n h)
+
+-- a cleared log is known by its length
+pub cleared-same : (a b : List ℕ) → length a ≡ length b → cleared a ≡ cleared b
+unfolding cleared
+cleared-same a b e = rw e
+
+module _ (c : Call) where
+  by-refusal : (k : ℕ) → (k ≡ 0 → ⊥) → tabled c k ≡ leaves (said Word.refused (k ∷ [])) (c .win) (c .log)
+  unfolding tabled
+  by-refusal zero h = absurd (h refl)
+  by-refusal (suc k) h = refl
+
+  by-run : (k : ℕ) → k ≡ 0 → tabled c k ≡ ended c (ran c)
+  unfolding tabled ran
+  by-run k h = rw h
+
+  -- the code's refusal, in the table's words
+  abbrev pub Number : ℕ → Type 0
+  Number k = k ≡ refusal (c .win) (c .p) (fourLists (c .win) (c .p) (c .r)) (supply (c .cap))
+
+  number-is : (k : ℕ) → Number k → k ≡ refusalOf c
+  unfolding refusalOf
+  number-is k e = e
+
+  -- none of the tests 1 to 4 fails
+  pub accepted : (k : ℕ) → Number k → k ≡ 0 → Good c
+  accepted k e z = good-call c (sym (number-is k e) ∙ z)
+
+  -- one of them does
+  pub refused : (k : ℕ) → Number k → (k ≡ 0 → ⊥) → Narrows c (leaves (says (Answer.Refused k)) (c .win) (c .log))
+  unfolding narrowed
+  refused k e h = subst (Narrows c) (ap (tabled c) (sym (number-is k e)) ∙ by-refusal k h) (narrows c)
+
+  -- the work is done
+  pub finished : (k : ℕ) → Number k → k ≡ 0 → (a : Answer) (W : Win) (log : List ℕ) → WorkLeaves c (ran c) a W log → Narrows c (leaves (says a) (winBy c a W) (logBy c a log))
+  unfolding narrowed ended
+  finished k e z a W log h = subst (Narrows c) (by-run (refusalOf c) (sym (number-is k e) ∙ z) ∙ go (ran c) h) (narrows c)
+    where
+      go : (o : Out) → WorkLeaves c o a W log → ended c o ≡ leaves (says a) (winBy c a W) (logBy c a log)
+      go (settled U ms) x = rw (x .0, x .1, x .2)
+      go (clash j ms) x = rw (x .0, x .1)
+      go short x = rw x
+
+  -- the same, where it was done on copies of the windows
+  pub worked : (k : ℕ) → Number k → k ≡ 0 → (a : Answer) (E L : List ℕ) (W : Win) (log : List ℕ) → E ≡ c .win .e → L ≡ c .win .l
+      → WorkLeaves (call (win E L) (c .p) (c .r) (c .cap) (c .log)) (ran (call (win E L) (c .p) (c .r) (c .cap) (c .log))) a W log
+      → Narrows c (leaves (says a) (winBy c a W) (logBy c a log))
+  worked k n z a E L W log e l h =
+      finished k n z a W log (subst (λ (U : Win). WorkLeaves (call U (c .p) (c .r) (c .cap) (c .log)) (ran (call U (c .p) (c .r) (c .cap) (c .log))) a W log) (ap₂ win e l) h)

@@ -1,0 +1,5 @@
+pub mod Going
+pub mod Named
+pub mod Written
+pub mod Reached
+pub mod Answered

@@ -1,0 +1,163 @@
+//! Calls that check: the writer's own logs, foreign logs that hold or clash,
+//! and either of them with records spoiled for each of the codes.
+
+use crate::calls::faults;
+use crate::calls::narrowing::{busy_lists, ragged, words};
+use crate::joblist::{good_jobs, Supply, Times, MOST_TIME};
+use crate::lines::Call;
+use crate::random::Random;
+use crate::record::{room, Members, Record, MEMBER_BITS, RECORD_WORDS};
+use crate::replay::Replay;
+use crate::timetable::{sure_others, Side};
+
+/// A true reason to move a job drawn at random, if there is one at the time
+/// drawn, with members left out as long as the rest exceeds the capacity.
+fn foreign_record(random: &mut Random, reached: &Replay, supply: &Supply) -> Option<Record> {
+    let jobs = &reached.jobs;
+    let j = random.below(jobs.len());
+    let job = jobs[j];
+    let duration = usize::try_from(job.p).ok().filter(|&p| p > 0)?;
+    let ahead = random.below(duration) as i64;
+    let (side, time) = match random.below(2) {
+        0 => (Side::Start, job.e + ahead),
+        _ => (Side::End, job.l - job.p + ahead),
+    };
+    let mut members = Members::default();
+    let mut named = job.r;
+    for k in sure_others(jobs, j, time) {
+        members.put(k);
+        named += jobs[k].r;
+    }
+    for k in members.numbers() {
+        if named - jobs[k].r > i64::from(supply.cap) && !random.one_in(3) {
+            members.drop(k);
+            named -= jobs[k].r;
+        }
+    }
+    let record = Record {
+        job: j as u32,
+        side: side.word(),
+        time: u32::try_from(time).ok()?,
+        count: members.ones(),
+        members,
+    };
+    reached.clone().take(&record).ok().map(|()| record)
+}
+
+/// A log by another hand, in another order and with other times and members.
+fn foreign_records(random: &mut Random, times: &Times, supply: &Supply) -> Vec<Record> {
+    let jobs = good_jobs(times, supply).unwrap_or_default();
+    let mut reached = Replay::new(jobs, supply);
+    let mut records = Vec::new();
+    let tries = if reached.jobs.is_empty() { 0 } else { 40 };
+    for _ in 0..tries {
+        if reached.closed.is_some() {
+            break;
+        }
+        if let Some(record) = foreign_record(random, &reached, supply) {
+            reached.take(&record).expect("it was taken before");
+            records.push(record);
+        }
+    }
+    records
+}
+
+fn other_word(random: &mut Random, word: u32) -> u32 {
+    match random.below(6) {
+        0 => word.wrapping_add(1),
+        1 => word.wrapping_sub(1),
+        2 => word ^ (1 << random.below(32)),
+        3 => random.word(),
+        _ => random.between(0, 9),
+    }
+}
+
+fn with_other_word(random: &mut Random, record: &Record) -> Record {
+    let mut words = record.words();
+    let place = random.below(RECORD_WORDS);
+    words[place] = other_word(random, words[place]);
+    Record::from_words(&words)
+}
+
+fn with_other_members(random: &mut Random, record: &mut Record, jobs: usize) {
+    for _ in 0..random.between(1, 3) {
+        let k = random.below((jobs + 2).min(MEMBER_BITS));
+        match record.members.numbers().first() {
+            Some(&first) if random.one_in(2) => record.members.drop(first),
+            _ => record.members.put(k),
+        }
+    }
+    record.count = record.members.ones();
+}
+
+fn near(random: &mut Random, word: u32) -> u32 {
+    word.wrapping_add(random.between(0, 6)).wrapping_sub(3)
+}
+
+/// One record changed so that it is bad, or good for another reason.
+fn changed(random: &mut Random, record: &Record, jobs: usize) -> Record {
+    let mut changed = record.clone();
+    match random.below(11) {
+        0..=2 => return with_other_word(random, record),
+        3 => changed.job = random.pick(&[jobs as u32, jobs as u32 + 1, MEMBER_BITS as u32]),
+        4 => changed.job = random.below(jobs + 1) as u32,
+        5 => changed.side = random.between(0, 3),
+        6 => changed.time = random.pick(&[0, MOST_TIME, MOST_TIME + 1, u32::MAX]),
+        7 => changed.time = near(random, changed.time),
+        8 => changed.count = near(random, changed.count),
+        _ => with_other_members(random, &mut changed, jobs),
+    }
+    changed
+}
+
+fn spoil(random: &mut Random, records: &mut Vec<Record>, jobs: usize) {
+    if records.is_empty() {
+        let words = words(random, RECORD_WORDS);
+        records.push(Record::from_words(&words));
+        return;
+    }
+    let place = random.below(records.len());
+    match random.below(12) {
+        0..=1 => {
+            let again = records[place].clone();
+            records.push(again);
+        }
+        2 => {
+            let last = records.len() - 1;
+            records.swap(place, last);
+        }
+        3 => drop(records.remove(place)),
+        _ => records[place] = changed(random, &records[place], jobs),
+    }
+}
+
+/// The count claimed: mostly as it should be, else less, more, or numbers
+/// whose product with the record's length would wrap.
+fn claimed(random: &mut Random, records: usize, log: &[u32]) -> u64 {
+    let (records, room) = (records as u64, room(log) as u64);
+    match random.below(24) {
+        0 => random.long() % (records + 1),
+        1 => room,
+        2 => room + 1,
+        3 => random.pick(&[1 << 32, 1 << 62, (1 << 62) + records, u64::MAX]),
+        _ => records,
+    }
+}
+
+pub fn call(random: &mut Random) -> Call {
+    let (mut times, mut supply, mut records) = busy_lists(random);
+    if random.one_in(3) {
+        records = foreign_records(random, &times, &supply);
+    }
+    for _ in 0..random.pick(&[0, 1, 1, 1, 2]) {
+        spoil(random, &mut records, times.est.len());
+    }
+    let mut log: Vec<u32> = records.iter().flat_map(Record::words).collect();
+    let beyond = random.pick(&[0, 0, 1, 2]) * RECORD_WORDS + ragged(random);
+    log.extend(words(random, beyond));
+    let count = claimed(random, records.len(), &log);
+    if random.one_in(16) {
+        faults::spoil(random, &mut times, &mut supply);
+    }
+    Call::Check(times, supply, count, log)
+}

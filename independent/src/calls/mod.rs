@@ -1,0 +1,40 @@
+//! Calls made from a seed, so that two programs can be asked the same: every
+//! answer, refusal and code comes up, and so do lines that cannot be read.
+
+mod checking;
+mod faults;
+mod lists;
+mod narrowing;
+mod odd;
+mod others;
+mod shapes;
+
+use crate::lines::Call;
+use crate::random::Random;
+
+/// A call of any kind that is written as it should be.
+fn well_written(random: &mut Random) -> Call {
+    match random.below(100) {
+        0..=36 => narrowing::call(random),
+        37..=77 => checking::call(random),
+        78..=94 => others::overload(random),
+        _ => others::record(random),
+    }
+}
+
+/// The bytes of one line, without its line feed.
+fn line(random: &mut Random) -> Vec<u8> {
+    match random.below(1_000) {
+        0..=1 => odd::at_a_limit_of_the_line(random),
+        2..=49 => {
+            let line = well_written(random).line();
+            odd::edited(random, line.into_bytes())
+        }
+        _ => well_written(random).line().into_bytes(),
+    }
+}
+
+pub fn lines(seed: u64, count: u64) -> impl Iterator<Item = Vec<u8>> {
+    let mut random = Random::new(seed);
+    (0..count).map(move |_| line(&mut random))
+}

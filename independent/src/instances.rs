@@ -1,0 +1,158 @@
+//! Calls for instances: one resource within a horizon, the machines of a
+//! job-shop, and all calls for a folder of published files and made ones.
+
+use crate::answers::Answer;
+use crate::joblist::{Supply, Times};
+use crate::lines::Call;
+use crate::project::Project;
+use crate::record::RECORD_WORDS;
+use crate::timetable::narrow;
+use crate::{layouts, make};
+use std::path::{Path, PathBuf};
+
+/// No call gets a log for more records.
+const MOST_ROOM: usize = 2_000;
+const MADE: u64 = 100;
+
+/// The count and the words of the run's records; none where they are too many.
+fn run_log(times: &Times, supply: &Supply) -> (usize, Vec<u32>) {
+    let mut log = vec![0; MOST_ROOM * RECORD_WORDS];
+    match narrow(&mut times.clone(), supply, &mut log) {
+        Answer::Settled(count) | Answer::Clash(count, _) => {
+            log.truncate(count * RECORD_WORDS);
+            (count, log)
+        }
+        _ => (0, Vec::new()),
+    }
+}
+
+/// The times of the jobs that ask for the resource.
+fn asking(project: &Project, times: &Times, resource: usize) -> Times {
+    let mut asking = Times::default();
+    for (k, job) in project.jobs.iter().enumerate() {
+        if job.demands[resource] >= 1 {
+            asking.push(times.est[k], times.lct[k], times.dur[k]);
+        }
+    }
+    asking
+}
+
+/// Narrowing with room for a record more than the run has, the check of the
+/// run's own log, and the overload check.
+pub fn resource_calls(
+    project: &Project,
+    resource: usize,
+    horizon: u32,
+) -> Result<Vec<Call>, String> {
+    let cap = *project.caps.get(resource).ok_or("no such resource")?;
+    let times = project.windows(horizon)?;
+    let dem = project.jobs.iter().map(|job| job.demands[resource]);
+    let dem = dem.collect();
+    let supply = Supply { cap, dem };
+    let (count, log) = run_log(&times, &supply);
+    let empty = vec![0; log.len() + RECORD_WORDS];
+    Ok(vec![
+        Call::Narrow(times.clone(), supply.clone(), empty),
+        Call::Check(times.clone(), supply, count as u64, log),
+        Call::Overload(asking(project, &times, resource)),
+    ])
+}
+
+/// The overload check of every machine.
+pub fn machine_calls(project: &Project, horizon: u32) -> Result<Vec<Call>, String> {
+    let times = project.windows(horizon)?;
+    let machines = 0..project.caps.len();
+    let call = |machine| Call::Overload(asking(project, &times, machine));
+    Ok(machines.map(call).collect())
+}
+
+fn horizon(value: u64) -> Result<u32, String> {
+    u32::try_from(value).map_err(|_| "the horizon is too long".to_string())
+}
+
+/// Every resource, with the longest chain as horizon, a tenth and a half above it.
+fn project_calls(project: &Project) -> Result<Vec<Call>, String> {
+    let chain = project.longest_chain()?;
+    let mut calls = Vec::new();
+    for long in [chain, chain + chain.div_ceil(10), chain + chain.div_ceil(2)] {
+        for resource in 0..project.caps.len() {
+            calls.extend(resource_calls(project, resource, horizon(long)?)?);
+        }
+    }
+    Ok(calls)
+}
+
+/// The least horizon ruled out neither by a chain nor by the work of a whole
+/// machine: all of it comes after the shortest time before one of its jobs and
+/// leaves the shortest time after one.
+fn least_horizon(project: &Project) -> Result<u64, String> {
+    let chain = project.longest_chain()?;
+    let times = project.windows(horizon(chain)?)?;
+    let mut least = chain;
+    for machine in 0..project.caps.len() {
+        let work = asking(project, &times, machine);
+        let total: u64 = work.dur.iter().map(|&duration| u64::from(duration)).sum();
+        let before = u64::from(work.est.iter().min().copied().unwrap_or(0));
+        let after = chain - u64::from(work.lct.iter().max().copied().unwrap_or(0));
+        least = least.max(before + total + after);
+    }
+    Ok(least)
+}
+
+/// Horizons of a job-shop: one that fits for certain, the least that may fit,
+/// and two that do not, by one and by a tenth.
+pub fn jobshop_horizons(project: &Project) -> Result<[u32; 4], String> {
+    let durations = project.jobs.iter().map(|job| u64::from(job.duration));
+    let all = durations.sum();
+    let least = least_horizon(project)?;
+    let wanted = [all, least, least.saturating_sub(1), least - least / 10];
+    let [fits, may_fit, less, tight] = wanted.map(horizon);
+    Ok([fits?, may_fit?, less?, tight?])
+}
+
+fn jobshop_calls(project: &Project) -> Result<Vec<Call>, String> {
+    let mut calls = Vec::new();
+    for horizon in jobshop_horizons(project)? {
+        calls.extend(machine_calls(project, horizon)?);
+    }
+    Ok(calls)
+}
+
+pub fn file_text(path: &Path) -> Result<String, String> {
+    std::fs::read_to_string(path).map_err(|why| format!("{}: {why}", path.display()))
+}
+
+/// The files of a folder whose names end so, in the order of their names.
+fn files(dir: &Path, ending: &str) -> Result<Vec<PathBuf>, String> {
+    let entries = std::fs::read_dir(dir).map_err(|why| format!("{}: {why}", dir.display()))?;
+    let paths = entries.map(|entry| entry.map(|entry| entry.path()));
+    let paths: Result<Vec<PathBuf>, _> = paths.collect();
+    let mut paths = paths.map_err(|why| why.to_string())?;
+    paths.retain(|path| path.extension().is_some_and(|found| found == ending));
+    paths.sort();
+    Ok(paths)
+}
+
+/// Hands over all calls: the published instances, a hundred made ones of each
+/// size, half of them in either layout, and the job-shop files.
+pub fn folder_calls(
+    dir: &Path,
+    mut hand_over: impl FnMut(Vec<Call>) -> Result<(), String>,
+) -> Result<(), String> {
+    for ending in ["rcp", "sm"] {
+        for path in files(dir, ending)? {
+            hand_over(project_calls(&layouts::instance(&file_text(&path)?)?)?)?;
+        }
+    }
+    for jobs in [30, 60, 90, 120] {
+        for seed in 1..=MADE {
+            let layout = if seed % 2 == 0 { "sm" } else { "rcp" };
+            let text = make::text(seed, jobs, layout)?;
+            hand_over(project_calls(&layouts::instance(&text)?)?)?;
+        }
+    }
+    for path in files(&dir.join("jobshop"), "txt")? {
+        hand_over(jobshop_calls(&layouts::jobshop(&file_text(&path)?)?)?)?;
+    }
+    Ok(())
+}

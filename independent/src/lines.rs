@@ -1,0 +1,170 @@
+//! Calls as lines, one call to a line: reading, writing and answering them.
+//! README.md says what a readable line is.
+
+use crate::answers::Answer;
+use crate::joblist::{Supply, Times};
+use crate::overload::overload;
+use crate::record::shown;
+use crate::replay::check;
+use crate::text::Line;
+use crate::timetable::narrow;
+use std::io::{BufRead, Write};
+
+pub const LONGEST_JOB_LIST: usize = 1_200;
+pub const LONGEST_LOG: usize = 131_072;
+
+#[derive(Clone, Debug, PartialEq, Eq)]
+pub enum Call {
+    Narrow(Times, Supply, Vec<u32>),
+    Check(Times, Supply, u64, Vec<u32>),
+    Record(u64, Vec<u32>),
+    Overload(Times),
+}
+
+/// The value of a word of decimal digits, if it is at most `most`.
+fn number(word: &[u8], most: u64) -> Option<u64> {
+    let mut value: u128 = 0;
+    for byte in word {
+        if !byte.is_ascii_digit() {
+            return None;
+        }
+        value = value * 10 + u128::from(byte - b'0');
+        if value > u128::from(most) {
+            return None;
+        }
+    }
+    if word.is_empty() {
+        return None;
+    }
+    u64::try_from(value).ok()
+}
+
+struct Words<'a, I: Iterator<Item = &'a [u8]>>(I);
+
+impl<'a, I: Iterator<Item = &'a [u8]>> Words<'a, I> {
+    fn long(&mut self) -> Option<u64> {
+        number(self.0.next()?, u64::MAX)
+    }
+
+    fn short(&mut self) -> Option<u32> {
+        let value = number(self.0.next()?, u64::from(u32::MAX))?;
+        u32::try_from(value).ok()
+    }
+
+    fn list(&mut self, longest: usize) -> Option<Vec<u32>> {
+        let length = number(self.0.next()?, longest as u64)?;
+        (0..length).map(|_| self.short()).collect()
+    }
+
+    fn log(&mut self) -> Option<Vec<u32>> {
+        self.list(LONGEST_LOG)
+    }
+
+    fn times(&mut self) -> Option<Times> {
+        Some(Times {
+            est: self.list(LONGEST_JOB_LIST)?,
+            lct: self.list(LONGEST_JOB_LIST)?,
+            dur: self.list(LONGEST_JOB_LIST)?,
+        })
+    }
+
+    fn jobs(&mut self, cap: u32) -> Option<(Times, Supply)> {
+        let times = self.times()?;
+        let dem = self.list(LONGEST_JOB_LIST)?;
+        Some((times, Supply { cap, dem }))
+    }
+
+    fn call(&mut self) -> Option<Call> {
+        match self.0.next()? {
+            b"narrow" => {
+                let cap = self.short()?;
+                let (times, supply) = self.jobs(cap)?;
+                Some(Call::Narrow(times, supply, self.log()?))
+            }
+            b"check" => {
+                let cap = self.short()?;
+                let count = self.long()?;
+                let (times, supply) = self.jobs(cap)?;
+                Some(Call::Check(times, supply, count, self.log()?))
+            }
+            b"record" => Some(Call::Record(self.long()?, self.log()?)),
+            b"overload" => Some(Call::Overload(self.times()?)),
+            _ => None,
+        }
+    }
+}
+
+/// The call a line (without its line feed) makes, if it can be read.
+pub fn read(line: &[u8]) -> Option<Call> {
+    let mut words = Words(line.split(|&byte| byte == b' '));
+    let call = words.call()?;
+    match words.0.next() {
+        Some(_) => None,
+        None => Some(call),
+    }
+}
+
+fn with_times(line: Line, times: &Times) -> Line {
+    line.list(&times.est).list(&times.lct).list(&times.dur)
+}
+
+fn with_windows(line: Line, times: &Times) -> Line {
+    line.list(&times.est).list(&times.lct)
+}
+
+impl Call {
+    /// The line that makes this call.
+    pub fn line(&self) -> String {
+        let line = Line::default();
+        let line = match self {
+            Call::Narrow(times, supply, log) => {
+                let line = line.word("narrow").word(supply.cap);
+                with_times(line, times).list(&supply.dem).list(log)
+            }
+            Call::Check(times, supply, count, log) => {
+                let line = line.word("check").word(supply.cap).word(count);
+                with_times(line, times).list(&supply.dem).list(log)
+            }
+            Call::Record(k, log) => line.word("record").word(k).list(log),
+            Call::Overload(times) => with_times(line.word("overload"), times),
+        };
+        line.text()
+    }
+
+    /// Makes the call: the answer, then the lent lists as they are afterwards.
+    fn answered(self) -> Line {
+        let said = |answer: Answer| answer.write(Line::default());
+        match self {
+            Call::Narrow(mut times, supply, mut log) => {
+                let answer = narrow(&mut times, &supply, &mut log);
+                with_windows(said(answer), &times).list(&log)
+            }
+            Call::Check(mut times, supply, count, log) => {
+                let answer = check(&mut times, &supply, count, &log);
+                with_windows(said(answer), &times)
+            }
+            Call::Record(k, log) => Line::default().word("record").list(shown(k, &log)),
+            Call::Overload(times) => said(overload(&times)),
+        }
+    }
+}
+
+pub fn answer(line: &[u8]) -> String {
+    match read(line) {
+        Some(call) => call.answered().text(),
+        None => "unreadable".to_string(),
+    }
+}
+
+/// Answers every line of the input; the last one may lack its line feed.
+pub fn answer_all(mut input: impl BufRead, mut output: impl Write) -> std::io::Result<()> {
+    let mut line = Vec::new();
+    while input.read_until(b'\n', &mut line)? > 0 {
+        if line.last() == Some(&b'\n') {
+            line.pop();
+        }
+        writeln!(output, "{}", answer(&line))?;
+        line.clear();
+    }
+    output.flush()
+}

@@ -1,0 +1,37 @@
+//! The second program of the bench desk, written from the rules alone and as
+//! plainly as its sentences. README.md says how it is used.
+
+mod answers;
+mod calls;
+mod cases;
+mod commands;
+mod instances;
+mod joblist;
+mod layouts;
+mod lines;
+mod make;
+mod overload;
+mod project;
+mod random;
+mod record;
+mod replay;
+mod text;
+mod timetable;
+mod written;
+
+#[cfg(test)]
+mod tests;
+
+use std::process::ExitCode;
+
+fn main() -> ExitCode {
+    let words: Vec<String> = std::env::args().skip(1).collect();
+    let words: Vec<&str> = words.iter().map(String::as_str).collect();
+    match commands::run(&words) {
+        Ok(()) => ExitCode::SUCCESS,
+        Err(why) => {
+            eprintln!("{why}");
+            ExitCode::from(2)
+        }
+    }
+}

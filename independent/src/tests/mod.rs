@@ -1,0 +1,42 @@
+//! Tests: the runs on the record, answers from elsewhere, every refusal and
+//! code by hand, and the definitions against brute force on small lists.
+
+mod calls;
+mod cases;
+mod checking;
+mod codes;
+mod demands;
+mod layouts;
+mod lines;
+mod narrowing;
+mod overload;
+
+use crate::answers::Answer;
+use crate::joblist::{lists, Supply, Times};
+use crate::random::Random;
+use crate::record::RECORD_WORDS;
+use crate::timetable::narrow;
+
+fn windows(times: &Times) -> Vec<(u32, u32)> {
+    let pairs = times.est.iter().zip(&times.lct);
+    pairs.map(|(&e, &l)| (e, l)).collect()
+}
+
+/// Few jobs in a short time, many of them crowded.
+fn small_lists(random: &mut Random) -> (Times, Supply) {
+    let mut jobs = Vec::new();
+    for _ in 0..random.between(1, 4) {
+        let e = random.between(0, 5);
+        let p = random.between(0, 4);
+        jobs.push((e, e + p + random.between(0, 3), p, random.between(0, 3)));
+    }
+    lists(random.between(0, 4), &jobs)
+}
+
+/// The run with room for as many records as it may need.
+fn run(times: &Times, supply: &Supply) -> (Answer, Times, Vec<u32>) {
+    let mut narrowed = times.clone();
+    let mut log = vec![0; 100 * RECORD_WORDS];
+    let answer = narrow(&mut narrowed, supply, &mut log);
+    (answer, narrowed, log)
+}

@@ -1,0 +1,68 @@
+//! The overload check: ties, refusals, and all sets against the pair.
+
+use crate::answers::Answer;
+use crate::joblist::{good_jobs, lists, Supply, Times};
+use crate::overload::{overload, pair, some_set_is_overloaded};
+use crate::random::Random;
+
+fn times_of(jobs: &[(u32, u32, u32)]) -> Times {
+    let quads: Vec<_> = jobs.iter().map(|&(e, l, p)| (e, l, p, 1)).collect();
+    lists(1, &quads).0
+}
+
+#[test]
+fn all_jobs_of_a_tie_count() {
+    let times = times_of(&[(1, 2, 1), (0, 2, 2), (1, 2, 1)]);
+    assert_eq!(overload(&times), Answer::Overload(1, 2));
+}
+
+#[test]
+fn the_least_end_comes_before_the_greatest_start() {
+    let late = [(8, 9, 1), (8, 9, 1)];
+    let early = [(0, 3, 2), (1, 3, 2)];
+    let times = times_of(&[late, early].concat());
+    assert_eq!(overload(&times), Answer::Overload(0, 3));
+}
+
+#[test]
+fn no_jobs_and_jobs_that_last_nothing_are_no_overload() {
+    assert_eq!(overload(&Times::default()), Answer::None);
+    assert_eq!(overload(&times_of(&[(5, 5, 0); 40])), Answer::None);
+}
+
+#[test]
+fn refusals_come_in_order() {
+    let (many, _) = lists(1, &[(0, u32::MAX, 1, 1); 257]);
+    let mut uneven = many.clone();
+    uneven.dur.pop();
+    assert_eq!(overload(&uneven), Answer::Refused(1));
+    assert_eq!(overload(&many), Answer::Refused(2));
+    let great = times_of(&[(5, 5, 1), (0, 1_000_001, 1)]);
+    assert_eq!(overload(&great), Answer::Refused(3));
+    assert_eq!(overload(&times_of(&[(5, 5, 1)])), Answer::Refused(4));
+}
+
+#[test]
+fn all_sets_agree_with_the_pair() {
+    let mut random = Random::new(7);
+    let mut overloaded = 0;
+    for round in 0..1_500 {
+        let jobs = if round % 50 == 0 {
+            12
+        } else {
+            random.between(0, 7)
+        };
+        let mut times = Times::default();
+        for _ in 0..jobs {
+            let e = random.between(0, 8);
+            let p = random.between(0, 3);
+            times.push(e, e + p + random.between(0, 4), p);
+        }
+        let jobs = good_jobs(&times, &Supply::of_one(times.est.len())).unwrap();
+        let found = pair(&jobs);
+        assert_eq!(found.is_some(), some_set_is_overloaded(&jobs));
+        assert!(found.is_none_or(|(a, b)| a < b));
+        overloaded += usize::from(found.is_some());
+    }
+    assert!(overloaded > 200 && overloaded < 1_300);
+}
