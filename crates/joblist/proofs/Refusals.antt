@@ -2,19 +2,19 @@
 -- Each of the four tests is joined to its fact, and to the fault that can be named where it fails; the number follows from the four.
 use Prim.Native.Nat.{ℕ, zero, suc, _+_, _≤_, _<_}
 use native.Mathlib.Omega.{arith}
-use mathlib.Core.Path.{_≡_, refl, sym, subst}
+use mathlib.Core.Path.{_≡_, refl, subst}
 use mathlib.Core.Bool.{Bool, true, false, not}
 use mathlib.Core.List.{List, [], _∷_, _++_}
 use mathlib.Core.Logic.{_⊎_, inl, inr, _↔_}
 use lib.ListN.{length}
-use lib.Dec.{leb, ltb}
+use lib.Dec.{leb}
 use borrow.Author.Tests.{ltb-true, ltb-false, not-true, not-false}
 use Rattle.lists.specs.Lists.{_!_, Every}
-use Rattle.lists.specs.Tests.{both, unless, every}
+use Rattle.lists.specs.Tests.{both, unless}
 use Rattle.lists.proofs.Judged.{Judged, fact-passes, fault-fails, judged-as, judged-true, judged-both, judged-leb, judged-eqb, judged-every}
 use Rattle.narrowing.specs.Windows.{Win, Long, closes}
 use Rattle.joblist.specs.Limits.{Column, jobs, mostJobs}
-use Rattle.joblist.specs.GoodList.{Sized, Within, Above, Any, TooShort, Unequal, GoodList, Given, sized, atMost, within, long, refusal}
+use Rattle.joblist.specs.GoodList.{Sized, Within, Above, Any, TooShort, GoodList, Given, sized, atMost, within, long, refusal}
 
 -- ---- the four tests and their facts
 

@@ -4,14 +4,14 @@ use native.Mathlib.Omega.{arith}
 use native.Mathlib.Decide.{decLt}
 use mathlib.Core.Path.{_≡_, refl, sym, ap, _∙_}
 use mathlib.Core.List.{List, [], _∷_, _++_}
-use mathlib.Core.Logic.{_⊎_, inl, inr}
+use mathlib.Core.Logic.{inl, inr}
 use lib.ListN.{length, List·getD-eq-default}
 use Rattle.lists.specs.Lists.{_!_, Every}
 use Rattle.lists.specs.Turns.{Turn, SameList}
 use Rattle.narrowing.specs.Windows.{Win, Long}
 use Rattle.narrowing.specs.Renumbered.{SameWin}
-use Rattle.joblist.specs.Limits.{Column, times, demands, jobs, mostJobs, fourLists, threeLists, supply}
-use Rattle.joblist.specs.GoodList.{Sized, Within, Above, Any, TooShort, GoodList, Given, refusal}
+use Rattle.joblist.specs.Limits.{Column, jobs, fourLists, threeLists, supply}
+use Rattle.joblist.specs.GoodList.{Sized, Within, Above, Any, TooShort, Given, refusal}
 use Rattle.joblist.specs.Renumbered.{SameColumn, SameColumns}
 use Rattle.joblist.proofs.Refusals.{refusal-exactly}
 

@@ -1,8 +1,7 @@
 -- The limits of document 01, 'Job lists', each in this one place; and lists with the limit of their numbers.
-use Prim.Native.Nat.{ℕ, _≤_, _<_}
+use Prim.Native.Nat.{ℕ}
 use mathlib.Core.List.{List, [], _∷_}
 use lib.ListN.{length}
-use Rattle.lists.specs.Lists.{_!_}
 use Rattle.narrowing.specs.Windows.{Win}
 
 -- times and durations

@@ -1,17 +1,14 @@
 -- Laws of the log: the room and the records of a log, what was written is read back, one record more, records written anew, cleared logs.
-use Prim.Native.Nat.{ℕ, zero, suc, _+_, _*_, _-_, _/_, _≤_, _<_}
+use Prim.Native.Nat.{ℕ, zero, suc, _+_, _*_, _-_, _≤_, _<_}
 use native.Mathlib.Omega.{arith}
-use native.Mathlib.Decide.{ℕ-discrete, decLt}
 use mathlib.Core.Path.{_≡_, refl, sym, ap, _∙_}
-use mathlib.Core.Bool.{Bool, true, false, cond}
 use mathlib.Core.List.{List, [], _∷_, _++_, append-assoc, append-nil}
-use lib.ListN.{length, take, drop, getD, replicate, length-append, length-take, length-drop, length-replicate, getD-replicate}
+use lib.ListN.{length, take, drop, getD, replicate, length-append, length-drop, length-replicate}
 use lib.Seq.{length-take-le, take-at, drop-at, drop-drop, drop-append-add, getD-take, getD-drop, take-length, paste, take-paste, drop-paste}
-use lib.Dec.{ltb}
 use borrow.Author.Tests.{lt-ltb, le-ltb}
-use Rattle.lists.specs.Lists.{_!_, Every}
-use Rattle.members.specs.Members.{setWords, onesOf}
-use Rattle.journal.specs.Journal.{headWords, recordWords, written, roomOf, part, recordAt, records, flat, AreRecords, logged, rewritten, cleared}
+use Rattle.lists.specs.Lists.{_!_}
+use Rattle.members.specs.Members.{setWords}
+use Rattle.journal.specs.Journal.{recordWords, written, roomOf, recordAt, records, flat, AreRecords, logged, rewritten, cleared}
 
 -- ---- the room
 

@@ -5,7 +5,7 @@ use mathlib.Core.Bool.{Bool, true, false, cond}
 use mathlib.Core.List.{List, [], _∷_, _++_}
 use lib.ListN.{length, take, drop, replicate}
 use lib.Dec.{ltb}
-use Rattle.lists.specs.Lists.{_!_, Every}
+use Rattle.lists.specs.Lists.{Every}
 use Rattle.members.specs.Members.{setWords, onesOf}
 
 -- the places of the words before the member set, and their number

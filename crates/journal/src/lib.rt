@@ -60,9 +60,9 @@ pub fn write(log: &mut [u32], k: usize, job: u32, side: u32, time: u32, set: [u3
 pub fn clear(log: &mut [u32])
     ensures { λ _. ⌜ now (log .exit) ≡ cleared (now (log .entry)) ⌝ }
 {
-    let mut i = 0;
-    while i < log.len() {
-        log[i] = 0;
-        i += 1;
+    let mut done = 0;
+    while done < log.len() {
+        log[done] = 0;
+        done += 1;
     }
 }

@@ -1,0 +1,4 @@
+// The public face of the planner: the calls of document 01, and nothing else. A user names `desk answers` (an answer can be matched on only where
+// the crate that declares it is named). Each call takes any numbers whatever; its contract stands where it is declared.
+pub use journal::show_record;
+pub use planner::narrow;
