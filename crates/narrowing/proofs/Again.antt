@@ -6,7 +6,8 @@ use mathlib.Core.List.{List, [], _∷_}
 use lib.ListN.{length, length-set}
 use Rattle.narrowing.specs.Windows.{Win, Side, early, late, Long, moved}
 use Rattle.narrowing.specs.Rules.{Family, Stable}
-use Rattle.narrowing.specs.Run.{Search, Searches, Next, rests, moves, nextMove, Move, move, Out, settled, clash, short, push, follow, after, work, run, reachedBy}
+use Rattle.narrowing.specs.Search.{Search, Searches, Move, move, after}
+use Rattle.narrowing.specs.Run.{Next, rests, moves, nextMove, Out, settled, clash, short, push, follow, work, run, reachedBy}
 use Rattle.narrowing.proofs.Next.{Ahead, next-is}
 use Rattle.narrowing.proofs.Runs.{work-ind}
 

@@ -8,7 +8,8 @@ use mathlib.Core.Logic.{_⊎_, inl, inr}
 use mathlib.Core.Option.{Option, none, some}
 use Rattle.narrowing.specs.Windows.{Win, Side, early, late, number, Long}
 use Rattle.narrowing.specs.Rules.{Family, Stable}
-use Rattle.narrowing.specs.Run.{Search, Found, Searches, Next, rests, moves, orMove, orNext, first, resume, nextMove, move}
+use Rattle.narrowing.specs.Search.{Search, Found, Searches, move}
+use Rattle.narrowing.specs.Run.{Next, rests, moves, orMove, orNext, first, resume, nextMove}
 use Rattle.narrowing.specs.Rounds.{rank, Passed, Choice}
 
 -- a place in a round of n jobs: job j, and its side

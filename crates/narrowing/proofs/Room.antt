@@ -7,7 +7,8 @@ use mathlib.Core.Bool.{Bool, true, false}
 use mathlib.Core.List.{List, [], _∷_}
 use Rattle.narrowing.specs.Windows.{Win, Side, early, late, Long, closes, slack}
 use Rattle.narrowing.specs.Rules.{Family, Lawful}
-use Rattle.narrowing.specs.Run.{Search, Searches, Next, rests, moves, nextMove, Move, move, Out, settled, clash, short, push, follow, ends, after, work, run, count, needed}
+use Rattle.narrowing.specs.Search.{Search, Searches, Move, move, after}
+use Rattle.narrowing.specs.Run.{Next, rests, moves, nextMove, Out, settled, clash, short, push, follow, ends, work, run, count, needed}
 use Rattle.narrowing.proofs.Moves.{Whole}
 use Rattle.narrowing.proofs.Runs.{never-short}
 

@@ -9,7 +9,8 @@ use mathlib.Core.Option.{Option, none, some}
 use lib.Dec.{ltb}
 use borrow.Author.Tests.{lt-ltb, le-ltb}
 use Rattle.narrowing.specs.Windows.{Win, Side, early, late, closes}
-use Rattle.narrowing.specs.Run.{Search, Next, rests, moves, first, resume, move, Out, settled, clash, short, push, after, work, run}
+use Rattle.narrowing.specs.Search.{Search, move, after}
+use Rattle.narrowing.specs.Run.{Next, rests, moves, first, resume, Out, settled, clash, short, push, work, run}
 use Rattle.narrowing.specs.Rounds.{nextJob, other, rounds, Does}
 use Rattle.narrowing.proofs.Next.{Place}
 use Rattle.narrowing.proofs.Walk.{made, resume-early, resume-late, resume-end, resume-start, walk-early, walk-late, walk-round, walk-end, walk-move-early, walk-move-late}

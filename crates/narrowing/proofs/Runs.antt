@@ -8,7 +8,8 @@ use mathlib.Core.List.{List, [], _∷_}
 use lib.ListN.{length}
 use Rattle.narrowing.specs.Windows.{Win, Side, early, late, Long, moved, closes, slack}
 use Rattle.narrowing.specs.Rules.{Family, Stable, Lawful, Largest, NoCandidate, Step, Steps, here, next}
-use Rattle.narrowing.specs.Run.{Search, Searches, Next, rests, moves, nextMove, Move, move, Out, settled, clash, short, push, follow, ends, after, work, run, movesOf, count}
+use Rattle.narrowing.specs.Search.{Search, Searches, Move, move, after}
+use Rattle.narrowing.specs.Run.{Next, rests, moves, nextMove, Out, settled, clash, short, push, follow, ends, work, run, movesOf, count}
 use Rattle.narrowing.specs.Rounds.{Choice, Chosen}
 use Rattle.narrowing.proofs.Moves.{long-after, Whole, whole-after, slack-less}
 use Rattle.narrowing.proofs.Steps.{step-move, any-settled, any-clash}

@@ -6,7 +6,8 @@ use mathlib.Core.Bool.{Bool, true, false}
 use mathlib.Core.List.{List, [], _∷_, _++_}
 use mathlib.Core.Option.{Option, none, some}
 use Rattle.narrowing.specs.Windows.{Win, Side, early, late, closes}
-use Rattle.narrowing.specs.Run.{Search, Next, rests, moves, orMove, orNext, first, resume, nextMove, Move, move, Out, settled, clash, short, push, follow, ends, after, work}
+use Rattle.narrowing.specs.Search.{Search, Move, move, after}
+use Rattle.narrowing.specs.Run.{Next, rests, moves, orMove, orNext, first, resume, nextMove, Out, settled, clash, short, push, follow, ends, work}
 
 -- what a move comes to, if there is room
 unfoldable pub made : Search → ℕ → Win → ℕ → Side → ℕ → Out

@@ -9,7 +9,8 @@ use mathlib.Core.Option.{Option, none, some}
 use lib.Dec.{ltb}
 use Rattle.narrowing.specs.Windows.{Win, Side, early, late, closes, number}
 use Rattle.narrowing.specs.Rules.{Family}
-use Rattle.narrowing.specs.Run.{Search, Move, Out, settled, clash, short, push, after, move}
+use Rattle.narrowing.specs.Search.{Search, Move, after, move}
+use Rattle.narrowing.specs.Run.{Out, settled, clash, short, push}
 
 -- the place after job j's side s: side 1 after side 0, the next job's side 0 after side 1
 abbrev pub nextJob : ℕ → Side → ℕ

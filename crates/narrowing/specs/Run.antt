@@ -1,39 +1,12 @@
 -- The defined run: moves in document 01's order of work, with the room as their quota, for any search. `Rounds` has the same order in
 -- literal rounds; the law `run-rounds` says that they are equal.
-use Prim.Native.Nat.{ℕ, zero, suc, _-_, _<_}
+use Prim.Native.Nat.{ℕ, zero, suc, _-_}
 use mathlib.Core.Bool.{Bool, true, false}
 use mathlib.Core.List.{List, [], _∷_}
 use mathlib.Core.Option.{Option, none, some}
 use lib.ListN.{length}
-use Rattle.narrowing.specs.Windows.{Win, Side, early, late, Long, moved, closes, slack}
-use Rattle.narrowing.specs.Rules.{Family}
-
--- n jobs of durations p; for a job's side the choice that comes next, if any; and the bound that a choice stands for
-pub record Search : Type 0 where
-  pub n : ℕ
-  pub p : List ℕ
-  pub best : Win → ℕ → Side → Option ℕ
-  pub bound : Side → ℕ → ℕ
-
--- the choice found, whose bound is `to c`, or that there is none
-abbrev pub Found : (ℕ → Type 0) → (ℕ → ℕ) → Option ℕ → Type 0
-Found P to none = (b : ℕ) → P b → ⊥
-Found P to (some c) = P (to c)
-
--- the search offers a move of the rules, and one wherever a rule applies
-pub record Searches (R : Search) (G : Family) : Type 0 where
-  pub best-is : (W : Win) (j : ℕ) (s : Side) → Long (R .n) (R .p) W → j < R .n → Found (G W j s) (R .bound s) (R .best W j s)
-
--- the windows after job j's side s is moved by the choice c
-abbrev pub after : Search → Win → ℕ → Side → ℕ → Win
-after R W j s c = moved W j s (R .bound s c)
-
--- a move: the job, its side, the choice, and the windows before
-pub record Move : Type 0 where
-  pub job : ℕ
-  pub side : Side
-  pub choice : ℕ
-  pub before : Win
+use Rattle.narrowing.specs.Windows.{Win, Side, early, late, closes, slack}
+use Rattle.narrowing.specs.Search.{Search, after, Move, move}
 
 -- no place of a stretch of the round moves, or the first that does and its choice
 pub data Next : Type 0 where
@@ -85,9 +58,6 @@ follow W (moves j s c) f = f j s c
 abbrev pub ends : Bool → Out → Out → Out
 ends true a b = a
 ends false a b = b
-
-abbrev pub move : Win → ℕ → Side → ℕ → Move
-move W j s c = record { job = j; side = s; choice = c; before = W }
 
 -- the work from job j's side s on
 unfoldable pub work : Search → ℕ → Win → ℕ → Side → Out

@@ -11,7 +11,7 @@ use borrow.Author.Tests.{lt-ltb, le-ltb}
 use Rattle.lists.specs.Lists.{_!_}
 use Rattle.lists.specs.Tests.{both}
 use Rattle.narrowing.specs.Windows.{Win, win, number}
-use Rattle.narrowing.specs.Run.{Move}
+use Rattle.narrowing.specs.Search.{Move}
 use Rattle.members.specs.Members.{setWords, setOf, inserted}
 use Rattle.members.proofs.Sets.{setOf-cong}
 use Rattle.members.proofs.Writing.{below, below-put, below-skip, below-end}

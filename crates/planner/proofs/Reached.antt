@@ -7,7 +7,8 @@ use mathlib.Core.List.{List, [], _∷_, _++_, map}
 use mathlib.Core.Option.{Option, none, some}
 use lib.ListN.{length, set, length-set, length-append}
 use Rattle.narrowing.specs.Windows.{Win, Side, early, late, moved, closes}
-use Rattle.narrowing.specs.Run.{Move, move, Out, settled, clash, short, run}
+use Rattle.narrowing.specs.Search.{Move, move}
+use Rattle.narrowing.specs.Run.{Out, settled, clash, short, run}
 use Rattle.answers.specs.declared.Answer.{Answer}
 use Rattle.joblist.specs.Limits.{mostTime, jobs}
 use Rattle.journal.specs.Journal.{roomOf, logged, rewritten}

@@ -5,7 +5,7 @@ use mathlib.Core.Path.{_≡_, refl, sym, ap, _∙_}
 use mathlib.Core.List.{List, [], _∷_, _++_, map}
 use lib.ListN.{length}
 use Rattle.narrowing.specs.Windows.{number}
-use Rattle.narrowing.specs.Run.{Move}
+use Rattle.narrowing.specs.Search.{Move}
 use Rattle.members.specs.Members.{setWords, setOf}
 use Rattle.members.proofs.Sets.{setOf-length}
 use Rattle.journal.specs.Journal.{recordWords, roomOf, AreRecords, logged, rewritten}

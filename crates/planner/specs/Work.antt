@@ -6,7 +6,8 @@ use mathlib.Core.List.{List, map}
 use mathlib.Core.Option.{Option, none, some}
 use lib.ListN.{length}
 use Rattle.narrowing.specs.Windows.{Win, moved, closes}
-use Rattle.narrowing.specs.Run.{Move, move, Out, settled, clash, short, run}
+use Rattle.narrowing.specs.Search.{Move, move}
+use Rattle.narrowing.specs.Run.{Out, settled, clash, short, run}
 use Rattle.answers.specs.declared.Answer.{Answer}
 use Rattle.journal.specs.Journal.{roomOf, logged, rewritten}
 use Rattle.timetable.specs.Time.{bound}

@@ -8,7 +8,7 @@ ghost use Rattle.lists.specs.Tests.{both};
 ghost use Rattle.narrowing.specs.Windows.{win};
 ghost use Rattle.members.specs.Members.{setWords, setOf};
 ghost use Rattle.joblist.specs.Limits.{mostTime};
-ghost use Rattle.narrowing.specs.Run.{move};
+ghost use Rattle.narrowing.specs.Search.{move};
 ghost use Rattle.journal.specs.Journal.{rewritten};
 ghost use Rattle.timetable.specs.Search.{member, entry};
 ghost use Rattle.timetable.specs.Table.{jobsOf, Good};

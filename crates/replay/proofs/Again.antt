@@ -8,7 +8,7 @@ use mathlib.Core.Logic.{_⊎_, inl, inr}
 use lib.ListN.{length}
 use Rattle.lists.specs.Lists.{_!_}
 use Rattle.narrowing.specs.Windows.{Win, Side, early, late, number, sideOf, Inside, Respects}
-use Rattle.narrowing.specs.Run.{Move, move}
+use Rattle.narrowing.specs.Search.{Move, move}
 use Rattle.narrowing.specs.Rounds.{Choice, Chosen}
 use Rattle.narrowing.proofs.Steps.{stable-respects}
 use Rattle.answers.specs.Said.{Word, Said, said}

@@ -11,7 +11,8 @@ use lib.Dec.{ltb}
 use borrow.Author.Tests.{le-ltb}
 use Rattle.lists.specs.Lists.{_!_, Every}
 use Rattle.narrowing.specs.Windows.{Win, number}
-use Rattle.narrowing.specs.Run.{Move, Out, settled, clash, short, run}
+use Rattle.narrowing.specs.Search.{Move}
+use Rattle.narrowing.specs.Run.{Out, settled, clash, short, run}
 use Rattle.narrowing.proofs.Runs.{Bounded, run-bounded}
 use Rattle.answers.specs.Said.{Word, Said, said}
 use Rattle.members.specs.Members.{setWords, setOf}

@@ -15,7 +15,8 @@ use Rattle.lists.proofs.Tests.{both-true, true-both, only-cong}
 use Rattle.lists.proofs.Sums.{total-cong}
 use Rattle.lists.proofs.Lists.{set-any}
 use Rattle.narrowing.specs.Windows.{Win, Side, early, late, number, sideOf, Long, moved, closes}
-use Rattle.narrowing.specs.Run.{Move, move, Out, settled, clash, short, push, run}
+use Rattle.narrowing.specs.Search.{Move, move}
+use Rattle.narrowing.specs.Run.{Out, settled, clash, short, push, run}
 use Rattle.narrowing.proofs.Runs.{work-ind}
 use Rattle.members.specs.Members.{setWords, has, setOf}
 use Rattle.members.proofs.Sets.{has-setOf, has-beyond}

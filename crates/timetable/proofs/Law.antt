@@ -14,7 +14,7 @@ use Rattle.lists.proofs.Sums.{total-le}
 use Rattle.lists.proofs.Searches.{greatest-is, least-is}
 use Rattle.narrowing.specs.Windows.{Win, Side, early, late, Long, Inside, Tighter}
 use Rattle.narrowing.specs.Rules.{Lawful}
-use Rattle.narrowing.specs.Run.{Found, Searches}
+use Rattle.narrowing.specs.Search.{Found, Searches}
 use Rattle.timetable.specs.Time.{Jobs, sure, load, Crowded, Early, Late, Applies, bound}
 use Rattle.timetable.specs.Search.{crowded, best, search}
 use Rattle.timetable.proofs.Facts.{sure-yes, yes-sure, crowded-yes, yes-crowded}

@@ -9,7 +9,8 @@ use lib.ListN.{length, List·getD-eq-default}
 use Rattle.lists.specs.Lists.{_!_}
 use Rattle.narrowing.specs.Windows.{Win, Side, early, Long, slack}
 use Rattle.narrowing.specs.Rules.{Stable}
-use Rattle.narrowing.specs.Run.{Move, Out, settled, clash, short, run, movesOf, reachedBy}
+use Rattle.narrowing.specs.Search.{Move}
+use Rattle.narrowing.specs.Run.{Out, settled, clash, short, run, movesOf, reachedBy}
 use Rattle.narrowing.specs.Rounds.{Chosen}
 use Rattle.narrowing.proofs.Runs.{Bounded, run-chosen, run-bounded}
 use Rattle.narrowing.proofs.Again.{SameLengths, Reached, run-reached, run-rests}

@@ -9,7 +9,7 @@ use Rattle.lists.specs.Lists.{_!_}
 use Rattle.lists.specs.Tests.{both}
 use Rattle.lists.specs.Searches.{greatest, least}
 use Rattle.narrowing.specs.Windows.{Win, Side, early, late, number}
-use Rattle.narrowing.specs.Run.{Search, Move}
+use Rattle.narrowing.specs.Search.{Search, Move}
 use Rattle.members.specs.Members.{setWords, setOf}
 use Rattle.journal.specs.Journal.{written}
 use Rattle.timetable.specs.Time.{Jobs, sure, load, bound}
