@@ -2,7 +2,14 @@
 use answers::Answer;
 
 // Whether the windows of a job list could be narrowed, with room in the log for the reasons.
-pub fn settles(est: &mut [u32], lct: &mut [u32], dur: &[u32], dem: &[u32], cap: u32, log: &mut [u32]) -> bool {
+pub fn settles(
+    est: &mut [u32],
+    lct: &mut [u32],
+    dur: &[u32],
+    dem: &[u32],
+    cap: u32,
+    log: &mut [u32],
+) -> bool {
     let answer = desk::narrow(est, lct, dur, dem, cap, log);
     match answer {
         Answer::Settled(_) => true,

@@ -22,4 +22,3 @@ onwardOf at n =
     pickPlace (eqb (at .side) 0) (place (at .job) 1 (at .changed))
     (pickPlace (ltb (at .job + 1) n) (place (at .job + 1) 0 (at .changed))
     (pickPlace (at .changed) firstPlace (place n 0 false)))
-

@@ -34,20 +34,45 @@ fn onward(at: Place, n: usize) -> Place
     ensures { λ r. ⌜ r ≡ onwardOf at n ⌝ }
 {
     if at.side == 0 {
-        return Place { job: at.job, side: 1, changed: at.changed };
+        return Place {
+            job: at.job,
+            side: 1,
+            changed: at.changed,
+        };
     }
     let next = at.job + 1;
     if next < n {
-        return Place { job: next, side: 0, changed: at.changed };
+        return Place {
+            job: next,
+            side: 0,
+            changed: at.changed,
+        };
     }
     if at.changed {
-        return Place { job: 0, side: 0, changed: false };
+        return Place {
+            job: 0,
+            side: 0,
+            changed: false,
+        };
     }
-    Place { job: n, side: 0, changed: false }
+    Place {
+        job: n,
+        side: 0,
+        changed: false,
+    }
 }
 
 // One turn at a place, with so many records behind it: the side's move with its record, if a rule applies and there is room.
-fn take_turn(est: &mut [u32], lct: &mut [u32], dur: &[u32], dem: &[u32], cap: u32, log: &mut [u32], at: Place, count: usize) -> Turn
+fn take_turn(
+    est: &mut [u32],
+    lct: &mut [u32],
+    dur: &[u32],
+    dem: &[u32],
+    cap: u32,
+    log: &mut [u32],
+    at: Place,
+    count: usize,
+) -> Turn
     requires { ⌜ Good (call (win (now est) (now lct)) (now dur) (now dem) cap (now log)) × (at .job < length (now est)) × (at .side ≤ 1) ⌝ }
     ensures { λ r. ⌜ TurnSays (call (win (now (est .entry)) (now (lct .entry))) (now (dur .entry)) (now (dem .entry)) cap (now (log .entry))) at count (win (now (est .exit)) (now (lct .exit))) (now (log .exit)) r ⌝ }
 {
@@ -72,12 +97,23 @@ fn take_turn(est: &mut [u32], lct: &mut [u32], dur: &[u32], dem: &[u32], cap: u3
 
 // The work of a good list: turns until a round has changed nothing, a move closes a window, or there is no room. What falls with each turn is the
 // room left, then whether another round is to follow, then what is left of this one.
-fn work(est: &mut [u32], lct: &mut [u32], dur: &[u32], dem: &[u32], cap: u32, log: &mut [u32]) -> Answer
+fn work(
+    est: &mut [u32],
+    lct: &mut [u32],
+    dur: &[u32],
+    dem: &[u32],
+    cap: u32,
+    log: &mut [u32],
+) -> Answer
     requires { ⌜ Good (call (win (now est) (now lct)) (now dur) (now dem) cap (now log)) ⌝ }
     ensures { λ r. ⌜ WorkLeaves (call (win (now (est .entry)) (now (lct .entry))) (now (dur .entry)) (now (dem .entry)) cap (now (log .entry))) (ran (call (win (now (est .entry)) (now (lct .entry))) (now (dur .entry)) (now (dem .entry)) cap (now (log .entry)))) r (win (now (est .exit)) (now (lct .exit))) (now (log .exit)) ⌝ }
 {
     let n = est.len();
-    let mut at = Place { job: 0, side: 0, changed: false };
+    let mut at = Place {
+        job: 0,
+        side: 0,
+        changed: false,
+    };
     let mut count = 0;
     while at.job < n {
         let job = at.job;
@@ -88,7 +124,11 @@ fn work(est: &mut [u32], lct: &mut [u32], dur: &[u32], dem: &[u32], cap: u32, lo
                 at = onward(at, n);
             }
             Turn::Moved => {
-                at = Place { job: job, side: side, changed: true };
+                at = Place {
+                    job: job,
+                    side: side,
+                    changed: true,
+                };
                 count += 1;
             }
             Turn::Closed => {
@@ -103,7 +143,14 @@ fn work(est: &mut [u32], lct: &mut [u32], dur: &[u32], dem: &[u32], cap: u32, lo
 }
 
 // Narrowing of a job list, for any numbers whatever. The work is done on copies, and the caller's windows are written only where it settles.
-pub fn narrow(est: &mut [u32], lct: &mut [u32], dur: &[u32], dem: &[u32], cap: u32, log: &mut [u32]) -> Answer
+pub fn narrow(
+    est: &mut [u32],
+    lct: &mut [u32],
+    dur: &[u32],
+    dem: &[u32],
+    cap: u32,
+    log: &mut [u32],
+) -> Answer
     ensures { λ r. ⌜ Narrows (call (win (now (est .entry)) (now (lct .entry))) (now (dur .entry)) (now (dem .entry)) cap (now (log .entry))) (leaves (says r) (win (now (est .exit)) (now (lct .exit))) (now (log .exit))) ⌝ }
 {
     let number = joblist::refusal(est, lct, dur, dem, cap);

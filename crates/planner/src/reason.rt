@@ -33,7 +33,14 @@ fn is_member(k: usize, j: usize, e: u32, l: u32, p: u32, r: u32, t: u32) -> bool
 }
 
 // The set of the jobs that a record of the job at time t names. The capacity plays no part.
-pub fn gather(est: &[u32], lct: &[u32], dur: &[u32], dem: &[u32], job: usize, t: u32) -> [u32; members::WORDS]
+pub fn gather(
+    est: &[u32],
+    lct: &[u32],
+    dur: &[u32],
+    dem: &[u32],
+    job: usize,
+    t: u32,
+) -> [u32; members::WORDS]
     requires { ⌜ Good (asked (now est) (now lct) (now dur) (now dem) 0) × (t ≤ mostTime) ⌝ }
     ensures { λ r. ⌜ r ≡ setOf setWords (member (jobsOf (asked (now (est .entry)) (now (lct .entry)) (now (dur .entry)) (now (dem .entry)) 0)) (win (now (est .entry)) (now (lct .entry))) job t) ⌝ }
 {
@@ -49,7 +56,17 @@ pub fn gather(est: &[u32], lct: &[u32], dur: &[u32], dem: &[u32], job: usize, t:
 }
 
 // Writes the record of the job's move at time t, as record k of the log; nothing where the log ends before it.
-pub fn note(est: &[u32], lct: &[u32], dur: &[u32], dem: &[u32], job: usize, side: u32, t: u32, log: &mut [u32], k: usize)
+pub fn note(
+    est: &[u32],
+    lct: &[u32],
+    dur: &[u32],
+    dem: &[u32],
+    job: usize,
+    side: u32,
+    t: u32,
+    log: &mut [u32],
+    k: usize,
+)
     requires { ⌜ Good (asked (now est) (now lct) (now dur) (now dem) 0) × (job < length (now est)) × (side ≤ 1) × (t ≤ mostTime) ⌝ }
     ensures { λ _. ⌜ now (log .exit) ≡ rewritten (now (log .entry)) k (entry (jobsOf (asked (now (est .entry)) (now (lct .entry)) (now (dur .entry)) (now (dem .entry)) 0)) (move (win (now (est .entry)) (now (lct .entry))) job (sideOf side) t)) ⌝ }
 {

@@ -18,6 +18,7 @@ use Rattle.timetable.specs.Time.{Jobs, Applies, bound}
 use Rattle.timetable.specs.Search.{search, entry}
 use Rattle.timetable.specs.Table.{Call, call, jobsOf, Good, After}
 use Rattle.timetable.specs.Promise.{Narrows}
+use Rattle.timetable.proofs.Entries.{entries-are, entries-count}
 use Rattle.timetable.proofs.Law.{lawful}
 use Rattle.timetable.proofs.Logs.{Logged, Settles, settled-logs, same-jobs, good-again, word}
 use Rattle.replay.specs.Codes.{jobOf, side, timeOf, OwnTrue, StatedTrue, Idles, GoodRecord, Coded}
@@ -25,7 +26,6 @@ use Rattle.replay.specs.Replay.{rejected, Checked, finds, judged}
 use Rattle.replay.specs.Fate.{Fate, reached, nth}
 use Rattle.replay.specs.Promise.{Checks}
 use Rattle.replay.proofs.Taken.{entry-good, side-number}
-use Rattle.replay.proofs.Logs.{entries, many}
 use Rattle.replay.proofs.Rows.{fate-answers}
 
 -- a record that was good on W, on windows U inside W that respect its change: every test passes but the last
@@ -69,7 +69,7 @@ module _ (c : Call) (a : After) (h : Narrows c a) (n : ℕ) (e : a .says ≡ sai
       let big = h .largest g .settled (word c a h (suc n) e (a .log)) in
       let ch = x .0 in
       let first : nth again 0 ≡ entry J y =
-      ap (λ (w : List ℕ). recordAt w 0) l ∙ logged-record (map (entry J) (y ∷ ys)) (c .log) (entries J (y ∷ ys)) (omega (arith, many (entry J) ys, s .fits)) 0 (omega arith) in
+      ap (λ (w : List ℕ). recordAt w 0) l ∙ logged-record (map (entry J) (y ∷ ys)) (c .log) (entries-are J (y ∷ ys)) (omega (arith, entries-count J ys, s .fits)) 0 (omega arith) in
       let made : y ≡ move (c .win) (y .job) (y .side) (y .choice) = ap (λ (w : Win). record { job = y .job; side = y .side; choice = y .choice; before = w }) (ch .before) in
       let good : GoodRecord J (c .win) (entry J y) =
       subst (λ (z : Move). GoodRecord J (c .win) (entry J z)) (sym made)
@@ -90,6 +90,6 @@ module _ (c : Call) (a : After) (h : Narrows c a) (n : ℕ) (e : a .says ≡ sai
       let s = settled-logs c a h (suc n) e in
       let l = s .logs in
       let room : roomOf (a .log) ≡ roomOf (c .log) =
-      ap roomOf (l .log) ∙ logged-room (map (entry J) (l .moves)) (c .log) (entries J (l .moves)) (omega (arith, many (entry J) (l .moves), l .many, s .fits)) in
+      ap roomOf (l .log) ∙ logged-room (map (entry J) (l .moves)) (c .log) (entries-are J (l .moves)) (omega (arith, entries-count J (l .moves), l .many, s .fits)) in
       fate-answers again (suc n) b k (rejected 0 26) (good-again c a h (suc n) e (a .log)) (omega (arith, s .fits))
       (omega arith, inr ((λ i q. absurd (omega arith)), first-spent (l .moves) (l .many) (l .log) (l .chosen), λ z. omega arith))

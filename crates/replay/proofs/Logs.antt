@@ -9,40 +9,24 @@ use mathlib.Core.Logic.{_⊎_, inl, inr}
 use lib.ListN.{length}
 use lib.Dec.{ltb}
 use borrow.Author.Tests.{le-ltb}
-use Rattle.lists.specs.Lists.{_!_, Every}
-use Rattle.narrowing.specs.Windows.{Win, number}
+use Rattle.lists.specs.Lists.{_!_}
 use Rattle.narrowing.specs.Search.{Move}
 use Rattle.narrowing.specs.Run.{Out, settled, clash, short, run}
 use Rattle.narrowing.proofs.Runs.{Bounded, run-bounded}
 use Rattle.answers.specs.Said.{Word, Said, said}
-use Rattle.members.specs.Members.{setWords, setOf}
-use Rattle.members.proofs.Sets.{setOf-length}
-use Rattle.journal.specs.Journal.{recordWords, roomOf, records, logged, AreRecords}
-use Rattle.journal.proofs.Records.{written-length, logged-room, logged-records}
+use Rattle.journal.specs.Journal.{roomOf, records, logged}
+use Rattle.journal.proofs.Records.{logged-room, logged-records}
 use Rattle.timetable.specs.Time.{Jobs, Applies}
-use Rattle.timetable.specs.Search.{search, entry, member}
+use Rattle.timetable.specs.Search.{search, entry}
 use Rattle.timetable.specs.Table.{Call, call, jobsOf, Good, refusalOf, After, ended}
 use Rattle.timetable.specs.Promise.{Narrows}
+use Rattle.timetable.proofs.Entries.{entries-are, entries-count}
 use Rattle.timetable.proofs.Law.{lawful, searches}
 use Rattle.timetable.proofs.Meaning.{call-good, whole, not-said}
 use Rattle.timetable.proofs.Rows.{Case, cased, ran, settled-refused, clash-refused}
 use Rattle.replay.specs.Replay.{Verdict, holds, clashes, replay, Checked, finds, judged, refuses, rows, checked}
 use Rattle.replay.specs.Promise.{Checks}
 use Rattle.replay.proofs.Taken.{Replays, run-replays}
-
-entry-length : (J : Jobs) (m : Move) → length (entry J m) ≡ recordWords
-unfolding entry
-entry-length J m =
-    written-length (m .job) (number (m .side)) (m .choice) (setOf setWords (member J (m .before) (m .job) (m .choice)))
-    (setOf-length setWords (member J (m .before) (m .job) (m .choice)))
-
-pub entries : (J : Jobs) (ms : List Move) → AreRecords (map (entry J) ms)
-entries J [] = tt
-entries J (m ∷ ms) = (entry-length J m, entries J ms)
-
-pub many : {A B : Type 0} (f : A → B) (xs : List A) → length (map f xs) ≡ length xs
-many f [] = refl
-many f (x ∷ xs) = ap suc (many f xs)
 
 module _ (c : Call) where
   abbrev J : Jobs
@@ -61,10 +45,10 @@ module _ (c : Call) where
     good-after = call-good c g
 
     read-back : records left 0 (length ms) ≡ map (entry J) ms
-    read-back = ap (records left 0) (sym (many (entry J) ms)) ∙ logged-records (map (entry J) ms) (c .log) (entries J ms) (omega (arith, many (entry J) ms))
+    read-back = ap (records left 0) (sym (entries-count J ms)) ∙ logged-records (map (entry J) ms) (c .log) (entries-are J ms) (omega (arith, entries-count J ms))
 
     same-room : roomOf left ≡ roomOf (c .log)
-    same-room = logged-room (map (entry J) ms) (c .log) (entries J ms) (omega (arith, many (entry J) ms))
+    same-room = logged-room (map (entry J) ms) (c .log) (entries-are J ms) (omega (arith, entries-count J ms))
 
     -- the checker replays just the records of the moves
     checked-left : checked (after left) (length ms) ≡ judged (after left) (length ms) (replay J (c .win) 0 (map (entry J) ms))

@@ -10,8 +10,10 @@ use lib.Seq.{getD-set-other}
 use lib.Dec.{ltb}
 use borrow.Author.Tests.{ltb-true, ltb-false, lt-ltb, le-ltb}
 use Rattle.lists.specs.Lists.{_!_}
-use Rattle.narrowing.specs.Windows.{Win, Side, early, late, moved}
-use Rattle.answers.specs.Said.{Word, Said, said}
+use Rattle.narrowing.specs.Windows.{Win, win, Side, early, late, moved}
+use Rattle.answers.specs.declared.CheckAnswer.{CheckAnswer}
+use Rattle.answers.specs.Said.{Word, Said, said, saysCheck}
+use Rattle.answers.proofs.Same.{check-same}
 use Rattle.joblist.specs.Limits.{fourLists, supply}
 use Rattle.joblist.specs.GoodList.{Given}
 use Rattle.joblist.proofs.Refusals.{refusal-exactly}
@@ -27,6 +29,13 @@ use Rattle.replay.proofs.Fates.{fate-exactly}
 
 pub checks-same : (c : Call) (count : ℕ) (a b : Checked) → Checks c count a → Checks c count b → a ≡ b
 checks-same c count a b f g = f .answered ∙ sym (g .answered)
+
+-- the same of the Rattle values
+pub results-same : (c : Call) (count : ℕ) (r q : CheckAnswer) (e l e′ l′ : List ℕ) → Checks c count (finds (saysCheck r) (win e l)) → Checks c count (finds (saysCheck q) (win e′ l′))
+    → (r ≡ q) × (e ≡ e′) × (l ≡ l′)
+results-same c count r q e l e′ l′ f g =
+    let h = checks-same c count _ _ f g in
+    (check-same r q (ap (λ (x : Checked). x .says) h), ap (λ (x : Checked). x .win .e) h, ap (λ (x : Checked). x .win .l) h)
 
 -- a record moves one bound of its job, to t + 1 on side 0 and to t on side 1; every other window stays
 pub one-bound : (W : Win) (x : List ℕ) → changed W x ≡ moved W (jobOf x) (side x) (bound (side x) (timeOf x))

@@ -6,3 +6,4 @@ pub mod Meaning
 pub mod Rows
 pub mod Logs
 pub mod Reordered
+pub mod Entries

@@ -8,10 +8,12 @@ use mathlib.Core.List.{List, [], _∷_}
 use mathlib.Core.Logic.{_⊎_, inl, inr, _↔_}
 use lib.ListN.{length}
 use Rattle.lists.specs.Lists.{_!_}
-use Rattle.narrowing.specs.Windows.{Win}
+use Rattle.narrowing.specs.Windows.{Win, win}
 use Rattle.narrowing.specs.Run.{Out, settled, clash, short, run, count}
 use Rattle.narrowing.proofs.Room.{short-below, below-short, count-needed}
-use Rattle.answers.specs.Said.{Word, Said, said}
+use Rattle.answers.specs.declared.Answer.{Answer}
+use Rattle.answers.specs.Said.{Word, Said, said, says}
+use Rattle.answers.proofs.Same.{says-same}
 use Rattle.joblist.specs.Limits.{fourLists, supply}
 use Rattle.joblist.specs.GoodList.{Given}
 use Rattle.joblist.proofs.Refusals.{refusal-exactly, refusal-most}
@@ -26,6 +28,17 @@ use Rattle.timetable.proofs.Meaning.{good-call, call-good, whole, not-s
 -- two results that meet the contract are equal, word for word
 pub narrows-same : (c : Call) (a b : After) → Narrows c a → Narrows c b → a ≡ b
 narrows-same c a b f g = f .answered ∙ sym (g .answered)
+
+-- the same of the Rattle values: the answers, and every word of the three lists
+pub results-same : (c : Call) (r q : Answer) (e l log e′ l′ log′ : List ℕ) → Narrows c (leaves (says r) (win e l) log) → Narrows c (leaves (says q) (win e′ l′) log′)
+    → (r ≡ q) × (e ≡ e′) × (l ≡ l′) × (log ≡ log′)
+results-same c r q e l log e′ l′ log′ f g =
+    let h = narrows-same c _ _ f g in (
+      says-same r q (ap (λ (x : After). x .says) h),
+      ap (λ (x : After). x .win .e) h,
+      ap (λ (x : After). x .win .l) h,
+      ap (λ (x : After). x .log) h,
+    )
 
 -- refusal k's row: one of the tests 1 to 4, or 5: the work needs more records than the log has room for
 abbrev pub RefusedRow : Call → ℕ → Type 0

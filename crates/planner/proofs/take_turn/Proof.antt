@@ -103,13 +103,16 @@ returns-2 : tie.Need-returns-2
 returns-2 c =
     let a = c .before .before .before .before .before .before .before .before .before .before .before .before .before .before .before .before .before .before .before .before .before .before .before .before .before .before .before .before .before .before .before .args in
     let C = call (win (a .est .now) (a .lct .now)) (a .dur .now) (a .dem .now) (a .cap) (a .log .now) in
-    let t = c .before .before .before .before .before .before .before .before .before .before .before .before .before .before .before .before .before .before .before .before .before .found .given .0 .0 in
-    (t, record {
-      found = found-some _ t (sym (c .before .before .before .before .before .before .before .before .before .before .before .before .before .before .before .before .before .before .before .before .before .before .before .next-time .ensures) ∙ c .before .before .before .before .before .before .before .before .before .before .before .before .before .before .before .before .before .before .before .before .before .found .given .1);
-      room = omega (arith, c .before .before .before .before .before .before .before .before .before .before .before .before .before .before .before .before .before .before .room .ensures);
-      windows = c .before .before .before .before .before .before .before .before .shift .ensures;
-      record-is = c .before .before .before .before .before .before .before .before .before .before .before .before .before .note .ensures ∙ ap (rewritten (a .log .now) (a .count)) (entry-cap (a .est .now) (a .lct .now) (a .dur .now) (a .dem .now) (a .cap) (a .log .now) (moveAt C (a .at) t));
-    }, sym (c .before .closed .ensures) ∙ c .if2 .taken)
+    let t = c .before .before .before .before .before .before .before .before .before .before .before .before .before .before .before .before .before .before .before .before .before .found .given .0 .0 in (
+      t,
+      record {
+        found = found-some _ t (sym (c .before .before .before .before .before .before .before .before .before .before .before .before .before .before .before .before .before .before .before .before .before .before .before .next-time .ensures) ∙ c .before .before .before .before .before .before .before .before .before .before .before .before .before .before .before .before .before .before .before .before .before .found .given .1);
+        room = omega (arith, c .before .before .before .before .before .before .before .before .before .before .before .before .before .before .before .before .before .before .room .ensures);
+        windows = c .before .before .before .before .before .before .before .before .shift .ensures;
+        record-is = c .before .before .before .before .before .before .before .before .before .before .before .before .before .note .ensures ∙ ap (rewritten (a .log .now) (a .count)) (entry-cap (a .est .now) (a .lct .now) (a .dur .now) (a .dem .now) (a .cap) (a .log .now) (moveAt C (a .at) t));
+      },
+      sym (c .before .closed .ensures) ∙ c .if2 .taken,
+    )
 
 -- src/lib.rt:48:1
 same-length-7 : tie.Need-same-length-7
@@ -140,13 +143,16 @@ returns-4 : tie.Need-returns-4
 returns-4 c =
     let a = c .before .before .before .before .before .before .before .before .before .before .before .before .before .before .before .before .before .before .before .before .before .before .before .before .before .before .before .before .before .before .before .args in
     let C = call (win (a .est .now) (a .lct .now)) (a .dur .now) (a .dem .now) (a .cap) (a .log .now) in
-    let t = c .before .before .before .before .before .before .before .before .before .before .before .before .before .before .before .before .before .before .before .before .before .found .given .0 .0 in
-    (t, record {
-      found = found-some _ t (sym (c .before .before .before .before .before .before .before .before .before .before .before .before .before .before .before .before .before .before .before .before .before .before .before .next-time .ensures) ∙ c .before .before .before .before .before .before .before .before .before .before .before .before .before .before .before .before .before .before .before .before .before .found .given .1);
-      room = omega (arith, c .before .before .before .before .before .before .before .before .before .before .before .before .before .before .before .before .before .before .room .ensures);
-      windows = c .before .before .before .before .before .before .before .before .shift .ensures;
-      record-is = c .before .before .before .before .before .before .before .before .before .before .before .before .before .note .ensures ∙ ap (rewritten (a .log .now) (a .count)) (entry-cap (a .est .now) (a .lct .now) (a .dur .now) (a .dem .now) (a .cap) (a .log .now) (moveAt C (a .at) t));
-    }, sym (c .before .closed .ensures) ∙ c .if2 .left)
+    let t = c .before .before .before .before .before .before .before .before .before .before .before .before .before .before .before .before .before .before .before .before .before .found .given .0 .0 in (
+      t,
+      record {
+        found = found-some _ t (sym (c .before .before .before .before .before .before .before .before .before .before .before .before .before .before .before .before .before .before .before .before .before .before .before .next-time .ensures) ∙ c .before .before .before .before .before .before .before .before .before .before .before .before .before .before .before .before .before .before .before .before .before .found .given .1);
+        room = omega (arith, c .before .before .before .before .before .before .before .before .before .before .before .before .before .before .before .before .before .before .room .ensures);
+        windows = c .before .before .before .before .before .before .before .before .shift .ensures;
+        record-is = c .before .before .before .before .before .before .before .before .before .before .before .before .before .note .ensures ∙ ap (rewritten (a .log .now) (a .count)) (entry-cap (a .est .now) (a .lct .now) (a .dur .now) (a .dem .now) (a .cap) (a .log .now) (moveAt C (a .at) t));
+      },
+      sym (c .before .closed .ensures) ∙ c .if2 .left,
+    )
 
 pub take-turn-spec : {M : Type 1} → statement M
 take-turn-spec =
