@@ -6,3 +6,9 @@ pub mod Turns
 pub mod Stretches
 pub mod Judged
 pub mod Chains
+pub mod Completions
+pub mod Counts
+pub mod Differences
+pub mod Orders
+pub mod Sets
+pub mod Signed

@@ -3,3 +3,5 @@ pub mod Tests
 pub mod Sums
 pub mod Searches
 pub mod Turns
+pub mod Sets
+pub mod Orders

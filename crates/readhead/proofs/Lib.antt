@@ -1,0 +1,12 @@
+pub mod Pairs
+pub mod Rows
+pub mod Cases
+pub mod ShutOut
+pub mod Nodes
+pub mod Climbs
+pub mod Descents
+pub mod Walks
+pub mod Sweeps
+pub mod Listed
+pub mod Turns
+pub mod Schedules

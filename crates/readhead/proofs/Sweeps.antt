@@ -1,0 +1,248 @@
+-- The jobs go into the tree by rising latest end. After k of them the tree holds those of place below k, and every pair's b has a job yet to
+-- come with a latest end of at most b. All jobs of one latest end b are in: then the tree's root tells whether b has a pair, and the descent
+-- ends at the greatest a.
+use Prim.Native.Nat.{ℕ, _+_, _*_, _^_, _≤_, _<_}
+use native.Mathlib.Omega.{arith}
+use native.Mathlib.Decide.{ℕ-discrete, decLt, decLe}
+use mathlib.Core.Path.{_≡_, refl, sym, _∙_}
+use mathlib.Core.Bool.{Bool, true, false, not}
+use mathlib.Core.List.{List}
+use mathlib.Core.Logic.{_⊎_, inl, inr}
+use lib.Dec.{ltb, eqb}
+use lib.IntN.{ℤ, pos, _+ℤ_}
+use lib.ListN.{set, replicate}
+use lib.Signed.{ltZ}
+use borrow.Author.Tests.{leb-true, le-leb, ltb-true, lt-ltb, eq-eqb, eqb-true}
+use Rattle.lists.specs.Lists.{_!_}
+use Rattle.lists.specs.Tests.{both}
+use Rattle.lists.specs.Orders.{rank, Ordered}
+use Rattle.lists.specs.Sets.{Set, Sub, totalOf, fewest}
+use Rattle.lists.proofs.Orders.{rank-below, rank-apart, rank-rising, rank-onto}
+use Rattle.lists.proofs.Tests.{by-contra, both-true}
+use Rattle.lists.proofs.Sets.{clash, totalOf-sub, fewest-is, fewest-le}
+use Rattle.narrowing.specs.Windows.{Win}
+use Rattle.readhead.specs.Overload.{by, window, Pair, FirstPair}
+use Rattle.readhead.specs.Theta.{endOf, empty, Places, Holds, Ranged, Climbed, onward, descent}
+use Rattle.readhead.specs.Sweep.{tied, due}
+use Rattle.readhead.proofs.Pairs.{in-window, window-in}
+use Rattle.readhead.proofs.Nodes.{in-onward, onward-in}
+use Rattle.readhead.proofs.Climbs.{holds-more, start-ranged, start-holds}
+use Rattle.readhead.proofs.Descents.{Last, root-over, root-short}
+
+-- places by earliest start are places of a tree with leaves enough
+pub rank-places : (n m : ℕ) (e : List ℕ) → n ≤ m → Places n m e (rank e n)
+rank-places n m e h =
+    record { into = λ j b. omega (arith, rank-below e n j b); apart = rank-apart e n; rising = rank-rising e n }
+
+-- ---- pairs and places
+
+module _ (n : ℕ) (p : List ℕ) (W : Win) (σ : ℕ → ℕ) (O : Set) (b : ℕ) (in-all : Sub n (by W b) O)
+    (rising : (i j : ℕ) → i < n → j < n → σ i ≤ σ j → W .e ! i ≤ W .e ! j) where
+  -- a pair's first job by place, with all jobs from its place on, exceeds b
+  pair-place : (a : ℕ) → Pair n p W a b → (i : ℕ) × (i < n) × (O i ≡ true) × (a ≤ W .e ! i) × (b < W .e ! i + totalOf n p (onward σ O (σ i)))
+  pair-place a q = go (fewest-is (window W a b) σ (σ (q .some .0)) n)
+    where
+      low : ℕ
+      low = fewest (window W a b) σ (σ (q .some .0)) n
+
+      first : (i : ℕ) → i < n → window W a b i ≡ true → low ≡ σ i → (i : ℕ) × (i < n) × (O i ≡ true) × (a ≤ W .e ! i) × (b < W .e ! i + totalOf n p (onward σ O (σ i)))
+      first i c t f =
+          let u = window-in n p W a b i t in
+          let s = totalOf-sub n p (window W a b) (onward σ O (σ i))
+          (λ k d r. let w = window-in n p W a b k r in
+          in-onward σ O (σ i) k (in-all k d (le-leb _ _ (w .1))) (omega (arith, fewest-le (window W a b) σ (σ (q .some .0)) n .1 k d r))) in
+          (i, c, in-all i c (le-leb _ _ (u .1)), u .0, omega (arith, q .over))
+
+      go : (low ≡ σ (q .some .0)) ⊎ ((i : ℕ) × (i < n) × (window W a b i ≡ true) × (low ≡ σ i)) → (i : ℕ) × (i < n) × (O i ≡ true) × (a ≤ W .e ! i) × (b < W .e ! i + totalOf n p (onward σ O (σ i)))
+      go (inl f) = first (q .some .0) (q .some .1) (q .some .2) f
+      go (inr (i, c, t, f)) = first i c t f
+
+  -- where no job exceeds b so, b has no pair
+  short-none : ((i : ℕ) → i < n → O i ≡ true → W .e ! i + totalOf n p (onward σ O (σ i)) ≤ b) → (a : ℕ) → Pair n p W a b → ⊥
+  short-none f a q = let i = pair-place a q in omega (arith, f (i .0) (i .1) (i .2), i .4)
+
+  -- the last job that does so gives the greatest a
+  last-pair : (x j : ℕ) → Last n (W .e) p σ O b x j → Sub n O (by W b) → (k : ℕ) → k < n → W .l ! k ≡ b → Pair n p W (W .e ! j) b
+  last-pair x j L all k c f =
+      record {
+        start = (j, L .below, refl);
+        stop = (k, c, f);
+        some = (j, L .below, in-window n p W (W .e ! j) b j (omega arith) (leb-true _ _ (all j (L .below) (L .member))));
+        over = omega (
+          arith,
+          L .over,
+          totalOf-sub n p (onward σ O x) (window W (W .e ! j) b)
+              (λ i d t.
+              let u = onward-in σ O x i t in
+              in-window n p W (W .e ! j) b i (rising j i (L .below) d (omega (arith, L .place))) (leb-true _ _ (all i d (u .0)))),
+        );
+      }
+
+  last-greatest : (x j : ℕ) → Last n (W .e) p σ O b x j → (a : ℕ) → Pair n p W a b → a ≤ W .e ! j
+  last-greatest x j L a q =
+      let i = pair-place a q in
+      elim (decLe (σ (i .0)) x) [
+        | yes h ↦ omega (arith, i .3, rising (i .0) j (i .1) (L .below) (omega (arith, L .place)))
+        | no h ↦ absurd (omega (arith, i .4, L .after (i .0) (i .1) (i .2) (omega arith)))
+      ]
+
+-- ---- the sweep
+
+-- the first k jobs by latest end
+abbrev pub entered : ℕ → Win → ℕ → Set
+entered n W k j = ltb (rank (W .l) n j) k
+
+pub record Going (n m : ℕ) (p : List ℕ) (W : Win) (k : ℕ) (sums : List ℕ) (ends : List ℤ) : Type 0 where
+  pub upto : k ≤ n
+  pub ranged : Ranged m sums ends
+  pub holds : Holds n m (W .e) p (rank (W .e) n) (entered n W k) sums ends
+  pub later : (a b : ℕ) → Pair n p W a b → (j : ℕ) × (j < n) × (W .l ! j ≤ b) × (k ≤ rank (W .l) n j)
+
+pub going-start : (n m : ℕ) (p : List ℕ) (W : Win) → Going n m p W 0 (replicate (2 * m) 0) (replicate (2 * m) empty)
+going-start n m p W =
+    record {
+      upto = omega arith;
+      ranged = start-ranged m;
+      holds = start-holds m n (W .e) p (rank (W .e) n) (entered n W 0) (λ k b t. absurd (omega (arith, ltb-true (rank (W .l) n k) 0 t)));
+      later = λ a b q. (q .stop .0, q .stop .1, omega (arith, q .stop .2), omega arith);
+    }
+
+pub going-end : (n m : ℕ) (p : List ℕ) (W : Win) (k : ℕ) (sums : List ℕ) (ends : List ℤ) → Going n m p W k sums ends → n ≤ k → (a b : ℕ) → Pair n p W a b → ⊥
+going-end n m p W k sums ends G h a b q = let j = G .later a b q in omega (arith, j .3, rank-below (W .l) n (j .0) (j .1))
+
+-- job j, the next by latest end, is put in
+module _ (n m : ℕ) (p : List ℕ) (W : Win) (k : ℕ) (sums : List ℕ) (ends : List ℤ) (sums′ : List ℕ) (ends′ : List ℤ) (few : n ≤ m)
+    (G : Going n m p W k sums ends) (j : ℕ) (b : j < n) (is : rank (W .l) n j ≡ k)
+    (C : Climbed m (set sums (m + rank (W .e) n j) (p ! j)) (set ends (m + rank (W .e) n j) (pos (W .e ! j + p ! j))) sums′ ends′) where
+  pub entered-holds : Holds n m (W .e) p (rank (W .e) n) (entered n W (k + 1)) sums′ ends′
+  entered-holds =
+      holds-more n m (W .e) p (rank (W .e) n) (entered n W k) (entered n W (k + 1)) sums ends sums′ ends′ j (rank-places n m (W .e) few) (G .ranged) (G .holds) b
+      (λ i c t.
+      let q : rank (W .l) n i < k + 1 = ltb-true (rank (W .l) n i) (k + 1) t in
+      elim (ℕ-discrete i j) [
+        | yes r ↦ inl r
+        | no r ↦ elim (ℕ-discrete (rank (W .l) n i) k) [
+          | yes s ↦ inl (rank-apart (W .l) n i j c b (omega arith))
+          | no s ↦ inr (lt-ltb (rank (W .l) n i) k (omega arith))
+        ]
+      ])
+      (λ i c t. let q : rank (W .l) n i < k = ltb-true (rank (W .l) n i) k t in lt-ltb (rank (W .l) n i) (k + 1) (omega arith))
+      (lt-ltb (rank (W .l) n j) (k + 1) (omega arith))
+      C
+
+  -- jobs that are in end no later than j
+  entered-by : Sub n (entered n W (k + 1)) (by W (W .l ! j))
+  entered-by i c t = let q : rank (W .l) n i < k + 1 = ltb-true (rank (W .l) n i) (k + 1) t in le-leb _ _ (rank-rising (W .l) n i j c b (omega arith))
+
+  next-upto : k + 1 ≤ n
+  next-upto = omega (arith, rank-below (W .l) n j b)
+
+  -- what a pair waits for, once j is in: another job that ends no later, or j's own latest end
+  waits : (a c : ℕ) → Pair n p W a c → ((i : ℕ) × (i < n) × (W .l ! i ≤ c) × (k + 1 ≤ rank (W .l) n i)) ⊎ (W .l ! j ≤ c)
+  waits a c q =
+      let i = G .later a c q in
+      elim (decLe (k + 1) (rank (W .l) n (i .0))) [
+        | yes h ↦ inl (i .0, i .1, i .2, h)
+        | no h ↦ inr (let f : i .0 ≡ j = rank-apart (W .l) n (i .0) j (i .1) b (omega (arith, i .3)) in rw f at (i .2))
+      ]
+
+  -- the next job has the same latest end: nothing is tested yet
+  pub going-same : (i : ℕ) → i < n → rank (W .l) n i ≡ k + 1 → W .l ! i ≡ W .l ! j → Going n m p W (k + 1) sums′ ends′
+  going-same i c r f =
+      record {
+        upto = next-upto;
+        ranged = C .ranged;
+        holds = entered-holds;
+        later = λ a d q. elim (waits a d q) [ inl w ↦ w | inr w ↦ (i, c, omega arith, omega arith) ];
+      }
+
+  -- no job, or one of another latest end, is next: all jobs that end by j's latest end are in
+  module _ (last : (i : ℕ) → i < n → rank (W .l) n i ≡ k + 1 → W .l ! i ≡ W .l ! j → ⊥) where
+    all-in : Sub n (by W (W .l ! j)) (entered n W (k + 1))
+    all-in i c t =
+        let h : W .l ! i ≤ W .l ! j = leb-true _ _ t in
+        elim (decLt (rank (W .l) n i) (k + 1)) [
+          | yes r ↦ lt-ltb (rank (W .l) n i) (k + 1) r
+          | no r ↦
+              let x = rank-onto (W .l) n (k + 1) (omega (arith, rank-below (W .l) n i c)) in
+              absurd (last (x .0) (x .1) (x .2)
+              (omega (arith, rank-rising (W .l) n (x .0) i (x .1) c (omega (arith, x .2)), rank-rising (W .l) n j (x .0) b (x .1) (omega (arith, x .2)))))
+        ]
+
+    module _ (small : totalOf n p (entered n W (k + 1)) < 1000000000000) (d : ℕ) (size : m ≡ 2 ^ d) where
+      places : Places n m (W .e) (rank (W .e) n)
+      places = rank-places n m (W .e) few
+
+      -- the root does not exceed j's latest end: no pair has it
+      pub going-short : ltZ (pos (W .l ! j)) (endOf ends′ 1 +ℤ pos 0) ≡ false → Going n m p W (k + 1) sums′ ends′
+      going-short f =
+          record {
+            upto = next-upto;
+            ranged = C .ranged;
+            holds = entered-holds;
+            later = λ a c q. elim (waits a c q) [ inl w ↦ w | inr w ↦ after a c q w (ℕ-discrete c (W .l ! j)) ];
+          }
+        where
+          after : (a c : ℕ) → Pair n p W a c → W .l ! j ≤ c → Dec (c ≡ W .l ! j) → (i : ℕ) × (i < n) × (W .l ! i ≤ c) × (k + 1 ≤ rank (W .l) n i)
+          after a c q w (yes g) =
+              absurd (short-none n p W (rank (W .e) n) (entered n W (k + 1)) (W .l ! j) all-in (rank-rising (W .e) n)
+              (root-short n m (W .e) p (rank (W .e) n) (entered n W (k + 1)) sums′ ends′ places entered-holds small (W .l ! j) d size f) a (rw g at q))
+          after a c q w (no g) =
+              let i = q .stop in
+              (i .0, i .1, omega (arith, i .2), by-contra (k + 1) (rank (W .l) n (i .0)) (λ r. omega (arith, i .2, rank-rising (W .l) n (i .0) j (i .1) b (omega arith))))
+
+      -- it does: the descent ends at the pair's job
+      pub going-found : ltZ (pos (W .l ! j)) (endOf ends′ 1 +ℤ pos 0) ≡ true
+          → (x : ℕ) × (descent sums′ ends′ (W .l ! j) d 1 0 ≡ m + x) × (x < n) × ((i : ℕ) → i < n → rank (W .e) n i ≡ x → FirstPair n p W (W .e ! i) (W .l ! j))
+      going-found f =
+          let r = root-over n m (W .e) p (rank (W .e) n) (entered n W (k + 1)) sums′ ends′ places entered-holds small (W .l ! j) d size f in (
+            r .0,
+            r .1,
+            omega (arith, rank-below (W .e) n (r .3 .0) (r .3 .1 .below), r .3 .1 .place),
+            λ i c g.
+                let same : r .3 .0 ≡ i = rank-apart (W .e) n (r .3 .0) i (r .3 .1 .below) c (r .3 .1 .place ∙ sym g) in
+                rw same at (first (r .0) (r .3 .0) (r .3 .1)),
+          )
+        where
+          first : (x i : ℕ) → Last n (W .e) p (rank (W .e) n) (entered n W (k + 1)) (W .l ! j) x i → FirstPair n p W (W .e ! i) (W .l ! j)
+          first x i L =
+              record {
+                pair = last-pair n p W (rank (W .e) n) (entered n W (k + 1)) (W .l ! j) all-in (rank-rising (W .e) n) x i L entered-by j b refl;
+                least = λ a c q. let w = G .later a c q in omega (arith, w .2, rank-rising (W .l) n j (w .0) b (w .1) (omega (arith, w .3)));
+                greatest = last-greatest n p W (rank (W .e) n) (entered n W (k + 1)) (W .l ! j) all-in (rank-rising (W .e) n) x i L;
+              }
+
+-- ---- a turn of the loop: the job at place k of the order goes in, and its latest end is tested where no job of it is next
+
+module _ (n m : ℕ) (p : List ℕ) (W : Win) (o : List ℕ) (k : ℕ) (sums : List ℕ) (ends : List ℤ) (sums′ : List ℕ) (ends′ : List ℤ) (few : n ≤ m)
+    (order : Ordered (W .l) n o) (G : Going n m p W k sums ends) (lt : k < n)
+    (C : Climbed m (set sums (m + rank (W .e) n (o ! k)) (p ! (o ! k))) (set ends (m + rank (W .e) n (o ! k)) (pos (W .e ! (o ! k) + p ! (o ! k)))) sums′ ends′)
+    (small : totalOf n p (entered n W (k + 1)) < 1000000000000) (d : ℕ) (size : m ≡ 2 ^ d) where
+  -- no job of its latest end is next
+  not-tied : tied n (W .l) o (k + 1) (W .l ! (o ! k)) ≡ false → (i : ℕ) → i < n → rank (W .l) n i ≡ k + 1 → W .l ! i ≡ W .l ! (o ! k) → ⊥
+  not-tied h i c r f =
+      let b : k + 1 < n = omega (arith, rank-below (W .l) n i c) in
+      let e : o ! (k + 1) ≡ i = rank-apart (W .l) n (o ! (k + 1)) i (order .into (k + 1) b) c (order .placed (k + 1) b ∙ sym r) in
+      clash (tied n (W .l) o (k + 1) (W .l ! (o ! k))) (rw (lt-ltb (k + 1) n b, e) (eq-eqb (W .l ! i) (W .l ! (o ! k)) f)) h
+
+  pub going-on : due n (W .l) o (k + 1) (W .l ! (o ! k)) (endOf ends′ 1) ≡ false → Going n m p W (k + 1) sums′ ends′
+  going-on h = go (tied n (W .l) o (k + 1) (W .l ! (o ! k))) refl h
+    where
+      go : (t : Bool) → tied n (W .l) o (k + 1) (W .l ! (o ! k)) ≡ t → both (not t) (ltZ (pos (W .l ! (o ! k))) (endOf ends′ 1 +ℤ pos 0)) ≡ false → Going n m p W (k + 1) sums′ ends′
+      go true e f =
+          let q = both-true (ltb (k + 1) n) (eqb (W .l ! (o ! (k + 1))) (W .l ! (o ! k))) e in
+          let b : k + 1 < n = ltb-true (k + 1) n (q .0) in
+          going-same n m p W k sums ends sums′ ends′ few G (o ! k) (order .into k lt) (order .placed k lt) C
+          (o ! (k + 1)) (order .into (k + 1) b) (order .placed (k + 1) b) (eqb-true _ _ (q .1))
+      go false e f = going-short n m p W k sums ends sums′ ends′ few G (o ! k) (order .into k lt) (order .placed k lt) C (not-tied e) small d size f
+
+  pub going-found-at : (s : List ℕ) → Ordered (W .e) n s → due n (W .l) o (k + 1) (W .l ! (o ! k)) (endOf ends′ 1) ≡ true
+      → (x : ℕ) × (descent sums′ ends′ (W .l ! (o ! k)) d 1 0 ≡ m + x) × (x < n) × (s ! x < n) × FirstPair n p W (W .e ! (s ! x)) (W .l ! (o ! k))
+  going-found-at s by-start h = go (tied n (W .l) o (k + 1) (W .l ! (o ! k))) refl h
+    where
+      go : (t : Bool) → tied n (W .l) o (k + 1) (W .l ! (o ! k)) ≡ t → both (not t) (ltZ (pos (W .l ! (o ! k))) (endOf ends′ 1 +ℤ pos 0)) ≡ true
+          → (x : ℕ) × (descent sums′ ends′ (W .l ! (o ! k)) d 1 0 ≡ m + x) × (x < n) × (s ! x < n) × FirstPair n p W (W .e ! (s ! x)) (W .l ! (o ! k))
+      go true e f = clash false f refl
+      go false e f =
+          let r = going-found n m p W k sums ends sums′ ends′ few G (o ! k) (order .into k lt) (order .placed k lt) C (not-tied e) small d size f in
+          (r .0, r .1, r .2, by-start .into (r .0) (r .2), r .3 (s ! r .0) (by-start .into (r .0) (r .2)) (by-start .placed (r .0) (r .2)))

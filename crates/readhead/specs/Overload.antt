@@ -1,0 +1,85 @@
+-- One job at a time (01): when a set of jobs is overloaded, and the pair a, b that the overload check answers.
+-- Job k of the n jobs has earliest start `W .e ! k`, latest end `W .l ! k` and duration `p ! k`.
+use Prim.Native.Nat.{ℕ, _+_, _≤_, _<_}
+use mathlib.Core.Path.{_≡_}
+use mathlib.Core.Bool.{Bool, true, false}
+use mathlib.Core.List.{List, [], _∷_}
+use lib.Dec.{leb, ltb}
+use Rattle.answers.specs.Said.{Said, Word, said}
+use Rattle.lists.specs.Lists.{_!_}
+use Rattle.lists.specs.Tests.{both, some?}
+use Rattle.lists.specs.Sets.{Set, totalOf, LeastOf, GreatestOf, above, most, fewest}
+use Rattle.narrowing.specs.Windows.{Win}
+
+-- the set's least e plus its total p exceeds its greatest l (001, rule OL); such a set has a member
+pub record Overloaded (n : ℕ) (p : List ℕ) (W : Win) (T : Set) : Type 0 where
+  pub from : ℕ
+  pub least : LeastOf n (W .e) T from
+  pub upto : ℕ
+  pub greatest : GreatestOf n (W .l) T upto
+  pub over : upto < from + totalOf n p T
+
+-- no non-empty set of jobs is overloaded
+abbrev pub NoneOverloaded : ℕ → List ℕ → Win → Type 0
+NoneOverloaded n p W = (T : Set) → Overloaded n p W T → ⊥
+
+-- the jobs with l ≤ b, and of these the ones with e ≥ a
+abbrev pub by : Win → ℕ → Set
+by W b k = leb (W .l ! k) b
+
+abbrev pub window : Win → ℕ → ℕ → Set
+window W a b = above (W .e) (by W b) a
+
+-- a is some job's e, b some job's l, and the jobs between them, of which there are some, last longer than b - a
+pub record Pair (n : ℕ) (p : List ℕ) (W : Win) (a b : ℕ) : Type 0 where
+  pub start : (i : ℕ) × (i < n) × (W .e ! i ≡ a)
+  pub stop : (i : ℕ) × (i < n) × (W .l ! i ≡ b)
+  pub some : (i : ℕ) × (i < n) × (window W a b i ≡ true)
+  pub over : b < a + totalOf n p (window W a b)
+
+-- 01's answer: b the least latest end, and for it a the greatest earliest start, of such a pair
+pub record FirstPair (n : ℕ) (p : List ℕ) (W : Win) (a b : ℕ) : Type 0 where
+  pub pair : Pair n p W a b
+  pub least : (a′ b′ : ℕ) → Pair n p W a′ b′ → b ≤ b′
+  pub greatest : (a′ : ℕ) → Pair n p W a′ b → a′ ≤ a
+
+-- ---- the same, computed
+
+unfoldable pub pair? : ℕ → List ℕ → Win → ℕ → ℕ → Bool
+unfolding some? totalOf
+pair? n p W a b = both (some? (window W a b) n) (ltb b (a + totalOf n p (window W a b)))
+
+-- the jobs whose latest end is such a b; for b, those whose earliest start is such an a
+unfoldable pub stops : ℕ → List ℕ → Win → Set
+unfolding some? pair?
+stops n p W k = some? (λ i. pair? n p W (W .e ! i) (W .l ! k)) n
+
+unfoldable pub starts : ℕ → List ℕ → Win → ℕ → Set
+unfolding pair?
+starts n p W b i = pair? n p W (W .e ! i) b
+
+-- what the check finds: nothing, or a and b
+pub data Found : Type 0 where
+  nothing : Found
+  pair : ℕ → ℕ → Found
+
+abbrev pub found : Bool → ℕ → ℕ → Found
+found true a b = Found.pair a b
+found false a b = nothing
+
+unfoldable pub overload : ℕ → List ℕ → Win → Found
+unfolding some? stops starts most fewest
+overload n p W =
+    let b = fewest (stops n p W) (λ k. W .l ! k) (most (λ k. true) (λ k. W .l ! k) 0 n) n in
+    let a = most (starts n p W b) (λ k. W .e ! k) 0 n in
+    found (some? (stops n p W) n) a b
+
+-- what is to be said of a finding: where nothing is found, there is no pair
+abbrev pub Finds : ℕ → List ℕ → Win → Found → Type 0
+Finds n p W nothing = (a b : ℕ) → Pair n p W a b → ⊥
+Finds n p W (Found.pair a b) = FirstPair n p W a b
+
+-- a finding in the paper's words
+abbrev pub foundSaid : Found → Said
+foundSaid nothing = said Word.none []
+foundSaid (Found.pair a b) = said Word.overload (a ∷ b ∷ [])

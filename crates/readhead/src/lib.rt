@@ -1,0 +1,47 @@
+// One job at a time (01): the overload check by 001's Theta-tree.
+mod order; // order.rt: places of the jobs in a rising order
+mod theta; // theta.rt: the tree, and the descent in it
+mod sweep; // sweep.rt: the jobs put in by rising latest end
+
+use crate::order::order;
+use crate::order::places;
+use crate::sweep::sweep;
+use answers::OverloadAnswer;
+ghost use mathlib.Core.Path.{_≡_};
+ghost use lib.ListN.{length};
+ghost use Rattle.answers.specs.Said.{saysOverload};
+ghost use Rattle.narrowing.specs.Windows.{win};
+ghost use Rattle.readhead.specs.Overload.{overload, foundSaid};
+ghost use Rattle.readhead.specs.Promise.{Good, Overloads};
+
+// The most jobs, and so the number of the tree's leaves.
+const MOST: usize = joblist::MOST;
+
+// The tree's nodes: 1 is the root, 2v and 2v + 1 are v's children, 0 is none.
+const NODES: usize = 2 * MOST;
+
+// What a good list has: the two orders of its jobs are made, and the tree is swept.
+fn find(est: &[u32], lct: &[u32], dur: &[u32]) -> OverloadAnswer
+    requires { ⌜ Good (win (now est) (now lct)) (now dur) ⌝ }
+    ensures { λ r. ⌜ saysOverload r ≡ foundSaid (overload (length (now (est .entry))) (now (dur .entry)) (win (now (est .entry)) (now (lct .entry)))) ⌝ }
+{
+    let mut place = [0usize; MOST];
+    let mut starts = [0usize; MOST];
+    let mut stops = [0usize; MOST];
+    places(lct, &mut place);
+    order(lct, &place, &mut stops);
+    places(est, &mut place);
+    order(est, &place, &mut starts);
+    sweep(est, lct, dur, &place, &starts, &stops)
+}
+
+// The overload check: none, the pair a, b, or refusal 1 to 4.
+pub fn overload(est: &[u32], lct: &[u32], dur: &[u32]) -> OverloadAnswer
+    ensures { λ r. ⌜ Overloads (win (now (est .entry)) (now (lct .entry))) (now (dur .entry)) (saysOverload r) ⌝ }
+{
+    let refusal = joblist::refusal_of_three(est, lct, dur);
+    if refusal != 0 {
+        return OverloadAnswer::Refused(refusal);
+    }
+    find(est, lct, dur)
+}
