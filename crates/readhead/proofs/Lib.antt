@@ -1,6 +1,5 @@
 pub mod Pairs
 pub mod Rows
-pub mod Cases
 pub mod ShutOut
 pub mod Nodes
 pub mod Climbs

@@ -1,60 +1,35 @@
--- The runs on the record come out as document 01 says. A wrong row is refused at its own line.
-use Prim.Native.Nat.{ℕ}
-use mathlib.Core.Path.{_≡_, refl}
+-- The runs on the record come out as document 01 says. A wrong row is refused at its own line, with the row and the place where it differs.
+use mathlib.Core.Path.{refl}
 use Rattle.lists.specs.Lists.{Every}
 use Rattle.members.specs.Members.{onesOf}
 use Rattle.timetable.specs.Table.{narrowed}
+use Rattle.readhead.specs.Promise.{checked}
 use Rattle.worked.specs.Rows.{Right}
-use Rattle.worked.specs.Cases.{narrowings}
+use Rattle.worked.specs.Cases.{runs}
 
-pub cases : Every Right narrowings
-unfolding narrowed onesOf
-cases = (
-  refl,  -- 1
-  (
-    refl,  -- 2
-    (
-      refl,  -- 3
-      (
-        refl,  -- 4
-        (
-          refl,  -- 5
-          (
-            refl,  -- 6
-            (
-              refl,  -- 6
-              (
-                refl,  -- 7
-                (
-                  refl,  -- 7
-                  (
-                    refl,  -- 8
-                    (
-                      refl,  -- 9
-                      (
-                        refl,  -- 9
-                        (
-                          refl,  -- 20
-                          (
-                            refl,  -- 21
-                            (
-                              refl,  -- 22
-                              (
-                                refl,  -- 23
-                                tt,
-                              ),
-                            ),
-                          ),
-                        ),
-                      ),
-                    ),
-                  ),
-                ),
-              ),
-            ),
-          ),
-        ),
-      ),
-    ),
-  ),
-)
+pub cases : Every Right runs
+unfolding narrowed checked onesOf
+cases =
+    (refl,  -- 1
+    (refl,  -- 2
+    (refl,  -- 3
+    (refl,  -- 4
+    (refl,  -- 5
+    (refl,  -- 6
+    (refl,  -- 6
+    (refl,  -- 7
+    (refl,  -- 7
+    (refl,  -- 8
+    (refl,  -- 9
+    (refl,  -- 9
+    (refl,  -- 10
+    (refl,  -- 10
+    (refl,  -- 11
+    (refl,  -- 12
+    (refl,  -- 20
+    (refl,  -- 21
+    (refl,  -- 22
+    (refl,  -- 23
+    (refl,  -- 24
+    (refl,  -- 25
+    tt))))))))))))))))))))))

@@ -1,11 +1,13 @@
--- Document 01's 'Runs on the record', cases 1 to 9, with capacity 0 and the outside answers of 000 and 004 (numbers from 20): capacity, jobs as
--- e, l, p, r, the log's room in records; then the answer, each job's e and l, and the words of the counted records. Every word of a log is 9 before.
+-- Document 01's 'Runs on the record', cases 1 to 12, with capacity 0 and outside answers (numbers from 20: 000's Example 1.27, 004's 4.1 and 4.2, a tie
+-- of latest ends). Of narrowing: capacity, jobs as e, l, p, r, the log's room in records; then the answer, each job's e and l, and the words of the
+-- counted records. Every word of a log is 9 before. Of the overload check: the jobs, and the pair or none.
 use Prim.Native.Nat.{ℕ, _*_}
 use mathlib.Core.List.{List, [], _∷_, _++_}
 use lib.ListN.{replicate}
-use Rattle.answers.specs.Said.{Word, said}
+use Rattle.answers.specs.Said.{Word, Said, said}
 use Rattle.journal.specs.Journal.{recordWords}
 use Rattle.timetable.specs.Table.{Call, call, After, leaves, narrowed}
+use Rattle.readhead.specs.Promise.{checked}
 use Rattle.worked.specs.Rows.{Row, Job, job, windows, durations, draws, Span, span, spans, line, upon}
 
 abbrev pub lent : ℕ → List Job → ℕ → Call
@@ -23,8 +25,18 @@ abbrev pub refuses : ℕ → ℕ → List Job → ℕ → ℕ → List ℕ → R
 refuses number cap js room k log =
     record { number = number; done = narrowed (lent cap js room); due = leaves (said Word.refused (k ∷ [])) (windows js) log }
 
-abbrev pub narrowings : List (Row After)
-narrowings =
+-- the overload check leaves the windows alone, and looks at no demand
+abbrev pub heads : ℕ → List Job → Said → Row After
+heads number js a = record { number = number; done = leaves (checked (windows js) (durations js)) (windows js) []; due = leaves a (windows js) [] }
+
+abbrev pub overloaded : ℕ → List Job → ℕ → ℕ → Row After
+overloaded number js a b = heads number js (said Word.overload (a ∷ b ∷ []))
+
+abbrev pub fine : ℕ → List Job → Row After
+fine number js = heads number js (said Word.none [])
+
+abbrev pub runs : List (Row After)
+runs =
     settles 1 1 [] 8 0 [] [] ∷
     settles 2 5 (job 2 10 3 2 ∷ job 2 7 3 2 ∷ job 2 8 4 2 ∷ []) 1 1 (span 5 10 ∷ span 2 7 ∷ span 2 8 ∷ []) (line 0 0 4 2 6) ∷
     settles 3 5 (job 2 10 3 2 ∷ job 5 10 3 2 ∷ job 4 10 4 2 ∷ []) 1 1 (span 2 7 ∷ span 5 10 ∷ span 4 10 ∷ []) (line 0 1 7 2 6) ∷
@@ -37,10 +49,16 @@ narrowings =
     settles 8 1 (job 1 1 0 5 ∷ []) 8 0 (span 1 1 ∷ []) [] ∷
     settles 9 1 (job 3 7 4 1 ∷ []) 8 0 (span 3 7 ∷ []) [] ∷
     refuses 9 1 (job 3 6 4 1 ∷ []) 8 4 (replicate (8 * recordWords) 9) ∷
+    overloaded 10 (job 0 4 2 1 ∷ job 0 4 2 1 ∷ job 0 4 2 1 ∷ []) 0 4 ∷
+    fine 10 (job 0 4 2 1 ∷ job 0 4 2 1 ∷ []) ∷
+    overloaded 11 (job 0 10 1 1 ∷ job 2 5 2 1 ∷ job 2 5 2 1 ∷ []) 2 5 ∷
+    fine 12 (job 8 10 1 1 ∷ job 0 3 1 1 ∷ []) ∷
     clashes 20 0 (job 0 1 1 1 ∷ []) 2 1 0 (line 0 0 0 0 0) ∷
     settles 21 0 (job 0 1 1 0 ∷ []) 8 0 (span 0 1 ∷ []) [] ∷
     settles 22 5 (job 1 7 5 3 ∷ job 3 10 4 2 ∷ job 1 7 3 2 ∷ job 1 12 3 3 ∷ job 1 7 3 2 ∷ []) 3 2
     (span 1 7 ∷ span 3 10 ∷ span 1 7 ∷ span 6 12 ∷ span 1 7 ∷ [])
     (line 3 0 3 1 1 ++ line 3 0 5 1 1) ∷
     settles 23 2 (job 3 7 2 1 ∷ job 2 7 3 2 ∷ []) 2 2 (span 5 7 ∷ span 2 5 ∷ []) (line 0 0 4 1 2 ++ line 1 1 5 1 1) ∷
+    clashes 24 2 (job 3 7 2 1 ∷ job 2 7 3 2 ∷ job 5 7 2 2 ∷ []) 3 2 0 (line 0 0 4 1 2 ++ line 0 0 6 1 4) ∷
+    overloaded 25 (job 1 2 1 1 ∷ job 0 2 2 1 ∷ job 1 2 1 1 ∷ []) 1 2 ∷
     []
