@@ -5,7 +5,7 @@ use native.Mathlib.Omega.{arith}
 use mathlib.Core.Path.{_≡_, refl, sym, ap, ap₂, subst, _∙_}
 use mathlib.Core.List.{List, [], _∷_, _++_}
 use lib.ListN.{length, take}
-use lib.Seq.{take-at}
+use lib.Seq.{take-all}
 use Rattle.narrowing.specs.Windows.{Win, win}
 use Rattle.narrowing.specs.Run.{Out, settled, clash, short}
 use Rattle.answers.specs.declared.Answer.{Answer}
@@ -13,10 +13,11 @@ use Rattle.answers.specs.Said.{Word, said, says}
 use Rattle.journal.specs.Journal.{cleared}
 use Rattle.joblist.specs.Limits.{fourLists, supply}
 use Rattle.joblist.specs.GoodList.{refusal}
+use Rattle.joblist.proofs.Copies.{over, over-whole}
 use Rattle.timetable.specs.Table.{Call, call, Good, refusalOf, After, leaves, ended, tabled, narrowed}
 use Rattle.timetable.specs.Promise.{Narrows}
-use Rattle.timetable.proofs.Meaning.{good-call, narrows}
-use Rattle.planner.specs.Work.{WorkLeaves, ran}
+use Rattle.timetable.proofs.Meaning.{good-call, call-good, narrows}
+use Rattle.planner.specs.Work.{EndsAs, ran, Works}
 
 -- what narrowing leaves, by the work's answer: the windows, and the log
 abbrev pub winBy : Call → Answer → Win → Win
@@ -29,9 +30,9 @@ logBy c (Answer.Settled n) log = log
 logBy c (Answer.Clash n j) log = log
 logBy c (Answer.Refused k) log = cleared (c .log)
 
--- a copy at the front of an array
-pub front : (n : ℕ) (xs zs array : List ℕ) → length xs ≡ n → array ≡ xs ++ zs → take n array ≡ xs
-front n xs zs array h e = rw e (take-at xs zs n h)
+-- a list copied over one of its length
+pub copied-over : (from to : List ℕ) → length from ≡ length to → over from to ≡ from
+copied-over from to h = over-whole from to (omega arith) ∙ take-all (length to) from (omega arith)
 
 -- a cleared log is known by its length
 pub cleared-same : (a b : List ℕ) → length a ≡ length b → cleared a ≡ cleared b
@@ -66,18 +67,18 @@ module _ (c : Call) where
   refused k e h = subst (Narrows c) (ap (tabled c) (sym (number-is k e)) ∙ by-refusal k h) (narrows c)
 
   -- the work is done
-  pub finished : (k : ℕ) → Number k → k ≡ 0 → (a : Answer) (W : Win) (log : List ℕ) → WorkLeaves c (ran c) a W log → Narrows c (leaves (says a) (winBy c a W) (logBy c a log))
+  pub finished : Good c → (a : Answer) (W : Win) (log : List ℕ) → Works c a W log → Narrows c (leaves (says a) (winBy c a W) (logBy c a log))
   unfolding narrowed ended
-  finished k e z a W log h = subst (Narrows c) (by-run (refusalOf c) (sym (number-is k e) ∙ z) ∙ go (ran c) h) (narrows c)
+  finished g a W log h = subst (Narrows c) (by-run (refusalOf c) (call-good c g) ∙ go (ran c) h) (narrows c)
     where
-      go : (o : Out) → WorkLeaves c o a W log → ended c o ≡ leaves (says a) (winBy c a W) (logBy c a log)
+      go : (o : Out) → EndsAs c o a W log → ended c o ≡ leaves (says a) (winBy c a W) (logBy c a log)
       go (settled U ms) x = rw (x .0, x .1, x .2)
       go (clash j ms) x = rw (x .0, x .1)
       go short x = rw x
 
   -- the same, where it was done on copies of the windows
-  pub worked : (k : ℕ) → Number k → k ≡ 0 → (a : Answer) (E L : List ℕ) (W : Win) (log : List ℕ) → E ≡ c .win .e → L ≡ c .win .l
-      → WorkLeaves (call (win E L) (c .p) (c .r) (c .cap) (c .log)) (ran (call (win E L) (c .p) (c .r) (c .cap) (c .log))) a W log
+  pub worked : Good c → (a : Answer) (E L : List ℕ) (W : Win) (log : List ℕ) → E ≡ c .win .e → L ≡ c .win .l
+      → Works (call (win E L) (c .p) (c .r) (c .cap) (c .log)) a W log
       → Narrows c (leaves (says a) (winBy c a W) (logBy c a log))
-  worked k n z a E L W log e l h =
-      finished k n z a W log (subst (λ (U : Win). WorkLeaves (call U (c .p) (c .r) (c .cap) (c .log)) (ran (call U (c .p) (c .r) (c .cap) (c .log))) a W log) (ap₂ win e l) h)
+  worked g a E L W log e l h =
+      finished g a W log (subst (λ (U : Win). Works (call U (c .p) (c .r) (c .cap) (c .log)) a W log) (ap₂ win e l) h)

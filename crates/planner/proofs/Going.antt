@@ -10,12 +10,11 @@ use lib.ListN.{length, length-append}
 use lib.Dec.{ltb, eqb}
 use borrow.Author.Tests.{ltb-true, ltb-false}
 use Rattle.lists.specs.Tests.{only}
-use Rattle.narrowing.specs.Windows.{Win, Side, early, late, closes}
+use Rattle.narrowing.specs.Windows.{Win, Side, early, late, closes, sideOf}
 use Rattle.narrowing.specs.Search.{Search, Move, move, after}
 use Rattle.narrowing.specs.Run.{first, resume, Out, settled, clash, short, push, ends, work, run}
 use Rattle.narrowing.proofs.Walk.{made, resume-early, resume-late, resume-end, resume-start, walk-early, walk-late, walk-round, walk-end, walk-move-early, walk-move-late, written, written-push, written-settled, written-clash, written-more}
-use Rattle.planner.specs.declared.Place.{Place}
-use Rattle.tabling.specs.Side.{sideOf}
+use Rattle.planner.specs.declared.rounds.Place.{Place}
 use Rattle.planner.specs.Places.{place, pickPlace, firstPlace, onwardOf}
 
 -- from the windows W₀, with the room as the quota, the moves ms have led to the windows W and to the place `at`

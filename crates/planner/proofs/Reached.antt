@@ -6,34 +6,28 @@ use mathlib.Core.Bool.{Bool, true, false}
 use mathlib.Core.List.{List, [], _∷_, _++_, map}
 use mathlib.Core.Option.{Option, none, some}
 use lib.ListN.{length, set, length-set, length-append}
-use Rattle.narrowing.specs.Windows.{Win, Side, early, late, moved, closes}
+use Rattle.narrowing.specs.Windows.{Win, Side, early, late, moved, closes, sideOf}
 use Rattle.narrowing.specs.Search.{Move, move}
 use Rattle.narrowing.specs.Run.{Out, settled, clash, short, run}
 use Rattle.answers.specs.declared.Answer.{Answer}
-use Rattle.joblist.specs.Limits.{mostTime, jobs}
+use Rattle.joblist.specs.Limits.{jobs}
 use Rattle.journal.specs.Journal.{roomOf, logged, rewritten}
 use Rattle.journal.proofs.Records.{room-length, logged-none, rewritten-length}
 use Rattle.timetable.specs.Time.{Jobs, bound}
 use Rattle.timetable.specs.Search.{best, search, entry}
 use Rattle.timetable.specs.Table.{Call, call, jobsOf, Good}
-use Rattle.tabling.specs.Side.{sideOf}
-use Rattle.tabling.proofs.Moves.{best-applies, time-small, good-after}
-use Rattle.planner.specs.declared.Place.{Place}
-use Rattle.planner.specs.declared.Turn.{Turn}
+use Rattle.tabling.proofs.Moves.{best-applies, good-after}
+use Rattle.planner.specs.declared.rounds.Place.{Place}
+use Rattle.planner.specs.declared.rounds.Turn.{Turn}
 use Rattle.planner.specs.Places.{place, firstPlace, onwardOf}
-use Rattle.planner.specs.Work.{timeAt, Moves, TurnSays, WorkLeaves, ran}
+use Rattle.planner.specs.Work.{Moves, TurnSays, EndsAs, ran, Works}
 use Rattle.planner.proofs.Going.{Going, going-start, going-rest, going-end, going-short, going-closed, going-on}
-use Rattle.planner.proofs.Written.{entry-length, entry-more}
+use Rattle.timetable.proofs.Entries.{entry-length}
+use Rattle.planner.proofs.Written.{entry-more}
 
 -- the call c on other windows and another log
 abbrev pub on : Call → Win → List ℕ → Call
 on c W log = call W (c .p) (c .r) (c .cap) log
-
--- a time that is found is within the limit
-pub time-most : (c : Call) (at : Place) (t : ℕ) → Good c → at .job < jobs (c .win) → timeAt c at ≡ some t → t ≤ mostTime
-time-most c at t g b h =
-    let a = best-applies c g (at .job) (sideOf (at .side)) b t h in
-    omega (arith, time-small (c .win) (c .p) (c .r) (c .cap) (c .log) g (at .job) (sideOf (at .side)) t b a)
 
 pub record Reached (c : Call) (W : Win) (log : List ℕ) (at : Place) (count : ℕ) : Type 0 where
   pub good : Good (on c W log)
@@ -60,8 +54,8 @@ moved-size : (W : Win) (j : ℕ) (s : Side) (b : ℕ) → jobs (moved W j s b) �
 moved-size W j early b = length-set (W .e) j b
 moved-size W j late b = refl
 
-leaves-as : (c : Call) (o : Out) (a : Answer) (W : Win) (log : List ℕ) → ran c ≡ o → WorkLeaves c o a W log → WorkLeaves c (ran c) a W log
-leaves-as c o a W log e h = subst (λ (x : Out). WorkLeaves c x a W log) (sym e) h
+leaves-as : (c : Call) (o : Out) (a : Answer) (W : Win) (log : List ℕ) → ran c ≡ o → EndsAs c o a W log → Works c a W log
+leaves-as c o a W log e h = subst (λ (x : Out). EndsAs c x a W log) (sym e) h
 
 module _ (c : Call) (W : Win) (log : List ℕ) (at : Place) (count : ℕ) (S : Reached c W log at count) where
   same-jobs : jobsOf (on c W log) ≡ jobsOf c
@@ -74,7 +68,7 @@ module _ (c : Call) (W : Win) (log : List ℕ) (at : Place) (count : ℕ) (S : R
   best-same x h = subst (λ (J : Jobs). best J W (at .job) (sideOf (at .side)) ≡ x) same-jobs h
 
   -- no job is left
-  pub reached-end : jobs (c .win) ≤ at .job → WorkLeaves c (ran c) (Answer.Settled count) W log
+  pub reached-end : jobs (c .win) ≤ at .job → Works c (Answer.Settled count) W log
   unfolding ran search
   reached-end b =
       leaves-as c (settled W (S .ms)) _ W log (going-end (search (jobsOf c)) (roomOf (c .log)) (c .win) W (S .ms) at (S .going) b)
@@ -97,7 +91,7 @@ module _ (c : Call) (W : Win) (log : List ℕ) (at : Place) (count : ℕ) (S : R
         }
 
     -- there is no room
-    pub reached-full : TurnSays (on c W log) at count W′ log′ Turn.Full → WorkLeaves c (ran c) (Answer.Refused 5) W′ log′
+    pub reached-full : TurnSays (on c W log) at count W′ log′ Turn.Full → Works c (Answer.Refused 5) W′ log′
     unfolding ran search
     reached-full h =
         leaves-as c short _ W′ log′
@@ -132,7 +126,7 @@ module _ (c : Call) (W : Win) (log : List ℕ) (at : Place) (count : ℕ) (S : R
       closes-same z e = subst (λ (U : Win). closes (c .p) U (at .job) ≡ z) (m .windows) e
 
       -- the move closes the window
-      pub reached-closed : closes (c .p) W′ (at .job) ≡ true → WorkLeaves c (ran c) (Answer.Clash (count + 1) (at .job)) W′ log′
+      pub reached-closed : closes (c .p) W′ (at .job) ≡ true → Works c (Answer.Clash (count + 1) (at .job)) W′ log′
       unfolding ran search
       reached-closed e =
           leaves-as c (clash (at .job) (S .ms ++ one ∷ [])) _ W′ log′

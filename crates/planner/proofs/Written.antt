@@ -4,28 +4,12 @@ use native.Mathlib.Omega.{arith}
 use mathlib.Core.Path.{_≡_, refl, sym, ap, _∙_}
 use mathlib.Core.List.{List, [], _∷_, _++_, map}
 use lib.ListN.{length}
-use Rattle.narrowing.specs.Windows.{number}
 use Rattle.narrowing.specs.Search.{Move}
-use Rattle.members.specs.Members.{setWords, setOf}
-use Rattle.members.proofs.Sets.{setOf-length}
-use Rattle.journal.specs.Journal.{recordWords, roomOf, AreRecords, logged, rewritten}
-use Rattle.journal.proofs.Records.{written-length, logged-more}
+use Rattle.journal.specs.Journal.{roomOf, logged, rewritten}
+use Rattle.journal.proofs.Records.{logged-more}
 use Rattle.timetable.specs.Time.{Jobs}
-use Rattle.timetable.specs.Search.{entry, member}
-
-pub entry-length : (J : Jobs) (m : Move) → length (entry J m) ≡ recordWords
-unfolding entry
-entry-length J m =
-    written-length (m .job) (number (m .side)) (m .choice) (setOf setWords (member J (m .before) (m .job) (m .choice)))
-    (setOf-length setWords (member J (m .before) (m .job) (m .choice)))
-
-entries-are : (J : Jobs) (ms : List Move) → AreRecords (map (entry J) ms)
-entries-are J [] = tt
-entries-are J (m ∷ ms) = (entry-length J m, entries-are J ms)
-
-entries-count : (J : Jobs) (ms : List Move) → length (map (entry J) ms) ≡ length ms
-entries-count J [] = refl
-entries-count J (m ∷ ms) = ap suc (entries-count J ms)
+use Rattle.timetable.specs.Search.{entry}
+use Rattle.timetable.proofs.Entries.{entry-length, entries-are, entries-count}
 
 entries-more : (J : Jobs) (ms : List Move) (m : Move) → map (entry J) (ms ++ m ∷ []) ≡ map (entry J) ms ++ entry J m ∷ []
 entries-more J [] m = refl

@@ -3,7 +3,7 @@ use Prim.Native.Nat.{ℕ, zero, suc, _+_}
 use mathlib.Core.Bool.{Bool, true, false}
 use lib.Dec.{ltb, eqb}
 use Rattle.narrowing.specs.Windows.{Side, early, late}
-use Rattle.planner.specs.declared.Place.{Place}
+use Rattle.planner.specs.declared.rounds.Place.{Place}
 
 abbrev pub place : ℕ → ℕ → Bool → Place
 place job side changed = record { job = job; side = side; changed = changed }

@@ -5,15 +5,12 @@ ghost use Prim.Native.Nat.{ℕ, _+_, _≤_, _<_};
 ghost use lib.ListN.{length};
 ghost use lib.Dec.{leb, ltb, eqb};
 ghost use Rattle.lists.specs.Tests.{both};
-ghost use Rattle.narrowing.specs.Windows.{win};
-ghost use Rattle.members.specs.Members.{setWords, setOf};
 ghost use Rattle.joblist.specs.Limits.{mostTime};
-ghost use Rattle.narrowing.specs.Search.{move};
 ghost use Rattle.journal.specs.Journal.{rewritten};
-ghost use Rattle.timetable.specs.Search.{member, entry};
-ghost use Rattle.timetable.specs.Table.{jobsOf, Good};
-ghost use Rattle.tabling.specs.Side.{sideOf};
+ghost use Rattle.timetable.specs.Table.{Good};
+ghost use Rattle.narrowing.specs.Windows.{sideOf};
 ghost use Rattle.tabling.specs.Search.{asked};
+ghost use Rattle.planner.specs.Work.{membersOf, recordOf};
 
 // Whether job k is named in a record of job j at time t: another job with a demand whose sure part holds t.
 fn is_member(k: usize, j: usize, e: u32, l: u32, p: u32, r: u32, t: u32) -> bool
@@ -42,7 +39,7 @@ pub fn gather(
     t: u32,
 ) -> [u32; members::WORDS]
     requires { ⌜ Good (asked (now est) (now lct) (now dur) (now dem) 0) × (t ≤ mostTime) ⌝ }
-    ensures { λ r. ⌜ r ≡ setOf setWords (member (jobsOf (asked (now (est .entry)) (now (lct .entry)) (now (dur .entry)) (now (dem .entry)) 0)) (win (now (est .entry)) (now (lct .entry))) job t) ⌝ }
+    ensures { λ r. ⌜ r ≡ membersOf (asked (now (est .entry)) (now (lct .entry)) (now (dur .entry)) (now (dem .entry)) 0) job t ⌝ }
 {
     let mut set = members::empty();
     let mut k = 0;
@@ -68,7 +65,7 @@ pub fn note(
     k: usize,
 )
     requires { ⌜ Good (asked (now est) (now lct) (now dur) (now dem) 0) × (job < length (now est)) × (side ≤ 1) × (t ≤ mostTime) ⌝ }
-    ensures { λ _. ⌜ now (log .exit) ≡ rewritten (now (log .entry)) k (entry (jobsOf (asked (now (est .entry)) (now (lct .entry)) (now (dur .entry)) (now (dem .entry)) 0)) (move (win (now (est .entry)) (now (lct .entry))) job (sideOf side) t)) ⌝ }
+    ensures { λ _. ⌜ now (log .exit) ≡ rewritten (now (log .entry)) k (recordOf (asked (now (est .entry)) (now (lct .entry)) (now (dur .entry)) (now (dem .entry)) 0) job (sideOf side) t) ⌝ }
 {
     let set = gather(est, lct, dur, dem, job, t);
     journal::write(log, k, job as u32, side, t, set);

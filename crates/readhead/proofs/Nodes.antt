@@ -42,8 +42,7 @@ total-most n p T h f = omega (arith, totalOf-limit n p T mostTime f, mul-le-mul-
 pub empty-below : (n : ℕ) (p : List ℕ) (T : Set) → n ≤ mostJobs → ((k : ℕ) → p ! k ≤ mostTime)
     → ((c : ℕ) → ltZ (empty +ℤ pos (totalOf n p T)) (pos c) ≡ true) × (ltZ (empty +ℤ pos (totalOf n p T)) (negsuc 999999) ≡ true)
 empty-below n p T h f =
-    let m = total-most n p T h f in
-    (
+    let m = total-most n p T h f in (
       λ c. empty-early (totalOf n p T) c (omega arith),
       rw (empty-plus (totalOf n p T) (omega arith)) (lt-ltb 999999 (1000000000000 - suc (totalOf n p T)) (omega arith)),
     )

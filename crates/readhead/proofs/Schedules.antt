@@ -54,7 +54,7 @@ module _ (n : ℕ) (W : Win) (p r s : List ℕ) (ones : (k : ℕ) → k < n → 
             arith,
             S .fits t,
             total-le (λ k. busy k t) (λ k. only (runs p s k t) (r ! k)) n
-            (λ k b. rw (ones k b) (only-le (both (T k) (runs p s k t)) (runs p s k t) 1 (λ q. both-true (T k) (runs p s k t) q .1))),
+                (λ k b. rw (ones k b) (only-le (both (T k) (runs p s k t)) (runs p s k t) 1 (λ q. both-true (T k) (runs p s k t) q .1))),
           ))
       go (no h) = omega (arith, total-zeros n, total-le (λ k. busy k t) (λ k. 0) n (λ k b. early k b (omega arith) (both (T k) (runs p s k t)) refl))
 

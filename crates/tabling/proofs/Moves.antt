@@ -10,7 +10,7 @@ use lib.ListN.{length-set}
 use Rattle.lists.specs.Lists.{_!_}
 use Rattle.lists.proofs.Lists.{set-any}
 use Rattle.narrowing.specs.Windows.{Win, Side, early, late, number, Long, closes, moved, sideOf}
-use Rattle.narrowing.specs.Run as run
+use Rattle.narrowing.specs.Search as search
 use Rattle.narrowing.proofs.Moves.{long-after}
 use Rattle.joblist.specs.Limits.{jobs, mostTime}
 use Rattle.timetable.specs.Time.{Jobs, Applies, bound}
@@ -42,17 +42,17 @@ number-of-side (suc k) h = omega arith
 -- ---- the search
 
 module _ (c : Call) (g : Good c) (j : ℕ) (s : Side) (b : j < jobs (c .win)) where
-  best-is : run.Found (Applies (jobsOf c) (c .win) j s) (bound s) (best (jobsOf c) (c .win) j s)
+  best-is : search.Found (Applies (jobsOf c) (c .win) j s) (bound s) (best (jobsOf c) (c .win) j s)
   unfolding search
   best-is = searches (jobsOf c) .best-is (c .win) j s (g .long) b
 
   -- the time found is one at which the rule applies
   pub best-applies : (t : ℕ) → best (jobsOf c) (c .win) j s ≡ some t → Applies (jobsOf c) (c .win) j s (bound s t)
-  best-applies t h = subst (run.Found (Applies (jobsOf c) (c .win) j s) (bound s)) h best-is
+  best-applies t h = subst (search.Found (Applies (jobsOf c) (c .win) j s) (bound s)) h best-is
 
   -- where none is found the rule applies nowhere
   pub best-rests : best (jobsOf c) (c .win) j s ≡ none → (d : ℕ) → Applies (jobsOf c) (c .win) j s d → ⊥
-  best-rests h = subst (run.Found (Applies (jobsOf c) (c .win) j s) (bound s)) h best-is
+  best-rests h = subst (search.Found (Applies (jobsOf c) (c .win) j s) (bound s)) h best-is
 
 -- ---- a move
 

@@ -1,3 +1,2 @@
-pub mod Side
 pub mod Found
 pub mod Search
