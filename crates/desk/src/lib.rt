@@ -2,3 +2,5 @@
 // the crate that declares it is named). Each call takes any numbers whatever; its contract stands where it is declared.
 pub use journal::show_record;
 pub use planner::narrow;
+pub use readhead::overload;
+pub use replay::check_log;

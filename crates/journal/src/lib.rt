@@ -3,9 +3,18 @@ ghost use mathlib.Core.Path.{_≡_};
 ghost use Prim.Native.Nat.{_+_, _≤_};
 ghost use lib.ListN.{length};
 ghost use lib.Seq.{paste};
-ghost use Rattle.journal.specs.Journal.{written, roomOf, recordAt, rewritten, cleared};
+ghost use Rattle.journal.specs.Journal.{recordWords, written, setOfRecord, roomOf, recordAt, rewritten, cleared};
 
-// The words before the member set: job, side, time, number of members.
+// The places of the words before the member set: job, side, time, number of members.
+pub const JOB: usize = 0;
+
+pub const SIDE: usize = 1;
+
+pub const TIME: usize = 2;
+
+pub const COUNT: usize = 3;
+
+// The number of those words.
 pub const HEAD: usize = 4;
 
 // The words of a record.
@@ -29,6 +38,14 @@ pub fn show_record(log: &[u32], k: usize) -> &[u32]
         return &log[from..to];
     }
     &log[..0]
+}
+
+// The member set of a record.
+pub fn set_of(words: &[u32]) -> &[u32]
+    requires { ⌜ length (now words) ≡ recordWords ⌝ }
+    ensures { λ r. ⌜ now r ≡ setOfRecord (now (words .entry)) ⌝ }
+{
+    &words[HEAD..]
 }
 
 // Words over the log's from `at` on.

@@ -32,7 +32,7 @@ module _ (J : Jobs) (W : Win) (x : List ℕ) where
       (λ q. (q .0, q .2 .0, q .2 .1))
       (λ g q. j (q .0) .apart (g (q .0) (q .1)) (q .2))
 
-  range-judged : Judged (InRange J x) (OutOfRange J x) (inRange J x)
+  pub range-judged : Judged (InRange J x) (OutOfRange J x) (inRange J x)
   unfolding inRange
   range-judged =
       judged-as (judged-both (judged-ltb (jobOf x) (J .n)) (judged-both (judged-leb (x ! sideWord) 1) (judged-leb (timeOf x) mostTime)))
@@ -71,7 +71,7 @@ module _ (J : Jobs) (W : Win) (x : List ℕ) where
       apart f (inr (inl q)) = busy-judged k .apart (f .0 .lasts, f .0 .takes) q
       apart f (inr (inr q)) = f .1 q
 
-  partners-judged : Judged (Partners J x) (BadPartner J x) (partners J x)
+  pub partners-judged : Judged (Partners J x) (BadPartner J x) (partners J x)
   unfolding partners
   partners-judged =
       judged-as (judged-both (busy-judged (jobOf x)) members)

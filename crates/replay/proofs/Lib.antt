@@ -6,3 +6,7 @@ pub mod Taken
 pub mod Logs
 pub mod Rows
 pub mod Again
+pub mod Steps
+pub mod Chain
+pub mod Going
+pub mod Answered

@@ -1,1 +1,112 @@
-// No code yet.
+// The checker (document 01, 'Answer table'): it replays a log from the submitted windows, and rewrites them only where the log holds.
+use answers::CheckAnswer;
+
+mod facts;
+mod judge;
+
+ghost use mathlib.Core.Path.{_≡_};
+ghost use mathlib.Core.List.{[]};
+ghost use Prim.Native.Nat.{_≤_};
+ghost use lib.ListN.{length};
+ghost use Rattle.narrowing.specs.Windows.{win};
+ghost use Rattle.answers.specs.Said.{saysCheck};
+ghost use Rattle.journal.specs.Journal.{roomOf, records};
+ghost use Rattle.timetable.specs.Table.{call, Good};
+ghost use Rattle.replay.specs.Replay.{replay, finds, judged};
+ghost use Rattle.replay.specs.Promise.{Checks};
+ghost use Rattle.replay.specs.Lent.{jobsIn};
+ghost use Rattle.replay.specs.Ended.{verdict};
+
+// How a replay ends: all records are taken; the last one closed the window of a job; the place and code of the first bad one.
+enum Ended {
+    Holds,
+    Clashes(usize),
+    Rejected(usize, u32),
+}
+
+// Takes the records in turn, each on the windows that those before it have left. It ends since each turn takes one of the claimed records.
+fn replayed(
+    est: &mut [u32],
+    lct: &mut [u32],
+    dur: &[u32],
+    dem: &[u32],
+    cap: u32,
+    log: &[u32],
+    count: usize,
+) -> Ended
+    requires { ⌜ Good (call (win (now est) (now lct)) (now dur) (now dem) cap []) × (count ≤ roomOf (now log)) ⌝ }
+    ensures { λ r. ⌜ verdict r (win (now (est .exit)) (now (lct .exit))) ≡ replay (jobsIn (length (now (dur .entry))) (now (dur .entry)) (now (dem .entry)) cap) (win (now (est .entry)) (now (lct .entry))) 0 (records (now (log .entry)) 0 count) ⌝ }
+{
+    let mut i = 0;
+    while i < count {
+        let words = journal::show_record(log, i);
+        let code = judge::code_of(est, lct, dur, dem, cap, words);
+        if code != 0 {
+            return Ended::Rejected(i, code);
+        }
+        let job = words[journal::JOB] as usize;
+        tabling::shift(est, lct, job, words[journal::SIDE], words[journal::TIME]);
+        i += 1;
+        if tabling::closed(est, lct, dur, job) {
+            if i < count {
+                return Ended::Rejected(i, 20);
+            }
+            return Ended::Clashes(job);
+        }
+    }
+    Ended::Holds
+}
+
+// The replay on copies of the windows: the caller's are rewritten only where the log holds.
+fn on_copies(
+    est: &mut [u32],
+    lct: &mut [u32],
+    dur: &[u32],
+    dem: &[u32],
+    cap: u32,
+    log: &[u32],
+    count: usize,
+) -> CheckAnswer
+    requires { ⌜ Good (call (win (now est) (now lct)) (now dur) (now dem) cap []) × (count ≤ roomOf (now log)) ⌝ }
+    ensures { λ r. ⌜ finds (saysCheck r) (win (now (est .exit)) (now (lct .exit))) ≡ judged (call (win (now (est .entry)) (now (lct .entry))) (now (dur .entry)) (now (dem .entry)) cap (now (log .entry))) count (replay (jobsIn (length (now (dur .entry))) (now (dur .entry)) (now (dem .entry)) cap) (win (now (est .entry)) (now (lct .entry))) 0 (records (now (log .entry)) 0 count)) ⌝ }
+{
+    let n = est.len();
+    let mut starts = [0u32; joblist::MOST];
+    let mut ends = [0u32; joblist::MOST];
+    joblist::save(est, &mut starts);
+    joblist::save(lct, &mut ends);
+    let end = replayed(&mut starts[..n], &mut ends[..n], dur, dem, cap, log, count);
+    match end {
+        Ended::Holds => {
+            joblist::restore(&starts, est);
+            joblist::restore(&ends, lct);
+            CheckAnswer::Holds(count)
+        }
+        Ended::Clashes(job) => CheckAnswer::Clash(count, job),
+        Ended::Rejected(place, code) => CheckAnswer::Rejected(place, code),
+    }
+}
+
+// What a log comes to, replayed from the submitted windows: 1 to 4 and 6 refuse the call, the first bad record is rejected with its place and
+// code, a last record that closes a window is a clash; else the log holds, and the windows become those that it reaches. Any number may be claimed:
+// it is compared, and never multiplied.
+pub fn check_log(
+    est: &mut [u32],
+    lct: &mut [u32],
+    dur: &[u32],
+    dem: &[u32],
+    cap: u32,
+    log: &[u32],
+    count: usize,
+) -> CheckAnswer
+    ensures { λ r. ⌜ Checks (call (win (now (est .entry)) (now (lct .entry))) (now (dur .entry)) (now (dem .entry)) cap (now (log .entry))) count (finds (saysCheck r) (win (now (est .exit)) (now (lct .exit)))) ⌝ }
+{
+    let number = joblist::refusal(est, lct, dur, dem, cap);
+    if number != 0 {
+        return CheckAnswer::Refused(number);
+    }
+    if journal::room(log) < count {
+        return CheckAnswer::Refused(6);
+    }
+    on_copies(est, lct, dur, dem, cap, log, count)
+}

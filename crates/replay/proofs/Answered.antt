@@ -1,0 +1,56 @@
+-- The rows of the answer table as the code comes to them: from the end of a replay on copies of the windows, and from the tests before it.
+use Prim.Native.Nat.{ℕ, zero, suc, _≤_, _<_}
+use native.Mathlib.Omega.{arith}
+use mathlib.Core.Path.{_≡_, refl, sym, subst}
+use mathlib.Core.List.{List, [], _∷_, _++_}
+use lib.ListN.{length, drop, length-append, length-drop}
+use borrow.Author.Tests.{lt-ltb, le-ltb}
+use Rattle.narrowing.specs.Windows.{Win}
+use Rattle.answers.specs.Said.{Word, said}
+use Rattle.journal.specs.Journal.{roomOf, records}
+use Rattle.timetable.specs.Table.{Call, refusalOf}
+use Rattle.timetable.proofs.Meaning.{good-call}
+use Rattle.tabling.proofs.Good.{durations-sized}
+use Rattle.replay.specs.declared.Ended.{Ended}
+use Rattle.replay.specs.Replay.{Verdict, holds, clashes, rejected, replay, Checked, finds, judged, refuses, rows, checked}
+use Rattle.replay.specs.Promise.{Checks}
+use Rattle.replay.specs.Lent.{jobsIn}
+use Rattle.replay.specs.Ended.{verdict}
+use Rattle.replay.proofs.Meaning.{checks}
+
+-- ---- the end of a replay that left the windows U
+
+module _ (c : Call) (count : ℕ) (v : Verdict) (r : Ended) (U : Win) (h : verdict r U ≡ v) where
+  pub row-holds : (W : Win) → W ≡ U → r ≡ Ended.Holds → finds (said Word.holds (count ∷ [])) W ≡ judged c count v
+  row-holds W e q = let z : holds U ≡ v = rw q at h in rw (← z, e)
+
+  pub row-clash : (j : ℕ) → r ≡ Ended.Clashes j → finds (said Word.clash (count ∷ j ∷ [])) (c .win) ≡ judged c count v
+  row-clash j q = let z : clashes j ≡ v = rw q at h in rw (← z)
+
+  pub row-rejected : (i k : ℕ) → r ≡ Ended.Rejected i k → finds (said Word.rejected (i ∷ k ∷ [])) (c .win) ≡ judged c count v
+  row-rejected i k q = let z : rejected i k ≡ v = rw q at h in rw (← z)
+
+-- a copy keeps its length where its front of n words becomes `out`
+pub kept-length : (n m : ℕ) (kept out : List ℕ) → length kept ≡ m → n ≤ m → length out ≡ n → length (out ++ drop n kept) ≡ m
+kept-length n m kept out h k e = simp (length-append, length-drop) (omega arith)
+
+-- ---- the tests before it
+
+module _ (c : Call) (count : ℕ) where
+  -- the promise goes with the answer
+  pub promised : (a : Checked) → a ≡ checked c count → Checks c count a
+  promised a e = subst (Checks c count) (sym e) (checks c count)
+
+  pub row-refused : (k : ℕ) → (k ≡ 0 → ⊥) → k ≡ refusalOf c → refuses c k ≡ checked c count
+  unfolding checked rows
+  row-refused zero f e = absurd (f refl)
+  row-refused (suc k) f e = rw (← e)
+
+  pub row-six : refusalOf c ≡ 0 → roomOf (c .log) < count → refuses c 6 ≡ checked c count
+  unfolding checked rows
+  row-six e h = rw (e, lt-ltb (roomOf (c .log)) count h)
+
+  pub row-judged : refusalOf c ≡ 0 → count ≤ roomOf (c .log)
+      → judged c count (replay (jobsIn (length (c .p)) (c .p) (c .r) (c .cap)) (c .win) 0 (records (c .log) 0 count)) ≡ checked c count
+  unfolding checked rows
+  row-judged e h = rw (e, le-ltb (roomOf (c .log)) count h, durations-sized (good-call c e))
