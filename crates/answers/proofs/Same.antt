@@ -1,4 +1,4 @@
--- Two answers that say the same are the same Rattle value: each is read back from what it says.
+-- Two answers that say the same are the same Rattle value: each is read back from what it says. And the words are apart.
 use Prim.Native.Nat.{ℕ}
 use mathlib.Core.Path.{_≡_, refl, sym, ap, _∙_}
 use mathlib.Core.List.{List, [], _∷_}
@@ -7,6 +7,19 @@ use Rattle.answers.specs.declared.Answer.{Answer}
 use Rattle.answers.specs.declared.CheckAnswer.{CheckAnswer}
 use Rattle.answers.specs.declared.OverloadAnswer.{OverloadAnswer}
 use Rattle.answers.specs.Said.{Word, Said, says, saysCheck, saysOverload}
+
+-- the words told apart by numbers
+abbrev pub told : Word → ℕ
+told Word.settled = 0
+told Word.clash = 1
+told Word.refused = 2
+told Word.holds = 3
+told Word.rejected = 4
+told Word.none = 5
+told Word.overload = 6
+
+pub not-said : (v w : Word) → (told v ≡ told w → ⊥) → v ≡ w → ⊥
+not-said v w f e = f (ap (λ (x : Word). told x) e)
 
 -- what can be read back is the same where what is said is
 read-back : {A : Type 0} (say : A → Said) (heard : Said → A) → ((a : A) → heard (say a) ≡ a) → (a b : A) → say a ≡ say b → a ≡ b

@@ -3,6 +3,7 @@ use Prim.Native.Nat.{ℕ, zero, suc, _+_, _*_, _-_, _≤_, _<_}
 use native.Mathlib.Omega.{arith}
 use mathlib.Core.Path.{_≡_, refl, sym, ap, _∙_}
 use mathlib.Core.List.{List, [], _∷_, _++_, append-assoc, append-nil}
+use mathlib.Core.Logic.{_↔_}
 use lib.ListN.{length, take, drop, getD, replicate, length-append, length-drop, length-replicate}
 use lib.Seq.{length-take-le, take-at, drop-at, drop-drop, drop-append-add, getD-take, getD-drop, take-length, paste, take-paste, drop-paste}
 use borrow.Author.Tests.{lt-ltb, le-ltb}
@@ -19,6 +20,11 @@ room-words log k h = omega arith
 pub words-room : (log : List ℕ) (k : ℕ) → recordWords * k + recordWords ≤ length log → k < roomOf log
 unfolding roomOf
 words-room log k h = omega arith
+
+-- a log has room for fewer than k records exactly where it is shorter than a record's words for each
+pub room-short : (log : List ℕ) (k : ℕ) → (roomOf log < k) ↔ (length log < recordWords * k)
+unfolding roomOf
+room-short log k = (λ h. omega arith, λ h. omega arith)
 
 pub room-length : (log out : List ℕ) → length out ≡ length log → roomOf out ≡ roomOf log
 unfolding roomOf

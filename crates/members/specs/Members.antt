@@ -5,7 +5,7 @@ use mathlib.Core.List.{List, [], _∷_}
 use lib.Bits.{bitOr}
 use lib.Count.{onesIn}
 use lib.Dec.{eqb}
-use lib.ListN.{set}
+use lib.ListN.{length, set}
 use Rattle.lists.specs.Lists.{_!_}
 use Rattle.lists.specs.Tests.{only}
 
@@ -16,6 +16,10 @@ setWords = 8
 -- k is a member: bit (k mod 32) of word (k div 32), bit 0 lowest
 unfoldable pub has : List ℕ → ℕ → Bool
 has ws k = eqb ((ws ! (k / 32)) / 2 ^ (k % 32) % 2) 1
+
+-- the numbers that words have a bit for are those below it
+abbrev pub places : List ℕ → ℕ
+places ws = 32 * length ws
 
 -- the number of ones in words of 32 bits
 unfoldable pub onesOf : List ℕ → ℕ

@@ -1,20 +1,18 @@
--- What a run leaves: lists as long as before, and windows that a second run leaves alone; each move goes to its own bound.
+-- What a run leaves: the windows that its moves lead to, on lists as long as before, with the closing move last in a clash; and windows that a
+-- second run leaves alone.
 use Prim.Native.Nat.{ℕ, zero, suc, _≤_, _<_}
 use native.Mathlib.Omega.{arith}
-use mathlib.Core.Path.{_≡_, refl, _∙_}
+use mathlib.Core.Path.{_≡_, refl, ap, _∙_}
 use mathlib.Core.List.{List, [], _∷_}
 use lib.ListN.{length, length-set}
+use borrow.Author.Tests.{ltb-true}
 use Rattle.narrowing.specs.Windows.{Win, Side, early, late, Long, moved}
 use Rattle.narrowing.specs.Rules.{Family, Stable}
 use Rattle.narrowing.specs.Search.{Search, Searches, Move, move, after}
+use Rattle.narrowing.specs.Led.{SameLengths, Led, Closes, Reached}
 use Rattle.narrowing.specs.Run.{Next, rests, moves, nextMove, Out, settled, clash, short, push, follow, work, run, reachedBy}
 use Rattle.narrowing.proofs.Next.{Ahead, next-is}
 use Rattle.narrowing.proofs.Runs.{work-ind}
-
--- U's lists are as long as W's
-pub record SameLengths (W U : Win) : Type 0 where
-  pub early : length (U .e) ≡ length (W .e)
-  pub late : length (U .l) ≡ length (W .l)
 
 moved-lengths : (W : Win) (j : ℕ) (s : Side) (b : ℕ) → SameLengths W (moved W j s b)
 moved-lengths W j early b = record { early = rw length-set; late = refl }
@@ -23,25 +21,20 @@ moved-lengths W j late b = record { early = refl; late = rw length-set }
 lengths-trans : (A B C : Win) → SameLengths A B → SameLengths B C → SameLengths A C
 lengths-trans A B C f g = record { early = g .early ∙ f .early; late = g .late ∙ f .late }
 
--- a settled end's windows are those that its moves reach, on lists of the same lengths
-abbrev pub Reached : Search → Win → Out → Type 0
-Reached R W (settled U ms) = SameLengths W U × (U ≡ reachedBy R W ms)
-Reached R W (clash j ms) = Unit {0}
-Reached R W short = Unit {0}
-
 module _ (R : Search) (G : Family) (search : Searches R G) where
   push-reached : (W : Win) (j : ℕ) (s : Side) (c : ℕ) (o : Out) → Reached R (after R W j s c) o → Reached R W (push (move W j s c) o)
-  push-reached W j s c (settled U ms) g = (lengths-trans W (after R W j s c) U (moved-lengths W j s (R .bound s c)) (g .0), g .1)
-  push-reached W j s c (clash i ms) g = tt
+  push-reached W j s c (settled U ms) g = record { lengths = lengths-trans W (after R W j s c) U (moved-lengths W j s (R .bound s c)) (g .lengths); led = g .led }
+  push-reached W j s c (clash i ms) g =
+      record { before = move W j s c ∷ g .before; last = g .last; closing = ap (λ (ns : List Move). move W j s c ∷ ns) (g .closing); job = g .job; closed = g .closed }
   push-reached W j s c short g = tt
 
   pub run-reached : (room : ℕ) (W : Win) → Long (R .n) (R .p) W → Reached R W (run R room W)
   unfolding run
   run-reached room W L =
       work-ind R G search (λ room W j s o. Reached R W o)
-      (λ room W j s L q. (record { early = refl; late = refl }, refl))
+      (λ room W j s L q. record { lengths = record { early = refl; late = refl }; led = refl })
       (λ W j s i v c L a. tt)
-      (λ room W j s i v c L a e. tt)
+      (λ room W j s i v c L a e. record { before = []; last = move W i v c; closing = refl; job = refl; closed = ltb-true _ _ e })
       (λ room W j s i v c o L a e g. push-reached W i v c o g)
       room W 0 early L (omega arith)
 

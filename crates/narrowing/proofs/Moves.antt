@@ -8,9 +8,14 @@ use mathlib.Core.List.{List, [], _∷_}
 use lib.ListN.{set, length, length-set}
 use lib.Seq.{getD-set-other, getD-set-same}
 use borrow.Author.Tests.{ltb-true, ltb-false}
-use Rattle.narrowing.specs.Windows.{Win, Side, early, late, Long, Inside, moved, Tighter, Respects, closes, slack}
+use Rattle.narrowing.specs.Windows.{Win, Side, early, late, number, sideOf, Long, Inside, moved, Tighter, Respects, closes, slack}
 use Rattle.lists.specs.Lists.{_!_}
 use Rattle.lists.proofs.Lists.{set-any}
+
+-- a side is known by its number
+pub side-number : (s : Side) → sideOf (number s) ≡ s
+side-number early = refl
+side-number late = refl
 
 pub inside-refl : (n : ℕ) (W : Win) → Inside n W W
 inside-refl n W = record { early = λ k b. omega arith; late = λ k b. omega arith }

@@ -80,7 +80,7 @@ module _ (R : Search) (G : Family) (search : Searches R G) where
   module _ (law : Lawful (R .n) G) where
     -- ---- the run is one of the ways of Steps: moves of rules to where none applies, or to a closed window
 
-    abbrev Way : Win → Out → Type 0
+    abbrev pub Way : Win → Out → Type 0
     Way W (settled U ms) = Steps (R .n) (R .p) G W U × Stable (R .n) G U × Long (R .n) (R .p) U
     Way W (clash j ms) = (U : Win) × Steps (R .n) (R .p) G W U × (j < R .n) × (closes (R .p) U j ≡ true)
     Way W short = Unit {0}
@@ -101,14 +101,17 @@ module _ (R : Search) (G : Family) (search : Searches R G) where
         (λ room W j s i v c L a e. (after R W i v c, next (by-choice W j s i v c a) here, a .listed, e))
         (λ room W j s i v c o L a e g. push-way W (after R W i v c) (move W i v c) (by-choice W j s i v c a) o g)
 
+    pub run-way : (room : ℕ) (W : Win) → Long (R .n) (R .p) W → Way W (run R room W)
+    unfolding run
+    run-way room W L = work-way room W 0 early L (omega arith)
+
     way-good : (W : Win) (o : Out) → Way W o → Good (R .n) (R .p) G W o
     way-good W (settled U ms) g = any-settled (R .n) (R .p) G (g .0) (g .1) (g .2)
     way-good W (clash j ms) g = any-clash (R .n) (R .p) G (g .1) j (g .2) (g .3)
     way-good W short g = tt
 
     pub run-good : (room : ℕ) (W : Win) → Long (R .n) (R .p) W → Good (R .n) (R .p) G W (run R room W)
-    unfolding run
-    run-good room W L = way-good W (work R room W 0 early) (work-way room W 0 early L (omega arith))
+    run-good room W L = way-good W (run R room W) (run-way room W L)
 
     -- ---- how many moves
 

@@ -5,3 +5,4 @@ pub mod Renumbered
 pub mod Search
 pub mod Run
 pub mod Rounds
+pub mod Led

@@ -10,6 +10,7 @@ use Rattle.lists.specs.Lists.{_!_}
 use Rattle.narrowing.specs.Windows.{Win, Side, early, late, number, sideOf, Inside, Respects}
 use Rattle.narrowing.specs.Search.{Move, move}
 use Rattle.narrowing.specs.Rounds.{Choice, Chosen}
+use Rattle.narrowing.proofs.Moves.{side-number}
 use Rattle.narrowing.proofs.Steps.{stable-respects}
 use Rattle.answers.specs.Said.{Word, Said, said}
 use Rattle.journal.specs.Journal.{roomOf, recordAt, logged}
@@ -20,12 +21,13 @@ use Rattle.timetable.specs.Table.{Call, call, jobsOf, Good, After}
 use Rattle.timetable.specs.Promise.{Narrows}
 use Rattle.timetable.proofs.Entries.{entries-are, entries-count}
 use Rattle.timetable.proofs.Law.{lawful}
-use Rattle.timetable.proofs.Logs.{Logged, Settles, settled-logs, same-jobs, good-again, word}
-use Rattle.replay.specs.Codes.{jobOf, side, timeOf, OwnTrue, StatedTrue, Idles, GoodRecord, Coded}
+use Rattle.timetable.proofs.Rows.{settled-row}
+use Rattle.timetable.proofs.Again.{same-jobs, good-again, word}
+use Rattle.replay.specs.Facts.{jobOf, side, timeOf, OwnTrue, StatedTrue, Idles, GoodRecord, Coded}
 use Rattle.replay.specs.Replay.{rejected, Checked, finds, judged}
 use Rattle.replay.specs.Fate.{Fate, reached, nth}
 use Rattle.replay.specs.Promise.{Checks}
-use Rattle.replay.proofs.Taken.{entry-good, side-number}
+use Rattle.replay.proofs.Taken.{entry-good}
 use Rattle.replay.proofs.Rows.{fate-answers}
 
 -- a record that was good on W, on windows U inside W that respect its change: every test passes but the last
@@ -64,12 +66,12 @@ module _ (c : Call) (a : After) (h : Narrows c a) (n : ℕ) (e : a .says ≡ sai
   unfolding search
   first-spent [] m l x = absurd (omega arith)
   first-spent (y ∷ ys) m l x =
-      let s = settled-logs c a h (suc n) e in
-      let g = s .good in
+      let r = settled-row c a h (suc n) e in
+      let g = r .0 in
       let big = h .largest g .settled (word c a h (suc n) e (a .log)) in
       let ch = x .0 in
       let first : nth again 0 ≡ entry J y =
-      ap (λ (w : List ℕ). recordAt w 0) l ∙ logged-record (map (entry J) (y ∷ ys)) (c .log) (entries-are J (y ∷ ys)) (omega (arith, entries-count J ys, s .fits)) 0 (omega arith) in
+      ap (λ (w : List ℕ). recordAt w 0) l ∙ logged-record (map (entry J) (y ∷ ys)) (c .log) (entries-are J (y ∷ ys)) (omega (arith, entries-count J ys, r .1, r .2)) 0 (omega arith) in
       let made : y ≡ move (c .win) (y .job) (y .side) (y .choice) = ap (λ (w : Win). record { job = y .job; side = y .side; choice = y .choice; before = w }) (ch .before) in
       let good : GoodRecord J (c .win) (entry J y) =
       subst (λ (z : Move). GoodRecord J (c .win) (entry J z)) (sym made)
@@ -87,9 +89,9 @@ module _ (c : Call) (a : After) (h : Narrows c a) (n : ℕ) (e : a .says ≡ sai
   pub left-rejected : (b : Checked) → Checks again (suc n) b → b ≡ finds (said Word.rejected (0 ∷ 26 ∷ [])) (a .win)
   unfolding reached
   left-rejected b k =
-      let s = settled-logs c a h (suc n) e in
-      let l = s .logs in
+      let r = settled-row c a h (suc n) e in
+      let l = h .reasons .settled (suc n) e .logs in
       let room : roomOf (a .log) ≡ roomOf (c .log) =
-      ap roomOf (l .log) ∙ logged-room (map (entry J) (l .moves)) (c .log) (entries-are J (l .moves)) (omega (arith, entries-count J (l .moves), l .many, s .fits)) in
-      fate-answers again (suc n) b k (rejected 0 26) (good-again c a h (suc n) e (a .log)) (omega (arith, s .fits))
+      ap roomOf (l .log) ∙ logged-room (map (entry J) (l .moves)) (c .log) (entries-are J (l .moves)) (omega (arith, entries-count J (l .moves), l .many, r .1, r .2)) in
+      fate-answers again (suc n) b k (rejected 0 26) (good-again c a h (suc n) e (a .log)) (omega (arith, r .1, r .2))
       (omega arith, inr ((λ i q. absurd (omega arith)), first-spent (l .moves) (l .many) (l .log) (l .chosen), λ z. omega arith))

@@ -12,7 +12,8 @@ use Rattle.narrowing.specs.Windows.{Win, win}
 use Rattle.members.specs.Members.{onesOf}
 use Rattle.journal.specs.Journal.{recordWords, countWord, setOfRecord}
 use Rattle.timetable.specs.Table.{call, Good}
-use Rattle.replay.specs.Codes.{jobOf, side, timeOf, InRange, inRange, takesPart, partners, named, statedTrue, tightens, code}
+use Rattle.replay.specs.Facts.{jobOf, side, timeOf, InRange, named}
+use Rattle.replay.specs.Codes.{inRange, takesPart, partners, statedTrue, tightens, code}
 use Rattle.replay.specs.Lent.{jobsIn, Timed, Placed}
 use Rattle.replay.proofs.Codes.{range-judged, partners-judged}
 

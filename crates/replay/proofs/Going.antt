@@ -17,7 +17,8 @@ use Rattle.timetable.specs.Time.{bound}
 use Rattle.timetable.specs.Table.{call, Good}
 use Rattle.tabling.proofs.Good.{durations-sized, end-most}
 use Rattle.tabling.proofs.Moves.{moved-good}
-use Rattle.replay.specs.Codes.{jobOf, side, timeOf, InRange, code}
+use Rattle.replay.specs.Facts.{jobOf, side, timeOf, InRange}
+use Rattle.replay.specs.Codes.{code}
 use Rattle.replay.specs.Replay.{changed, Verdict, holds, clashes, rejected, closing, orBad, orClosed, replay}
 use Rattle.replay.specs.Lent.{jobsIn}
 use Rattle.replay.proofs.Codes.{good-record}

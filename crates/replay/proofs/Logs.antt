@@ -1,5 +1,4 @@
--- Laws over the two contracts: every log that narrowing writes is taken, replayed from the submitted windows, to the same end; replayed from the
--- windows that it left it is rejected.
+-- Every log that narrowing writes is taken, replayed from the submitted windows, to the same end.
 use Prim.Native.Nat.{ℕ, zero, suc, _+_, _*_, _≤_, _<_}
 use native.Mathlib.Omega.{arith}
 use mathlib.Core.Path.{_≡_, refl, sym, ap, subst, _∙_}
@@ -22,10 +21,11 @@ use Rattle.timetable.specs.Table.{Call, call, jobsOf, Good, refusalOf, After, e
 use Rattle.timetable.specs.Promise.{Narrows}
 use Rattle.timetable.proofs.Entries.{entries-are, entries-count}
 use Rattle.timetable.proofs.Law.{lawful, searches}
-use Rattle.timetable.proofs.Meaning.{call-good, whole, not-said}
+use Rattle.answers.proofs.Same.{not-said}
+use Rattle.timetable.proofs.Calls.{call-good, whole}
 use Rattle.timetable.proofs.Rows.{Case, cased, ran, settled-refused, clash-refused}
 use Rattle.replay.specs.Replay.{Verdict, holds, clashes, replay, Checked, finds, judged, refuses, rows, checked}
-use Rattle.replay.specs.Promise.{Checks}
+use Rattle.replay.specs.Promise.{TakesLogs}
 use Rattle.replay.proofs.Taken.{Replays, run-replays}
 
 module _ (c : Call) where
@@ -60,7 +60,7 @@ module _ (c : Call) where
 
   module _ (a : After) (h : Narrows c a) (b : Checked) where
     -- settled: holds, with the same count and windows
-    pub settled-taken : (n : ℕ) → a .says ≡ said Word.settled (n ∷ []) → Checks (after (a .log)) n b → b ≡ finds (said Word.holds (n ∷ [])) (a .win)
+    pub settled-taken : (n : ℕ) → a .says ≡ said Word.settled (n ∷ []) → b ≡ checked (after (a .log)) n → b ≡ finds (said Word.holds (n ∷ [])) (a .win)
     unfolding ended search
     settled-taken n e k = go (cased c a h)
       where
@@ -69,7 +69,7 @@ module _ (c : Call) where
             let z : length ms ≡ n = ap (λ (y : Said). y .numbers ! 0) (sym (ap (λ (y : After). y .says) q) ∙ e) in
             let l : a .log ≡ logged (map (entry J) ms) (c .log) = ap (λ (y : After). y .log) q in
             let w : a .win ≡ U = ap (λ (y : After). y .win) q in
-            k .answered
+            k
             ∙ ap (λ (x : List ℕ). checked (after x) n) l
             ∙ ap (checked (after (logged (map (entry J) ms) (c .log)))) (sym z)
             ∙ checked-left g ms (d .1)
@@ -85,7 +85,7 @@ module _ (c : Call) where
             by-run g (ran c) (replays g) (run-bounded (search J) (Applies J) (searches J) (lawful J) (roomOf (c .log)) (c .win) (g .long) (whole c g)) q
 
     -- clash: the same count and job
-    pub clash-taken : (n j : ℕ) → a .says ≡ said Word.clash (n ∷ j ∷ []) → Checks (after (a .log)) n b → b ≡ finds (said Word.clash (n ∷ j ∷ [])) (c .win)
+    pub clash-taken : (n j : ℕ) → a .says ≡ said Word.clash (n ∷ j ∷ []) → b ≡ checked (after (a .log)) n → b ≡ finds (said Word.clash (n ∷ j ∷ [])) (c .win)
     unfolding ended search
     clash-taken n j e k = go (cased c a h)
       where
@@ -96,7 +96,7 @@ module _ (c : Call) where
             let z : length ms ≡ n = ap (λ (y : Said). y .numbers ! 0) (sym (ap (λ (y : After). y .says) q) ∙ e) in
             let v : i ≡ j = ap (λ (y : Said). y .numbers ! 1) (sym (ap (λ (y : After). y .says) q) ∙ e) in
             let l : a .log ≡ logged (map (entry J) ms) (c .log) = ap (λ (y : After). y .log) q in
-            k .answered
+            k
             ∙ ap (λ (x : List ℕ). checked (after x) n) l
             ∙ ap (checked (after (logged (map (entry J) ms) (c .log)))) (sym z)
             ∙ checked-left g ms (d .1)
@@ -108,3 +108,13 @@ module _ (c : Call) where
         go (inl (i, d, q)) = absurd (clash-refused c _ _ (sym (sym (ap (λ (y : After). y .says) q) ∙ e)))
         go (inr (g, q)) =
             by-run g (ran c) (replays g) (run-bounded (search J) (Applies J) (searches J) (lawful J) (roomOf (c .log)) (c .win) (g .long) (whole c g)) q
+
+pub takes-logs : (c : Call) (count : ℕ) → TakesLogs c count (checked c count)
+takes-logs c count =
+    record {
+      settled = λ before b h l e. settled-taken (call (c .win) (c .p) (c .r) (c .cap) before) b h (checked c count) count e (at-log b l);
+      clash = λ before b h l j e. clash-taken (call (c .win) (c .p) (c .r) (c .cap) before) b h (checked c count) count j e (at-log b l);
+    }
+  where
+    at-log : (b : After) → b .log ≡ c .log → checked c count ≡ checked (call (c .win) (c .p) (c .r) (c .cap) (b .log)) count
+    at-log b l = ap (λ (x : List ℕ). checked (call (c .win) (c .p) (c .r) (c .cap) x) count) (sym l)

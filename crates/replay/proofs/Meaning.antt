@@ -13,17 +13,18 @@ use Rattle.narrowing.specs.Windows.{Win}
 use Rattle.narrowing.proofs.Steps.{step-none, closed-none-left}
 use Rattle.narrowing.proofs.Schedules.{step-schedule, none-schedule}
 use Rattle.answers.specs.Said.{Word}
+use Rattle.answers.proofs.Same.{not-said}
 use Rattle.journal.specs.Journal.{roomOf, records}
 use Rattle.timetable.specs.Time.{Applies, Fits}
 use Rattle.timetable.specs.Table.{Call, jobsOf, refusalOf}
 use Rattle.timetable.specs.Promise.{Scheduled}
 use Rattle.timetable.proofs.Exact.{exact}
-use Rattle.timetable.proofs.Meaning.{not-said}
-use Rattle.replay.specs.Codes.{jobOf}
+use Rattle.replay.specs.Facts.{jobOf}
 use Rattle.replay.specs.Replay.{Verdict, holds, clashes, rejected, replay, Checked, judged, refuses, orSix, rows, checked}
 use Rattle.replay.specs.Fate.{reached, Takes, Open, Closing, Fate}
 use Rattle.replay.specs.Promise.{taken, Reasoned, Checks}
 use Rattle.replay.proofs.Fates.{fate-exactly}
+use Rattle.replay.proofs.Logs.{takes-logs}
 use Rattle.replay.proofs.Sound.{implies, true-there, reached-step}
 
 module _ (c : Call) where
@@ -86,4 +87,4 @@ module _ (c : Call) where
   unfolding checked
   checks count =
       let f = rows-sound count (refusalOf c) in
-      record { answered = refl; implied = f .implied; kept = f .kept; none = f .none }
+      record { answered = refl; implied = f .implied; kept = f .kept; none = f .none; takes = takes-logs c count }

@@ -1,11 +1,12 @@
 -- Laws over the checker's contract alone: each refusal, code and answer is given exactly when document 01 says so and nothing before it does, in
 -- facts; two results that meet it are equal; a record changes one bound of one job.
-use Prim.Native.Nat.{ℕ, zero, suc, _+_, _≤_, _<_}
+use Prim.Native.Nat.{ℕ, zero, suc, _+_, _*_, _≤_, _<_}
 use native.Mathlib.Omega.{arith}
 use mathlib.Core.Path.{_≡_, refl, sym, ap, subst, _∙_}
 use mathlib.Core.Bool.{Bool, true, false}
 use mathlib.Core.List.{List, [], _∷_}
 use mathlib.Core.Logic.{_⊎_, inl, inr, _↔_}
+use lib.ListN.{length}
 use lib.Seq.{getD-set-other}
 use lib.Dec.{ltb}
 use borrow.Author.Tests.{ltb-true, ltb-false, lt-ltb, le-ltb}
@@ -13,17 +14,18 @@ use Rattle.lists.specs.Lists.{_!_}
 use Rattle.narrowing.specs.Windows.{Win, win, Side, early, late, moved}
 use Rattle.answers.specs.declared.CheckAnswer.{CheckAnswer}
 use Rattle.answers.specs.Said.{Word, Said, said, saysCheck}
-use Rattle.answers.proofs.Same.{check-same}
+use Rattle.answers.proofs.Same.{check-same, not-said}
 use Rattle.joblist.specs.Limits.{fourLists, supply}
 use Rattle.joblist.specs.GoodList.{Given}
 use Rattle.joblist.proofs.Refusals.{refusal-exactly}
-use Rattle.journal.specs.Journal.{roomOf, records}
+use Rattle.journal.specs.Journal.{recordWords, roomOf, records}
+use Rattle.journal.proofs.Records.{room-short}
 use Rattle.timetable.specs.Time.{bound}
 use Rattle.timetable.specs.Table.{Call, jobsOf, Good, refusalOf}
-use Rattle.timetable.proofs.Meaning.{good-call, call-good, not-said}
-use Rattle.replay.specs.Codes.{jobOf, side, timeOf}
+use Rattle.timetable.proofs.Calls.{good-call, call-good}
+use Rattle.replay.specs.Facts.{jobOf, side, timeOf}
 use Rattle.replay.specs.Replay.{changed, Verdict, holds, clashes, rejected, replay, Checked, finds, judged, refuses, orSix, rows, checked}
-use Rattle.replay.specs.Fate.{Open, Fate}
+use Rattle.replay.specs.Fate.{reached, Open, Fate}
 use Rattle.replay.specs.Promise.{Checks}
 use Rattle.replay.proofs.Fates.{fate-exactly}
 
@@ -53,7 +55,7 @@ others-stay W x k h = go (side x)
 -- refusal k's row: one of the tests 1 to 4, or 6: the log is shorter than a record's words for each claimed record
 abbrev pub RefusedRow : Call → ℕ → ℕ → Type 0
 RefusedRow c count k =
-    ((1 ≤ k) × Given k (c .win) (c .p) (fourLists (c .win) (c .p) (c .r)) (supply (c .cap))) ⊎ ((k ≡ 6) × Good c × (roomOf (c .log) < count))
+    ((1 ≤ k) × Given k (c .win) (c .p) (fourLists (c .win) (c .p) (c .r)) (supply (c .cap))) ⊎ ((k ≡ 6) × Good c × (length (c .log) < recordWords * count))
 
 module _ (c : Call) (count : ℕ) where
   abbrev verdict : Verdict
@@ -117,6 +119,34 @@ module _ (c : Call) (count : ℕ) where
         there : a .says ≡ said Word.holds (count ∷ []) → Good c × (count ≤ roomOf (c .log)) × Open c count
         there e = let r = verdict-of _ e (not-said Word.holds Word.refused (λ z. omega arith)) in (r .0, r .1, by (r .2) (r .3) (r .4))
 
+    -- "holds" counts the claimed records and leaves the windows that they reach
+    pub holds-leaves : (n : ℕ) → a .says ≡ said Word.holds (n ∷ []) → (n ≡ count) × (a .win ≡ reached c count)
+    holds-leaves n e = go (cased a h)
+      where
+        by : (v : Verdict) → Fate c count v → a ≡ judged c count v → (n ≡ count) × (a .win ≡ reached c count)
+        by (holds U) f q = (sym (ap (λ (y : Said). y .numbers ! 0) (says-of _ q _ e)), ap (λ (y : Checked). y .win) q ∙ f .0)
+        by (clashes j) f q = absurd (apart _ _ _ _ (not-said Word.clash Word.holds (λ z. omega arith)) (says-of _ q _ e))
+        by (rejected i k) f q = absurd (apart _ _ _ _ (not-said Word.rejected Word.holds (λ z. omega arith)) (says-of _ q _ e))
+
+        go : Case a → (n ≡ count) × (a .win ≡ reached c count)
+        go (tested k d q) = absurd (apart _ _ _ _ (not-said Word.refused Word.holds (λ z. omega arith)) (says-of _ q _ e))
+        go (six g b q) = absurd (apart _ _ _ _ (not-said Word.refused Word.holds (λ z. omega arith)) (says-of _ q _ e))
+        go (judges g b q) = by verdict (fate-exactly c count verdict .0 refl) q
+
+    -- any other answer leaves the windows as submitted
+    pub submitted-windows : (a .says .word ≡ Word.holds → ⊥) → a .win ≡ c .win
+    submitted-windows f = go (cased a h)
+      where
+        by : (v : Verdict) → a ≡ judged c count v → a .win ≡ c .win
+        by (holds U) q = absurd (f (ap (λ (y : Checked). y .says .word) q))
+        by (clashes j) q = ap (λ (y : Checked). y .win) q
+        by (rejected i k) q = ap (λ (y : Checked). y .win) q
+
+        go : Case a → a .win ≡ c .win
+        go (tested k d q) = ap (λ (y : Checked). y .win) q
+        go (six g b q) = ap (λ (y : Checked). y .win) q
+        go (judges g b q) = by verdict q
+
     pub clash-exactly : (j : ℕ) → (a .says ≡ said Word.clash (count ∷ j ∷ [])) ↔ (Good c × (count ≤ roomOf (c .log)) × Fate c count (clashes j))
     clash-exactly j = (there, λ x. ap (λ (y : Checked). y .says) (fate-answers (clashes j) (x .0) (x .1) (x .2)))
       where
@@ -154,7 +184,7 @@ module _ (c : Call) (count : ℕ) where
         there e (tested m d q) =
             let z : suc m ≡ k = ap (λ (y : Said). y .numbers ! 0) (says-of _ q _ e) in
             inl (omega arith, refusal-exactly (c .win) (c .p) _ _ k .0 (d ∙ z))
-        there e (six g b q) = inr (sym (ap (λ (y : Said). y .numbers ! 0) (says-of _ q _ e)), g, b)
+        there e (six g b q) = inr (sym (ap (λ (y : Said). y .numbers ! 0) (says-of _ q _ e)), g, room-short (c .log) count .0 b)
         there e (judges g b q) = absurd (word-not verdict (ap (λ (y : Said). y .word) (says-of _ q _ e)))
 
         back : RefusedRow c count k → Case a → a .says ≡ said Word.refused (k ∷ [])
@@ -165,4 +195,4 @@ module _ (c : Call) (count : ℕ) where
         back (inl (b, t)) (judges g d q) = absurd (omega (arith, sym (call-good c g) ∙ refusal-exactly (c .win) (c .p) _ _ k .1 t))
         back (inr (e, g, b)) (tested m d q) = absurd (omega (arith, sym d ∙ call-good c g))
         back (inr (e, g, b)) (six f d q) = ap (λ (y : Checked). y .says) q ∙ ap (λ (i : ℕ). said Word.refused (i ∷ [])) (sym e)
-        back (inr (e, g, b)) (judges f d q) = absurd (omega arith)
+        back (inr (e, g, b)) (judges f d q) = absurd (omega (arith, room-short (c .log) count .1 b))

@@ -20,7 +20,7 @@ use Rattle.timetable.specs.Reason.{OwnFact, Stated, namedDrawn, Changed, Implie
 use Rattle.timetable.specs.Table.{Call, jobsOf}
 use Rattle.timetable.proofs.Facts.{yes-sure, yes-runs}
 use Rattle.timetable.proofs.Law.{lawful}
-use Rattle.replay.specs.Codes.{jobOf, side, timeOf, isMember, named, OwnTrue, Tightens, GoodRecord}
+use Rattle.replay.specs.Facts.{jobOf, side, timeOf, isMember, named, OwnTrue, Tightens, GoodRecord}
 use Rattle.replay.specs.Replay.{changed}
 use Rattle.replay.specs.Fate.{reached, Takes, Open}
 

@@ -18,7 +18,8 @@ use Rattle.narrowing.specs.Windows.{Win, sideOf}
 use Rattle.members.specs.Members.{has}
 use Rattle.journal.specs.Journal.{setOfRecord}
 use Rattle.timetable.specs.Time.{sure}
-use Rattle.replay.specs.Codes.{jobOf, side, timeOf, takesPart, partners, named, ownTrue, statedTrue, tightens}
+use Rattle.replay.specs.Facts.{jobOf, side, timeOf, named}
+use Rattle.replay.specs.Codes.{takesPart, partners, ownTrue, statedTrue, tightens}
 use Rattle.replay.specs.Lent.{jobsIn}
 
 -- ---- a test at every number below m, from 0 up

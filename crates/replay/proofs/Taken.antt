@@ -7,7 +7,7 @@ use mathlib.Core.Bool.{Bool, true, false, not}
 use mathlib.Core.List.{List, [], _∷_, map}
 use lib.ListN.{drop}
 use lib.Dec.{ltb, leb, eqb}
-use borrow.Author.Tests.{ltb-true, leb-true, lt-ltb, le-leb, eq-eqb}
+use borrow.Author.Tests.{ne-eqb, eqb-false, not-true}
 use Rattle.lists.specs.Lists.{_!_}
 use Rattle.lists.specs.Tests.{both, only}
 use Rattle.lists.specs.Sums.{total}
@@ -17,22 +17,20 @@ use Rattle.lists.proofs.Lists.{set-any}
 use Rattle.narrowing.specs.Windows.{Win, Side, early, late, number, sideOf, Long, moved, closes}
 use Rattle.narrowing.specs.Search.{Move, move}
 use Rattle.narrowing.specs.Run.{Out, settled, clash, short, push, run}
+use Rattle.narrowing.proofs.Moves.{side-number}
 use Rattle.narrowing.proofs.Runs.{work-ind}
 use Rattle.members.specs.Members.{setWords, has, setOf}
 use Rattle.members.proofs.Sets.{has-setOf, has-beyond}
 use Rattle.joblist.specs.Limits.{mostTime}
 use Rattle.journal.specs.Journal.{setOfRecord}
 use Rattle.timetable.specs.Time.{Jobs, Sure, sure, load, Crowded, Applies, bound}
-use Rattle.timetable.specs.Search.{search, member, entry}
-use Rattle.timetable.proofs.Facts.{sure-yes}
+use Rattle.timetable.specs.Search.{search, Member, member, entry}
+use Rattle.timetable.proofs.Facts.{sure-yes, yes-sure, member-yes, yes-member}
 use Rattle.timetable.proofs.Law.{searches}
-use Rattle.replay.specs.Codes.{jobOf, side, timeOf, isMember, named, OwnTrue, Tightens, GoodRecord, code}
+use Rattle.replay.specs.Facts.{jobOf, side, timeOf, isMember, named, OwnTrue, Tightens, GoodRecord}
+use Rattle.replay.specs.Codes.{code}
 use Rattle.replay.specs.Replay.{changed, Verdict, holds, clashes, replay}
 use Rattle.replay.proofs.Codes.{record-good}
-
-pub side-number : (s : Side) → sideOf (number s) ≡ s
-side-number early = refl
-side-number late = refl
 
 number-most : (s : Side) → number s ≤ 1
 number-most early = omega arith
@@ -58,28 +56,6 @@ module _ (J : Jobs) (W : Win) (few : J .n ≤ 32 * setWords) (L : Long (J .n) (J
   tightens-at early d = d .from
   tightens-at late d = d .to
 
-  -- what a member of the writer's is
-  pub record Written (k : ℕ) : Type 0 where
-    pub listed : k < J .n
-    pub other : not (eqb k j) ≡ true
-    pub takes : 1 ≤ J .r ! k
-    pub sure-there : sure (J .p) W k t ≡ true
-
-  member-yes : (k : ℕ) → member J W j t k ≡ true → Written k
-  unfolding member
-  member-yes k h =
-      let c = both-true (ltb k (J .n)) (both (not (eqb k j)) (both (leb 1 (J .r ! k)) (sure (J .p) W k t))) h in
-      let d = both-true (not (eqb k j)) (both (leb 1 (J .r ! k)) (sure (J .p) W k t)) (c .1) in
-      let e = both-true (leb 1 (J .r ! k)) (sure (J .p) W k t) (d .1) in
-      record { listed = ltb-true k (J .n) (c .0); other = d .0; takes = leb-true 1 (J .r ! k) (e .0); sure-there = e .1 }
-
-  yes-member : (k : ℕ) → k < J .n → both (not (eqb k j)) (sure (J .p) W k t) ≡ true → (J .r ! k ≡ 0 → ⊥) → member J W j t k ≡ true
-  unfolding member
-  yes-member k c h r =
-      let d = both-true (not (eqb k j)) (sure (J .p) W k t) h in
-      true-both (ltb k (J .n)) _ (lt-ltb _ _ c)
-      (true-both (not (eqb k j)) _ (d .0) (true-both (leb 1 (J .r ! k)) (sure (J .p) W k t) (omega (arith, le-leb)) (d .1)))
-
   abbrev set : List ℕ
   set = setOf setWords (member J W j t)
 
@@ -98,11 +74,11 @@ module _ (J : Jobs) (W : Win) (few : J .n ≤ 32 * setWords) (L : Long (J .n) (J
       (λ k c.
       rw (has-setOf setWords (member J W j t) k (omega arith))
       (only-cong (member J W j t k) (both (not (eqb k j)) (sure (J .p) W k t)) (J .r ! k)
-      (λ q. let m = member-yes k q in true-both (not (eqb k j)) (sure (J .p) W k t) (m .other) (m .sure-there))
-      (yes-member k c)))
-
-  not-self : (k : ℕ) → not (eqb k j) ≡ true → k ≡ j → ⊥
-  not-self k h e = let z : not (eqb k j) ≡ false = rw (eq-eqb k j e) in let q : _≡_ {A = ℕ} 0 1 = cc in omega arith
+      (λ q. let m = member-yes J W j t k q in true-both (not (eqb k j)) (sure (J .p) W k t) (rw (ne-eqb k j (m .other))) (yes-sure (J .p) W k t (m .sure-there)))
+      (λ q r.
+      let d = both-true (not (eqb k j)) (sure (J .p) W k t) q in
+      yes-member J W j t k
+      (record { listed = c; other = eqb-false k j (not-true (eqb k j) (d .0)); takes = omega arith; sure-there = sure-yes (J .p) W k t (d .1) }))))
 
   pub entry-good : GoodRecord J W (entry J (move W j s t))
   unfolding entry named Long
@@ -114,15 +90,15 @@ module _ (J : Jobs) (W : Win) (few : J .n ≤ 32 * setWords) (L : Long (J .n) (J
           lasts = c .lasts;
           takes = c .takes;
           members = λ k h.
-              let m = member-yes k (has-member k h) in
-              let q = sure-yes (J .p) W k t (m .sure-there) in
-              (record { listed = m .listed; lasts = omega (arith, q .from, q .to, L k (m .listed)); takes = m .takes }, not-self k (m .other));
+              let m = member-yes J W j t k (has-member k h) in
+              let q = m .sure-there in
+              (record { listed = m .listed; lasts = omega (arith, q .from, q .to, L k (m .listed)); takes = m .takes }, m .other);
         };
         counted = refl;
         exceeds = omega (arith, c .over, members-load);
         stated = record {
           own = rw (side-number s) (own-at s a);
-          members = λ k h. sure-yes (J .p) W k t (member-yes k (has-member k h) .sure-there);
+          members = λ k h. member-yes J W j t k (has-member k h) .sure-there;
         };
         tightens = rw (side-number s) (tightens-at s a);
       }

@@ -9,7 +9,7 @@ use Rattle.joblist.specs.Limits.{mostTime, jobs, threeLists}
 use Rattle.joblist.specs.GoodList.{GoodList}
 use Rattle.journal.specs.Journal.{recordWords}
 use Rattle.timetable.specs.Time.{Jobs}
-use Rattle.replay.specs.Codes.{jobOf, timeOf, isMember}
+use Rattle.replay.specs.Facts.{jobOf, timeOf, isMember}
 
 -- n jobs with their durations, demands and the capacity; what a test does not look at stands empty or 0
 abbrev pub jobsIn : ℕ → List ℕ → List ℕ → ℕ → Jobs

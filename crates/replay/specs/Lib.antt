@@ -1,3 +1,4 @@
+pub mod Facts
 pub mod Codes
 pub mod Replay
 pub mod Fate

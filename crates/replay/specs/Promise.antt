@@ -1,15 +1,14 @@
 -- What the checker promises, of a call, the number of claimed records, and what it finds (the mission's demand 2).
-use Prim.Native.Nat.{ℕ, zero, suc, _<_}
+use Prim.Native.Nat.{ℕ, _<_}
 use mathlib.Core.Path.{_≡_}
-use mathlib.Core.List.{List}
+use mathlib.Core.List.{List, [], _∷_}
 use Rattle.lists.specs.Lists.{_!_}
-use Rattle.narrowing.specs.Windows.{Win}
-use Rattle.answers.specs.Said.{Word, Said}
-use Rattle.timetable.specs.Table.{Call, jobsOf}
-use Rattle.timetable.specs.Promise.{Scheduled}
+use Rattle.answers.specs.Said.{Word, Said, said}
+use Rattle.timetable.specs.Table.{Call, call, jobsOf, After}
+use Rattle.timetable.specs.Promise.{Scheduled, Narrows}
 use Rattle.timetable.specs.Reason.{Stated, Implied, Within}
-use Rattle.replay.specs.Codes.{jobOf, side, timeOf, isMember}
-use Rattle.replay.specs.Replay.{Checked, checked}
+use Rattle.replay.specs.Facts.{jobOf, side, timeOf, isMember}
+use Rattle.replay.specs.Replay.{Checked, finds, checked}
 use Rattle.replay.specs.Fate.{nth, reached}
 
 -- the number of records that an answer takes: all where it holds or clashes, those before the bad one where it is rejected
@@ -31,6 +30,13 @@ pub record Reasoned (c : Call) (i : ℕ) : Type 0 where
   pub true-there : (s : List ℕ) → Within (jobsOf c .n) (c .p) (reached c i) s
       → Stated (jobsOf c .n) (c .p) s (isMember (nth c i)) (jobOf (nth c i)) (side (nth c i)) (timeOf (nth c i))
 
+-- a log that narrowing left on these windows, whatever stood in it before, with all its records claimed, is taken to the same end
+pub record TakesLogs (c : Call) (count : ℕ) (a : Checked) : Type 0 where
+  pub settled : (before : List ℕ) (b : After) → Narrows (call (c .win) (c .p) (c .r) (c .cap) before) b → b .log ≡ c .log
+      → b .says ≡ said Word.settled (count ∷ []) → a ≡ finds (said Word.holds (count ∷ [])) (b .win)
+  pub clash : (before : List ℕ) (b : After) → Narrows (call (c .win) (c .p) (c .r) (c .cap) before) b → b .log ≡ c .log
+      → (j : ℕ) → b .says ≡ said Word.clash (count ∷ j ∷ []) → a ≡ finds (said Word.clash (count ∷ j ∷ [])) (c .win)
+
 -- the contract of the checker
 pub record Checks (c : Call) (count : ℕ) (a : Checked) : Type 0 where
   pub answered : a ≡ checked c count
@@ -40,3 +46,5 @@ pub record Checks (c : Call) (count : ℕ) (a : Checked) : Type 0 where
   pub kept : (s : List ℕ) → Scheduled c (c .win) s → Scheduled c (a .win) s
   -- a clash means that there is none
   pub none : a .says .word ≡ Word.clash → (s : List ℕ) → Scheduled c (c .win) s → ⊥
+  -- every log that narrowing writes is taken
+  pub takes : TakesLogs c count a

@@ -9,7 +9,8 @@ use Rattle.answers.specs.Said.{Word, Said, said}
 use Rattle.journal.specs.Journal.{roomOf, recordAt, records}
 use Rattle.timetable.specs.Time.{Jobs, bound}
 use Rattle.timetable.specs.Table.{Call, jobsOf, refusalOf}
-use Rattle.replay.specs.Codes.{jobOf, side, timeOf, code}
+use Rattle.replay.specs.Facts.{jobOf, side, timeOf}
+use Rattle.replay.specs.Codes.{code}
 
 -- the windows after a record: one bound of its job moves, to t + 1 on side 0 and to t on side 1
 unfoldable pub changed : Win → List ℕ → Win

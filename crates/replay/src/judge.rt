@@ -13,7 +13,8 @@ ghost use Rattle.members.specs.Members.{has, onesOf};
 ghost use Rattle.joblist.specs.Limits.{mostDemand, mostJobs};
 ghost use Rattle.journal.specs.Journal.{recordWords, countWord, setOfRecord};
 ghost use Rattle.timetable.specs.Table.{call, Good};
-ghost use Rattle.replay.specs.Codes.{jobOf, side, timeOf, inRange, takesPart, partners, named, tightens, code};
+ghost use Rattle.replay.specs.Facts.{jobOf, side, timeOf, named};
+ghost use Rattle.replay.specs.Codes.{inRange, takesPart, partners, tightens, code};
 ghost use Rattle.replay.specs.Lent.{jobsIn};
 
 // 21: the job is in a list of n jobs, the side is 0 or 1, and the time is within its limit.

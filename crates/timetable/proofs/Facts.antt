@@ -1,17 +1,17 @@
--- The tests of sure parts, crowded times and running jobs, and the facts that they stand for.
+-- The tests of sure parts, running jobs, crowded times and a writer's members, and the facts that they stand for.
 use Prim.Native.Nat.{ℕ, _+_, _≤_, _<_}
 use native.Mathlib.Omega.{arith}
 use mathlib.Core.Path.{_≡_}
-use mathlib.Core.Bool.{Bool, true}
+use mathlib.Core.Bool.{Bool, true, not}
 use mathlib.Core.List.{List}
-use lib.Dec.{leb, ltb}
-use borrow.Author.Tests.{leb-true, ltb-true, le-leb, lt-ltb}
+use lib.Dec.{leb, ltb, eqb}
+use borrow.Author.Tests.{leb-true, ltb-true, le-leb, lt-ltb, ne-eqb, eqb-false, not-true}
 use Rattle.lists.specs.Lists.{_!_}
 use Rattle.lists.specs.Tests.{both}
 use Rattle.lists.proofs.Tests.{both-true, true-both}
 use Rattle.narrowing.specs.Windows.{Win}
 use Rattle.timetable.specs.Time.{Jobs, Runs, runs, Sure, sure, load, Crowded}
-use Rattle.timetable.specs.Search.{crowded}
+use Rattle.timetable.specs.Search.{crowded, Member, member}
 
 module _ (p : List ℕ) (W : Win) (k t : ℕ) where
   pub sure-yes : sure p W k t ≡ true → Sure p W k t
@@ -48,3 +48,23 @@ module _ (J : Jobs) (W : Win) (j t : ℕ) where
   yes-crowded h =
       true-both (leb 1 (J .p ! j)) _ (omega (arith, le-leb))
       (true-both (leb 1 (J .r ! j)) (ltb (J .cap) (load J W j t + J .r ! j)) (omega (arith, le-leb)) (omega (arith, lt-ltb)))
+
+  pub member-yes : (k : ℕ) → member J W j t k ≡ true → Member J W j t k
+  unfolding member
+  member-yes k h =
+      let c = both-true (ltb k (J .n)) (both (not (eqb k j)) (both (leb 1 (J .r ! k)) (sure (J .p) W k t))) h in
+      let d = both-true (not (eqb k j)) (both (leb 1 (J .r ! k)) (sure (J .p) W k t)) (c .1) in
+      let e = both-true (leb 1 (J .r ! k)) (sure (J .p) W k t) (d .1) in
+      record {
+        listed = ltb-true k (J .n) (c .0);
+        other = eqb-false k j (not-true (eqb k j) (d .0));
+        takes = leb-true 1 (J .r ! k) (e .0);
+        sure-there = sure-yes (J .p) W k t (e .1);
+      }
+
+  pub yes-member : (k : ℕ) → Member J W j t k → member J W j t k ≡ true
+  unfolding member
+  yes-member k m =
+      true-both (ltb k (J .n)) _ (lt-ltb _ _ (m .listed))
+      (true-both (not (eqb k j)) _ (rw (ne-eqb k j (m .other)))
+      (true-both (leb 1 (J .r ! k)) (sure (J .p) W k t) (le-leb _ _ (m .takes)) (yes-sure (J .p) W k t (m .sure-there))))

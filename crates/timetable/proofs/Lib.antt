@@ -1,9 +1,11 @@
 pub mod Facts
+pub mod Calls
 pub mod Law
 pub mod Exact
 pub mod Order
+pub mod Reasons
 pub mod Meaning
 pub mod Rows
-pub mod Logs
+pub mod Again
 pub mod Reordered
 pub mod Entries

@@ -19,39 +19,17 @@ use Rattle.narrowing.proofs.Runs.{run-good, never-short}
 use Rattle.narrowing.proofs.Runs as runs
 use Rattle.narrowing.proofs.Room.{short-below, below-short}
 use Rattle.answers.specs.Said.{Word}
+use Rattle.answers.proofs.Same.{not-said}
 use Rattle.joblist.specs.Limits.{jobs}
-use Rattle.joblist.proofs.Refusals.{good, refused-none}
 use Rattle.journal.specs.Journal.{roomOf}
 use Rattle.timetable.specs.Time.{Jobs, Applies, Fits, Overdrawn}
 use Rattle.timetable.specs.Search.{search}
 use Rattle.timetable.specs.Table.{Call, jobsOf, Good, refusalOf, After, ended, tabled, narrowed}
 use Rattle.timetable.specs.Promise.{Scheduled, StableIn, LargestIn, NoneIn, AllFixed, needs, Room, Kept, Narrowest, Narrows}
+use Rattle.timetable.proofs.Calls.{good-call, call-good, whole}
+use Rattle.timetable.proofs.Reasons.{reasons-by}
 use Rattle.timetable.proofs.Law.{lawful, searches}
 use Rattle.timetable.proofs.Exact.{exact, fixed-applies}
-
--- a word that is another one
-abbrev told : Word → ℕ
-told Word.settled = 0
-told Word.clash = 1
-told Word.refused = 2
-told Word.holds = 3
-told Word.rejected = 4
-told Word.none = 5
-told Word.overload = 6
-
-pub not-said : (v w : Word) → (told v ≡ told w → ⊥) → v ≡ w → ⊥
-not-said v w f e = f (ap (λ (x : Word). told x) e)
-
-pub good-call : (c : Call) → refusalOf c ≡ 0 → Good c
-unfolding refusalOf
-good-call c h = good (c .win) (c .p) _ _ h
-
-pub call-good : (c : Call) → Good c → refusalOf c ≡ 0
-unfolding refusalOf
-call-good c g = refused-none (c .win) (c .p) _ _ g
-
-pub whole : (c : Call) → Good c → Whole (jobsOf c .n) (c .win)
-whole c g = record { early = omega arith; late = omega (arith, g .sized .1) }
 
 -- where every job is fixed nothing is slack
 no-slack : (p : List ℕ) (W : Win) (m n : ℕ) → m ≤ n → ((k : ℕ) → k < n → W .l ! k ≡ W .e ! k + p ! k) → slack p W m ≡ 0
@@ -74,7 +52,7 @@ module _ (c : Call) (g : Good c) where
   unfolding needs search
   room-not h e = omega (arith, short-below (search J) (Applies J) (searches J) (lawful J) (c .win) (g .long) (whole c g) (roomOf (c .log)) e)
 
-  slack-room : slack (c .p) (c .win) (J .n) < roomOf (c .log) → Room c
+  pub slack-room : slack (c .p) (c .win) (J .n) < roomOf (c .log) → Room c
   unfolding needs search
   slack-room h =
       elim (decLe (needed (search J) (c .win)) (roomOf (c .log))) [
@@ -135,24 +113,24 @@ module _ (c : Call) (g : Good c) where
         decided = λ r. inl refl;
         settled = λ z. h;
         clash = λ r. (λ z. absurd (not-said Word.settled Word.clash (λ q. omega arith) z), λ x. absurd (x U (h .one)));
-        room = slack-room;
         exists = λ r. (λ z. (U, h .one), λ x. refl);
+        free = λ b. (inl refl, (λ z. (U, h .one), λ x. refl), (λ z. absurd (not-said Word.settled Word.clash (λ q. omega arith) z), λ x. absurd (x U (h .one))));
       }
   narrowest-run (clash j ms) e h =
       record {
         decided = λ r. inr refl;
         settled = λ z. absurd (not-said Word.clash Word.settled (λ q. omega arith) z);
         clash = λ r. (λ z. h, λ x. refl);
-        room = slack-room;
         exists = λ r. (λ z. absurd (not-said Word.clash Word.settled (λ q. omega arith) z), λ x. absurd (h (x .0) (x .1)));
+        free = λ b. (inr refl, (λ z. absurd (not-said Word.clash Word.settled (λ q. omega arith) z), λ x. absurd (h (x .0) (x .1))), (λ z. h, λ x. refl));
       }
   narrowest-run short e h =
       record {
         decided = λ r. absurd (room-not r e);
         settled = λ z. absurd (not-said Word.refused Word.settled (λ q. omega arith) z);
         clash = λ r. absurd (room-not r e);
-        room = slack-room;
         exists = λ r. absurd (room-not r e);
+        free = λ b. absurd (room-not (slack-room b) e);
       }
 
 -- ---- the whole table
@@ -174,4 +152,6 @@ narrows-by c (suc k) e = (
 
 pub narrows : (c : Call) → Narrows c (narrowed c)
 unfolding narrowed
-narrows c = let h = narrows-by c (refusalOf c) refl in record { answered = refl; kept = h .0; largest = h .1 }
+narrows c =
+    let h = narrows-by c (refusalOf c) refl in
+    record { answered = refl; kept = h .0; largest = h .1; reasons = reasons-by c (refusalOf c) refl }

@@ -19,7 +19,7 @@ use Rattle.timetable.specs.Table.{Call, jobsOf, Good, refusalOf, After}
 use Rattle.timetable.specs.Promise.{NoneIn, LargestIn, Room, Narrows}
 use Rattle.timetable.specs.Reordered.{SameCall}
 use Rattle.timetable.proofs.Order.{SameJobs, same-largest, same-none, turn-count}
-use Rattle.timetable.proofs.Meaning.{good-call, call-good, not-said}
+use Rattle.timetable.proofs.Calls.{good-call, call-good}
 use Rattle.timetable.proofs.Rows.{RefusedRow, refused-exactly}
 
 same-jobs : (π : ℕ → ℕ) (c d : Call) → SameCall π c d → SameJobs π (jobsOf c) (jobsOf d)

@@ -13,7 +13,7 @@ use Rattle.narrowing.specs.Run.{Out, settled, clash, short, run, count}
 use Rattle.narrowing.proofs.Room.{short-below, below-short, count-needed}
 use Rattle.answers.specs.declared.Answer.{Answer}
 use Rattle.answers.specs.Said.{Word, Said, said, says}
-use Rattle.answers.proofs.Same.{says-same}
+use Rattle.answers.proofs.Same.{says-same, not-said}
 use Rattle.joblist.specs.Limits.{fourLists, supply}
 use Rattle.joblist.specs.GoodList.{Given}
 use Rattle.joblist.proofs.Refusals.{refusal-exactly, refusal-most}
@@ -23,7 +23,7 @@ use Rattle.timetable.specs.Search.{search}
 use Rattle.timetable.specs.Table.{Call, jobsOf, Good, refusalOf, After, leaves, ended, tabled, narrowed}
 use Rattle.timetable.specs.Promise.{StableIn, NoneIn, needs, Room, Narrows}
 use Rattle.timetable.proofs.Law.{lawful, searches}
-use Rattle.timetable.proofs.Meaning.{good-call, call-good, whole, not-said}
+use Rattle.timetable.proofs.Calls.{good-call, call-good, whole}
 
 -- two results that meet the contract are equal, word for word
 pub narrows-same : (c : Call) (a b : After) → Narrows c a → Narrows c b → a ≡ b
@@ -134,7 +134,7 @@ module _ (c : Call) where
     refused-exactly k = (refused-row k, row-refused k)
 
     -- settled and clash come from a good list with room for the work, and their count is the number of records needed
-    settled-row : (n : ℕ) → a .says ≡ said Word.settled (n ∷ []) → Good c × Room c × (n ≡ needs c)
+    pub settled-row : (n : ℕ) → a .says ≡ said Word.settled (n ∷ []) → Good c × Room c × (n ≡ needs c)
     unfolding ended
     settled-row n e = go (cased a h)
       where
@@ -149,7 +149,7 @@ module _ (c : Call) where
         go (inl (i, d, q)) = absurd (settled-refused _ _ (sym (says-of _ q _ e)))
         go (inr (g, q)) = by-run g ran refl (says-of _ q _ e)
 
-    clash-row : (n j : ℕ) → a .says ≡ said Word.clash (n ∷ j ∷ []) → Good c × Room c × (n ≡ needs c)
+    pub clash-row : (n j : ℕ) → a .says ≡ said Word.clash (n ∷ j ∷ []) → Good c × Room c × (n ≡ needs c)
     unfolding ended
     clash-row n j e = go (cased a h)
       where
@@ -203,7 +203,7 @@ module _ (c : Call) where
         go x (inr q) = q
         go x (inl (n, q)) = let u = h .largest (x .0) .exists (x .1) .0 (word-of _ q) in absurd (x .2 (u .0) (u .1))
 
-    -- the count is the number of records needed: at most the sum of l - e - p, and one more in a clash
+    -- the count is the number of records needed
     pub settled-count : (n : ℕ) → a .says ≡ said Word.settled (n ∷ []) → n ≡ needs c
     settled-count n e = settled-row n e .2
 

@@ -1,6 +1,7 @@
 pub mod Time
 pub mod Search
 pub mod Table
+pub mod Reasons
 pub mod Promise
 pub mod Reason
 pub mod Reordered

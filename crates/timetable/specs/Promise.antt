@@ -11,9 +11,10 @@ use Rattle.narrowing.specs.Schedules.{Schedule}
 use Rattle.narrowing.specs.Run.{needed}
 use Rattle.answers.specs.Said.{Word}
 use Rattle.journal.specs.Journal.{roomOf}
-use Rattle.timetable.specs.Time.{Jobs, Applies, Fits, Overdrawn}
+use Rattle.timetable.specs.Time.{Applies, Fits, Overdrawn}
 use Rattle.timetable.specs.Search.{search}
 use Rattle.timetable.specs.Table.{Call, jobsOf, Good, After, narrowed}
+use Rattle.timetable.specs.Reasons.{Reasons}
 
 -- a schedule of the call's jobs within the windows W
 abbrev pub Scheduled : Call → Win → List ℕ → Type 0
@@ -58,13 +59,18 @@ pub record Narrowest (c : Call) (a : After) : Type 0 where
   pub settled : a .says .word ≡ Word.settled → LargestIn c (a .win)
   -- with room for the work a clash is given exactly when there are none
   pub clash : Room c → (a .says .word ≡ Word.clash) ↔ NoneIn c
-  -- free of the run: where the sum of l - e - p is below the room, there is room for the work
-  pub room : slack (c .p) (c .win) (jobsOf c .n) < roomOf (c .log) → Room c
-  -- and settled is given exactly when such windows exist
+  -- and settled exactly when such windows exist
   pub exists : Room c → (a .says .word ≡ Word.settled) ↔ ((U : Win) × StableIn c U)
+  -- free of the run: where the sum of l - e - p is below the room, settled or clash is said, settled exactly when such windows exist, clash
+  -- exactly when none do
+  pub free : slack (c .p) (c .win) (jobsOf c .n) < roomOf (c .log)
+      → ((a .says .word ≡ Word.settled) ⊎ (a .says .word ≡ Word.clash))
+      × ((a .says .word ≡ Word.settled) ↔ ((U : Win) × StableIn c U))
+      × ((a .says .word ≡ Word.clash) ↔ NoneIn c)
 
 -- the contract of narrowing
 pub record Narrows (c : Call) (a : After) : Type 0 where
   pub answered : a ≡ narrowed c
   pub kept : Kept c a
   pub largest : Good c → Narrowest c a
+  pub reasons : Reasons c a

@@ -1,6 +1,7 @@
 -- What the defined run looks for and writes (document 01, 'Order of work' and 'Log records'): side 0 at the greatest crowded time, side 1 at
 -- the least; and the record of a move.
-use Prim.Native.Nat.{ℕ, _+_, _-_}
+use Prim.Native.Nat.{ℕ, _+_, _-_, _≤_, _<_}
+use mathlib.Core.Path.{_≡_}
 use mathlib.Core.Bool.{Bool, not}
 use mathlib.Core.List.{List}
 use mathlib.Core.Option.{Option}
@@ -12,7 +13,7 @@ use Rattle.narrowing.specs.Windows.{Win, Side, early, late, number}
 use Rattle.narrowing.specs.Search.{Search, Move}
 use Rattle.members.specs.Members.{setWords, setOf}
 use Rattle.journal.specs.Journal.{written}
-use Rattle.timetable.specs.Time.{Jobs, sure, load, bound}
+use Rattle.timetable.specs.Time.{Jobs, Sure, sure, load, bound}
 
 -- the test of `Crowded`
 unfoldable pub crowded : Jobs → Win → ℕ → ℕ → Bool
@@ -29,7 +30,14 @@ unfoldable pub search : Jobs → Search
 unfolding best
 search J = record { n = J .n; p = J .p; best = best J; bound = bound }
 
--- the writer's members: all other jobs with r ≥ 1 whose sure part holds t
+-- a writer's member: another job of the list with r ≥ 1 whose sure part holds t
+pub record Member (J : Jobs) (W : Win) (j t k : ℕ) : Type 0 where
+  pub listed : k < J .n
+  pub other : k ≡ j → ⊥
+  pub takes : 1 ≤ J .r ! k
+  pub sure-there : Sure (J .p) W k t
+
+-- the test of `Member`
 unfoldable pub member : Jobs → Win → ℕ → ℕ → ℕ → Bool
 unfolding sure
 member J W j t k = both (ltb k (J .n)) (both (not (eqb k j)) (both (leb 1 (J .r ! k)) (sure (J .p) W k t)))

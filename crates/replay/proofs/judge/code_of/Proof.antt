@@ -13,7 +13,8 @@ use Rattle.lists.specs.Lists.{_!_}
 use Rattle.narrowing.specs.Windows.{win}
 use Rattle.members.specs.Members.{onesOf}
 use Rattle.journal.specs.Journal.{countWord, setOfRecord}
-use Rattle.replay.specs.Codes.{jobOf, InRange, inRange, partners, named, statedTrue}
+use Rattle.replay.specs.Facts.{jobOf, InRange, named}
+use Rattle.replay.specs.Codes.{inRange, partners, statedTrue}
 use Rattle.replay.specs.Lent.{jobsIn}
 use Rattle.replay.proofs.Chain.{Chain, code-is, ranged, placed, timed}
 use Rattle.replay.proofs.judge.code_of.Statement.{statement}

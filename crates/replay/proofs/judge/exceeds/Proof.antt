@@ -1,7 +1,7 @@
 -- `replay::judge::exceeds` meets its contract: the sum of the demands named is small, so that one demand more fits the word.
 use native.Mathlib.Omega.{arith}
 use borrow.Author.Needs.{needs}
-use Rattle.replay.specs.Codes.{jobOf}
+use Rattle.replay.specs.Facts.{jobOf}
 use Rattle.replay.proofs.judge.exceeds.Statement.{statement}
 use Rattle.replay.proofs.judge.exceeds.Tie as tie
 

@@ -1,7 +1,7 @@
 -- `replay::judge::tightens` meets its contract: the side's number picks the bound.
 use borrow.Author.Needs.{needs}
 use Rattle.narrowing.specs.Windows.{win}
-use Rattle.replay.specs.Codes.{jobOf, timeOf}
+use Rattle.replay.specs.Facts.{jobOf, timeOf}
 use Rattle.replay.proofs.Steps.{tightens-early, tightens-late}
 use Rattle.replay.proofs.judge.tightens.Statement.{statement}
 use Rattle.replay.proofs.judge.tightens.Tie as tie

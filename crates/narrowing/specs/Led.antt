@@ -1,0 +1,32 @@
+-- What moves lead to: the windows of a settled end, and the closing move of a clash.
+use Prim.Native.Nat.{ℕ, _+_, _<_}
+use mathlib.Core.Path.{_≡_}
+use mathlib.Core.List.{List, [], _∷_, _++_}
+use lib.ListN.{length}
+use Rattle.lists.specs.Lists.{_!_}
+use Rattle.narrowing.specs.Windows.{Win}
+use Rattle.narrowing.specs.Search.{Search, Move}
+use Rattle.narrowing.specs.Run.{Out, settled, clash, short, reachedBy}
+
+-- U's lists are as long as W's
+pub record SameLengths (W U : Win) : Type 0 where
+  pub early : length (U .e) ≡ length (W .e)
+  pub late : length (U .l) ≡ length (W .l)
+
+-- the moves lead from W to U, one bound of one job at a time
+pub record Led (R : Search) (W : Win) (ms : List Move) (U : Win) : Type 0 where
+  pub lengths : SameLengths W U
+  pub led : U ≡ reachedBy R W ms
+
+-- the last move is job j's, and leaves j's window shorter than the job
+pub record Closes (R : Search) (W : Win) (ms : List Move) (j : ℕ) : Type 0 where
+  pub before : List Move
+  pub last : Move
+  pub closing : ms ≡ before ++ (last ∷ [])
+  pub job : last .job ≡ j
+  pub closed : reachedBy R W ms .l ! j < reachedBy R W ms .e ! j + R .p ! j
+
+abbrev pub Reached : Search → Win → Out → Type 0
+Reached R W (settled U ms) = Led R W ms U
+Reached R W (clash j ms) = Closes R W ms j
+Reached R W short = Unit {0}

@@ -1,0 +1,70 @@
+-- The answer table's log is what narrowing promises of it: the records of the run's moves, in their order, with the closing one last.
+use Prim.Native.Nat.{ℕ, zero, suc, _≤_}
+use native.Mathlib.Omega.{arith}
+use mathlib.Core.Path.{_≡_, refl, ap, subst}
+use mathlib.Core.List.{List, [], _∷_}
+use lib.ListN.{length}
+use Rattle.lists.specs.Lists.{_!_}
+use Rattle.narrowing.specs.Windows.{early}
+use Rattle.narrowing.specs.Rounds.{Chosen}
+use Rattle.narrowing.specs.Led.{Closes, Reached}
+use Rattle.narrowing.specs.Run.{Out, settled, clash, short, run, movesOf}
+use Rattle.narrowing.proofs.Runs.{Bounded, run-chosen, run-bounded}
+use Rattle.narrowing.proofs.Again.{run-reached}
+use Rattle.answers.specs.Said.{Word, Said, said}
+use Rattle.answers.proofs.Same.{not-said}
+use Rattle.journal.specs.Journal.{roomOf}
+use Rattle.timetable.specs.Time.{Jobs, Applies}
+use Rattle.timetable.specs.Search.{search}
+use Rattle.timetable.specs.Table.{Call, jobsOf, Good, refusalOf, ended, tabled}
+use Rattle.timetable.specs.Reasons.{Logged, Settles, Clashes, Reasons}
+use Rattle.timetable.proofs.Calls.{good-call, whole}
+use Rattle.timetable.proofs.Law.{lawful, searches}
+
+apart : (v w : Word) (ns ms : List ℕ) → (v ≡ w → ⊥) → said v ns ≡ said w ms → ⊥
+apart v w ns ms f e = f (ap (λ (x : Said). x .word) e)
+
+module _ (c : Call) where
+  abbrev J : Jobs
+  J = jobsOf c
+
+  ended-reasons : (o : Out) → Chosen (search J) (Applies J) (c .win) 0 early (movesOf o) → Bounded (search J) (roomOf (c .log)) (c .win) o → Reached (search J) (c .win) o
+      → Reasons c (ended c o)
+  unfolding ended search
+  ended-reasons (settled U ms) x b r =
+      record {
+        settled = λ n e.
+            let z : length ms ≡ n = ap (λ (y : Said). y .numbers ! 0) e in
+            record { logs = record { moves = ms; many = z; log = refl; chosen = x }; led = r; most = omega (arith, b .0) };
+        clash = λ n j e. absurd (apart _ _ _ _ (not-said Word.settled Word.clash (λ q. omega arith)) e);
+      }
+  ended-reasons (clash i ms) x b r =
+      record {
+        settled = λ n e. absurd (apart _ _ _ _ (not-said Word.clash Word.settled (λ q. omega arith)) e);
+        clash = λ n j e.
+            let z : length ms ≡ n = ap (λ (y : Said). y .numbers ! 0) e in
+            record {
+              logs = record { moves = ms; many = z; log = refl; chosen = x };
+              closes = subst (Closes (search J) (c .win) ms) (ap (λ (y : Said). y .numbers ! 1) e) r;
+              most = omega (arith, b .0);
+            };
+      }
+  ended-reasons short x b r =
+      record {
+        settled = λ n e. absurd (apart _ _ _ _ (not-said Word.refused Word.settled (λ q. omega arith)) e);
+        clash = λ n j e. absurd (apart _ _ _ _ (not-said Word.refused Word.clash (λ q. omega arith)) e);
+      }
+
+  pub reasons-by : (k : ℕ) → refusalOf c ≡ k → Reasons c (tabled c k)
+  unfolding tabled search
+  reasons-by zero e =
+      let g = good-call c e in
+      ended-reasons (run (search J) (roomOf (c .log)) (c .win))
+      (run-chosen (search J) (Applies J) (searches J) (roomOf (c .log)) (c .win) (g .long))
+      (run-bounded (search J) (Applies J) (searches J) (lawful J) (roomOf (c .log)) (c .win) (g .long) (whole c g))
+      (run-reached (search J) (Applies J) (searches J) (roomOf (c .log)) (c .win) (g .long))
+  reasons-by (suc k) e =
+      record {
+        settled = λ n e. absurd (apart _ _ _ _ (not-said Word.refused Word.settled (λ q. omega arith)) e);
+        clash = λ n j e. absurd (apart _ _ _ _ (not-said Word.refused Word.clash (λ q. omega arith)) e);
+      }

@@ -1,0 +1,37 @@
+-- What the log of an answer holds (document 01, 'Order of work' and 'Log records'): a record for each move, the closing one last in a clash.
+use Prim.Native.Nat.{ℕ, suc, _≤_}
+use mathlib.Core.Path.{_≡_}
+use mathlib.Core.List.{List, [], _∷_, map}
+use lib.ListN.{length}
+use Rattle.narrowing.specs.Windows.{early, slack}
+use Rattle.narrowing.specs.Search.{Move}
+use Rattle.narrowing.specs.Rounds.{Chosen}
+use Rattle.narrowing.specs.Led.{Led, Closes}
+use Rattle.answers.specs.Said.{Word, said}
+use Rattle.journal.specs.Journal.{logged}
+use Rattle.timetable.specs.Time.{Applies}
+use Rattle.timetable.specs.Search.{search, entry}
+use Rattle.timetable.specs.Table.{Call, jobsOf, After}
+
+-- n records in the log, the rest as before: each is a move's, the search's own choice on the windows that those before it left, to its own bound
+pub record Logged (c : Call) (a : After) (n : ℕ) : Type 0 where
+  pub moves : List Move
+  pub many : length moves ≡ n
+  pub log : a .log ≡ logged (map (entry (jobsOf c)) moves) (c .log)
+  pub chosen : Chosen (search (jobsOf c)) (Applies (jobsOf c)) (c .win) 0 early moves
+
+-- settled: the moves lead to the windows left; there are at most as many as the sum of l - e - p
+pub record Settles (c : Call) (a : After) (n : ℕ) : Type 0 where
+  pub logs : Logged c a n
+  pub led : Led (search (jobsOf c)) (c .win) (logs .moves) (a .win)
+  pub most : n ≤ slack (c .p) (c .win) (jobsOf c .n)
+
+-- clash: the last move is job j's and closes its window; there is at most one more
+pub record Clashes (c : Call) (a : After) (n j : ℕ) : Type 0 where
+  pub logs : Logged c a n
+  pub closes : Closes (search (jobsOf c)) (c .win) (logs .moves) j
+  pub most : n ≤ suc (slack (c .p) (c .win) (jobsOf c .n))
+
+pub record Reasons (c : Call) (a : After) : Type 0 where
+  pub settled : (n : ℕ) → a .says ≡ said Word.settled (n ∷ []) → Settles c a n
+  pub clash : (n j : ℕ) → a .says ≡ said Word.clash (n ∷ j ∷ []) → Clashes c a n j
