@@ -156,3 +156,15 @@ module _ (n : ℕ) (p : List ℕ) (T : Set) (k : ℕ) (b : k < n) (t : T k ≡ t
             let f : e ! (l .at) ≡ e ! k = rw q in
             omega (arith, u .is, l .is, totalOf-sub n p U T s, totalOf-one);
       }
+
+-- ---- sets with the same members
+
+pub completes-alike : (n : ℕ) (e p : List ℕ) (T O : Set) → Sub n T O → Sub n O T → (x : Option ℕ) → Completes n e p T x → Completes n e p O x
+completes-alike n e p T O h g none c = λ k b t. c k b (g k b t)
+completes-alike n e p T O h g (some y) c =
+    record {
+      T = c .T;
+      sub = λ k b t. h k b (c .sub k b t);
+      ends = c .ends;
+      most = λ U b s u. c .most U b (λ k d t. g k d (s k d t)) u;
+    }

@@ -16,7 +16,8 @@ use Rattle.joblist.specs.GoodList.{refusal}
 use Rattle.joblist.proofs.Copies.{over, over-whole}
 use Rattle.timetable.specs.Table.{Call, call, Good, refusalOf, After, leaves, ended, tabled, narrowed}
 use Rattle.timetable.specs.Promise.{Narrows}
-use Rattle.timetable.proofs.Meaning.{good-call, call-good, narrows}
+use Rattle.timetable.proofs.Calls.{good-call, call-good}
+use Rattle.timetable.proofs.Meaning.{narrows}
 use Rattle.planner.specs.Work.{EndsAs, ran, Works}
 
 -- what narrowing leaves, by the work's answer: the windows, and the log

@@ -14,11 +14,11 @@ use lib.IntN.{ℤ, pos, _+ℤ_}
 use lib.ListN.{set, length-set, replicate, length-replicate, getD-replicate}
 use lib.Seq.{getD-set-same, getD-set-other}
 use lib.Signed.{mag, ltZ}
-use Rattle.joblist.specs.Limits.{mostJobs}
+use Rattle.joblist.specs.Limits.{mostJobs, mostTime}
 use Rattle.lists.specs.Lists.{_!_}
 use Rattle.lists.specs.Sets.{Set, Empty}
 use Rattle.lists.proofs.Signed.{mag-add}
-use Rattle.readhead.specs.Theta.{endOf, empty, joined, Joins, AllJoin, Places, Holds, Ranged, Changed, Climbed}
+use Rattle.readhead.specs.Theta.{far, endOf, empty, joined, Joins, AllJoin, Places, Holds, Ranged, Changed, Climbed}
 
 -- a weight bounds what it weighs
 weighed : (x v m : ℕ) → 1 ≤ v → x * v ≤ m → x ≤ m
@@ -30,16 +30,16 @@ weights : (a b v m : ℕ) → a * (2 * v) ≤ m → b * (2 * v + 1) ≤ m → (a
 weights a b v m h k = omega (arith, mul-left-comm a 2 v, mul-add b (2 * v) 1, mul-left-comm b 2 v, add-mul a b v)
 
 module _ (m : ℕ) (sums : List ℕ) (ends : List ℤ) (r : Ranged m sums ends) where
-  pub sum-under : (v : ℕ) → 1 ≤ v → sums ! v ≤ 2000000 * m
-  sum-under v h = weighed (sums ! v) v (2000000 * m) h (r .weight v)
+  pub sum-under : (v : ℕ) → 1 ≤ v → sums ! v ≤ 2 * mostTime * m
+  sum-under v h = weighed (sums ! v) v (2 * mostTime * m) h (r .weight v)
 
   -- two children's sums together are still in range
-  pub child-sums : (v : ℕ) → 1 ≤ v → sums ! (2 * v) + sums ! (2 * v + 1) ≤ 2000000 * m
-  child-sums v h = weighed _ v (2000000 * m) h (weights (sums ! (2 * v)) (sums ! (2 * v + 1)) v (2000000 * m) (r .weight (2 * v)) (r .weight (2 * v + 1)))
+  pub child-sums : (v : ℕ) → 1 ≤ v → sums ! (2 * v) + sums ! (2 * v + 1) ≤ 2 * mostTime * m
+  child-sums v h = weighed _ v (2 * mostTime * m) h (weights (sums ! (2 * v)) (sums ! (2 * v + 1)) v (2 * mostTime * m) (r .weight (2 * v)) (r .weight (2 * v + 1)))
 
 -- at the size of the code's tree, a completion is far from a 64-bit word's limits
 module _ (sums : List ℕ) (ends : List ℤ) (r : Ranged mostJobs sums ends) where
-  pub end-under : (v : ℕ) → 1 ≤ v → mag (endOf ends v) ≤ 2000000000000
+  pub end-under : (v : ℕ) → 1 ≤ v → mag (endOf ends v) ≤ 2 * far
   end-under v h = omega (arith, r .near v, sum-under mostJobs sums ends r v h)
 
   pub end-fits : (v : ℕ) → 1 ≤ v → SFits w64 (endOf ends v)
@@ -90,14 +90,14 @@ module _ (m : ℕ) (sums₀ : List ℕ) (ends₀ : List ℤ) (sums : List ℕ) (
         near = λ u. near-by u (ℕ-discrete u v);
       }
     where
-      weight-by : (u : ℕ) → Dec (u ≡ v) → set sums v sum-now ! u * u ≤ 2000000 * m
-      weight-by u (yes e) = rw (e, sum-here) (weights (sums ! (2 * v)) (sums ! (2 * v + 1)) v (2000000 * m) (c .changed .ranged .weight (2 * v)) (c .changed .ranged .weight (2 * v + 1)))
+      weight-by : (u : ℕ) → Dec (u ≡ v) → set sums v sum-now ! u * u ≤ 2 * mostTime * m
+      weight-by u (yes e) = rw (e, sum-here) (weights (sums ! (2 * v)) (sums ! (2 * v + 1)) v (2 * mostTime * m) (c .changed .ranged .weight (2 * v)) (c .changed .ranged .weight (2 * v + 1)))
       weight-by u (no d) = rw (sum-else u d) (c .changed .ranged .weight u)
 
-      near-by : (u : ℕ) → Dec (u ≡ v) → mag (endOf (set ends v end-now) u) ≤ 1000000000000 + set sums v sum-now ! u
+      near-by : (u : ℕ) → Dec (u ≡ v) → mag (endOf (set ends v end-now) u) ≤ far + set sums v sum-now ! u
       near-by u (yes e) =
           rw (e, sum-here, end-here)
-          (joined-near (endOf ends (2 * v)) (endOf ends (2 * v + 1)) (sums ! (2 * v)) (sums ! (2 * v + 1)) 1000000000000 (c .changed .ranged .near (2 * v)) (c .changed .ranged .near (2 * v + 1)))
+          (joined-near (endOf ends (2 * v)) (endOf ends (2 * v + 1)) (sums ! (2 * v)) (sums ! (2 * v + 1)) far (c .changed .ranged .near (2 * v)) (c .changed .ranged .near (2 * v + 1)))
       near-by u (no d) = rw (sum-else u d, end-else u d) (c .changed .ranged .near u)
 
   joins-next : (u : ℕ) → 1 ≤ u → u < m → (1 < v → u ≡ v / 2 → ⊥) → Joins (set sums v sum-now) (set ends v end-now) u
@@ -140,7 +140,7 @@ climb-end m sums₀ ends₀ sums ends i c h =
 -- ---- a leaf is filled
 
 module _ (m : ℕ) (sums : List ℕ) (ends : List ℤ) (x d : ℕ) (end : ℤ) (lt : x < m) where
-  put-ranged : Ranged m sums ends → d ≤ 1000000 → mag end ≤ 1000000000000 → Ranged m (set sums (m + x) d) (set ends (m + x) end)
+  put-ranged : Ranged m sums ends → d ≤ mostTime → mag end ≤ far → Ranged m (set sums (m + x) d) (set ends (m + x) end)
   put-ranged r h k =
       record {
         sums-long = length-set sums (m + x) d ∙ r .sums-long;
@@ -152,17 +152,17 @@ module _ (m : ℕ) (sums : List ℕ) (ends : List ℤ) (x d : ℕ) (end : ℤ) (
       here : set sums (m + x) d ! (m + x) ≡ d
       here = getD-set-same sums (m + x) d 0 (omega (arith, r .sums-long))
 
-      weight-by : (u : ℕ) → Dec (u ≡ m + x) → set sums (m + x) d ! u * u ≤ 2000000 * m
+      weight-by : (u : ℕ) → Dec (u ≡ m + x) → set sums (m + x) d ! u * u ≤ 2 * mostTime * m
       weight-by u (yes e) =
           rw (e, here)
           (let top : m + x ≤ 2 * m = omega arith in omega (arith, mul-le-mul-left d top, mul-le-mul-right (2 * m) h))
       weight-by u (no e) = rw (getD-set-other sums (m + x) u d 0 e) (r .weight u)
 
-      near-by : (u : ℕ) → Dec (u ≡ m + x) → mag (endOf (set ends (m + x) end) u) ≤ 1000000000000 + set sums (m + x) d ! u
+      near-by : (u : ℕ) → Dec (u ≡ m + x) → mag (endOf (set ends (m + x) end) u) ≤ far + set sums (m + x) d ! u
       near-by u (yes e) = rw (e, getD-set-same ends (m + x) end (pos 0) (omega (arith, r .ends-long))) (omega arith)
       near-by u (no e) = rw (getD-set-other sums (m + x) u d 0 e, getD-set-other ends (m + x) u end (pos 0) e) (r .near u)
 
-  pub put-changed : Ranged m sums ends → AllJoin m sums ends → d ≤ 1000000 → mag end ≤ 1000000000000 → Changed m (set sums (m + x) d) (set ends (m + x) end) (m + x)
+  pub put-changed : Ranged m sums ends → AllJoin m sums ends → d ≤ mostTime → mag end ≤ far → Changed m (set sums (m + x) d) (set ends (m + x) end) (m + x)
   put-changed r all h k = record { from = omega arith; below = omega arith; ranged = put-ranged r h k; joins = joins }
     where
       joins : (v : ℕ) → 1 ≤ v → v < m → (1 < m + x → v ≡ (m + x) / 2 → ⊥) → Joins (set sums (m + x) d) (set ends (m + x) end) v
@@ -211,7 +211,7 @@ zeros zero v = refl
 zeros (suc k) zero = refl
 zeros (suc k) (suc v) = zeros k v
 
-nones : (k v : ℕ) → mag (endOf (replicate k empty) v) ≤ 1000000000000
+nones : (k v : ℕ) → mag (endOf (replicate k empty) v) ≤ far
 nones zero v = omega arith
 nones (suc k) zero = omega arith
 nones (suc k) (suc v) = nones k v

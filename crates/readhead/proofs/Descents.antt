@@ -19,7 +19,7 @@ use Rattle.lists.specs.Tests.{both, pick}
 use Rattle.lists.specs.Sets.{Set, Parts, totalOf, Ends, Completes, later}
 use Rattle.lists.proofs.Tests.{both-true, true-both}
 use Rattle.lists.proofs.Sets.{clash, totalOf-sub, totalOf-empty, totalOf-parts}
-use Rattle.readhead.specs.Theta.{endOf, signed, Places, Holds, span, onward, descent}
+use Rattle.readhead.specs.Theta.{far, endOf, signed, Places, Holds, span, onward, descent}
 use Rattle.readhead.proofs.Nodes.{empty-plus, signed-joined, span-in, in-span, onward-in, in-onward, inner, left-child, right-child, Held, node}
 
 -- a completion with a tail after it exceeds b; no job, no completion
@@ -28,7 +28,7 @@ exceeds none t b = false
 exceeds (some c) t b = ltb b (c + t)
 
 -- as the nodes hold it
-signed-exceeds : (x : Option ℕ) (t b : ℕ) → t < 1000000000000 → ltZ (pos b) (signed x +ℤ pos t) ≡ exceeds x t b
+signed-exceeds : (x : Option ℕ) (t b : ℕ) → t < far → ltZ (pos b) (signed x +ℤ pos t) ≡ exceeds x t b
 signed-exceeds none t b h = rw (empty-plus t h)
 signed-exceeds (some c) t b h = refl
 
@@ -59,9 +59,9 @@ pub record Last (n : ℕ) (e p : List ℕ) (σ : ℕ → ℕ) (O : Set) (b x j :
   pub after : (i : ℕ) → i < n → O i ≡ true → x < σ i → e ! i + totalOf n p (onward σ O (σ i)) ≤ b
 
 module _ (n m : ℕ) (e p : List ℕ) (σ : ℕ → ℕ) (O : Set) (sums : List ℕ) (ends : List ℤ)
-    (places : Places n m e σ) (holds : Holds n m e p σ O sums ends) (small : totalOf n p O < 1000000000000) (b : ℕ) where
+    (places : Places n m e σ) (holds : Holds n m e p σ O sums ends) (small : totalOf n p O < far) (b : ℕ) where
   -- a tail is small
-  tail-small : (a : ℕ) → totalOf n p (onward σ O a) < 1000000000000
+  tail-small : (a : ℕ) → totalOf n p (onward σ O a) < far
   tail-small a = omega (arith, totalOf-sub n p (onward σ O a) O (λ k c u. onward-in σ O a k u .0))
 
   -- the jobs from place a on are the s places' and those after them
@@ -167,7 +167,7 @@ module _ (n m : ℕ) (e p : List ℕ) (σ : ℕ → ℕ) (O : Set) (sums : List 
       unfolding after′
       tail-is = D .tail ∙ ap (λ (z : ℕ). totalOf n p (onward σ O z)) two
 
-      t-small : t < 1000000000000
+      t-small : t < far
       unfolding after′
       t-small = omega (arith, tail-is, tail-small (a + 2 ^ h + 2 ^ h))
 

@@ -2,7 +2,7 @@
 -- greatest least-e-plus-total over the non-empty sets of them (2.22), or the empty value where there is none.
 use Prim.Native.Nat.{ℕ, zero, suc, _+_, _-_, _*_, _^_, _≤_, _<_}
 use native.Mathlib.Omega.{arith}
-use native.Mathlib.Nat.{add-mul, mul-assoc, mul-comm, mul-suc, pow-suc, pow-zero, mul-one, mul-le-mul-right}
+use native.Mathlib.Nat.{add-mul, mul-assoc, mul-comm, mul-suc, pow-suc, pow-zero, mul-one, mul-le-mul-right, one-mul}
 use native.Mathlib.Decide.{decLt}
 use mathlib.Core.Path.{_≡_, refl, sym, ap, _∙_}
 use mathlib.Core.Bool.{Bool, true, false, cond}
@@ -17,21 +17,21 @@ use borrow.Author.Tests.{leb-true, ltb-true, le-leb, lt-ltb}
 use Rattle.joblist.specs.Limits.{mostJobs, mostTime}
 use Rattle.lists.specs.Lists.{_!_}
 use Rattle.lists.specs.Tests.{both, pick, some?}
-use Rattle.lists.specs.Sets.{Set, Empty, Parts, totalOf, Completes, later}
+use Rattle.lists.specs.Sets.{Set, Sub, Empty, Parts, totalOf, Completes, later}
 use Rattle.lists.proofs.Tests.{both-true}
-use Rattle.lists.proofs.Sets.{clash, totalOf-sub, totalOf-empty, totalOf-parts, some-at, at-some, totalOf-limit}
-use Rattle.lists.proofs.Completions.{completes-parts, totalOf-one, completes-one}
+use Rattle.lists.proofs.Sets.{clash, totalOf-sub, totalOf-empty, totalOf-parts, some-at, at-some, totalOf-limit, totalOf-same}
+use Rattle.lists.proofs.Completions.{completes-parts, totalOf-one, completes-one, completes-alike}
 use Rattle.lists.proofs.Signed.{sub-lt}
-use Rattle.readhead.specs.Theta.{endOf, empty, signed, joined, Joins, Places, Holds, span, onward}
+use Rattle.readhead.specs.Theta.{far, endOf, empty, signed, joined, Joins, Places, Holds, span, onward}
 
 -- ---- the empty value
 
 -- the empty value plus a total stays negative
-pub empty-plus : (t : ℕ) → t < 1000000000000 → empty +ℤ pos t ≡ negsuc (1000000000000 - suc t)
-empty-plus t h = sub-lt t 1000000000000 h
+pub empty-plus : (t : ℕ) → t < far → empty +ℤ pos t ≡ negsuc (far - suc t)
+empty-plus t h = sub-lt t far h
 
 -- so it lies below every time
-empty-early : (t c : ℕ) → t < 1000000000000 → ltZ (empty +ℤ pos t) (pos c) ≡ true
+empty-early : (t c : ℕ) → t < far → ltZ (empty +ℤ pos t) (pos c) ≡ true
 empty-early t c h = rw (empty-plus t h)
 
 -- the total duration of jobs within the limits
@@ -44,11 +44,11 @@ pub empty-below : (n : ℕ) (p : List ℕ) (T : Set) → n ≤ mostJobs → ((k 
 empty-below n p T h f =
     let m = total-most n p T h f in (
       λ c. empty-early (totalOf n p T) c (omega arith),
-      rw (empty-plus (totalOf n p T) (omega arith)) (lt-ltb 999999 (1000000000000 - suc (totalOf n p T)) (omega arith)),
+      rw (empty-plus (totalOf n p T) (omega arith)) (lt-ltb 999999 (far - suc (totalOf n p T)) (omega arith)),
     )
 
 -- a node made from its children holds the completion of both
-pub signed-joined : (x y : Option ℕ) (t : ℕ) → t < 1000000000000 → (x ≡ none → y ≡ none → t ≡ 0) → joined (signed x) (signed y) t ≡ signed (later x y t)
+pub signed-joined : (x y : Option ℕ) (t : ℕ) → t < far → (x ≡ none → y ≡ none → t ≡ 0) → joined (signed x) (signed y) t ≡ signed (later x y t)
 signed-joined none none t h z = rw (z refl refl)
 signed-joined none (some y) t h z = rw (empty-early t y h)
 signed-joined (some x) none t h z = refl
@@ -109,7 +109,7 @@ abbrev pub Held : ℕ → List ℕ → List ℕ → Set → ℤ → Type 0
 Held n e p T z = (x : Option ℕ) × (z ≡ signed x) × Completes n e p T x
 
 module _ (n m : ℕ) (e p : List ℕ) (σ : ℕ → ℕ) (O : Set) (sums : List ℕ) (ends : List ℤ)
-    (places : Places n m e σ) (holds : Holds n m e p σ O sums ends) (small : totalOf n p O < 1000000000000) where
+    (places : Places n m e σ) (holds : Holds n m e p σ O sums ends) (small : totalOf n p O < far) where
   -- a leaf: its job's duration and earliest end, or nothing
   leaf : (a : ℕ) → a < m → (sums ! (m + a) ≡ totalOf n p (span σ O a 1)) × Held n e p (span σ O a 1) (endOf ends (m + a))
   leaf a b = go (some? (span σ O a 1) n) refl
@@ -167,3 +167,13 @@ module _ (n m : ℕ) (e p : List ℕ) (σ : ℕ → ℕ) (O : Set) (sums : List 
       (node-from v a (2 ^ h) (holds .joins v (i .0) (i .1))
       (node h (2 * v) a (left-child m v a (2 ^ h) f′) (omega arith))
       (node h (2 * v + 1) (a + 2 ^ h) (right-child m v a (2 ^ h) f′) (omega arith)))
+
+  -- and so at the root: all jobs in the tree
+  pub root : (d : ℕ) → m ≡ 2 ^ d → (sums ! 1 ≡ totalOf n p O) × Held n e p O (endOf ends 1)
+  root d is =
+      let k = node d 1 0 (omega (arith, one-mul (2 ^ d))) (omega arith) in
+      let down : Sub n (span σ O 0 (2 ^ d)) O = λ j b t. span-in σ O 0 (2 ^ d) j t .0 in
+      let up : Sub n O (span σ O 0 (2 ^ d)) = λ j b t. in-span σ O 0 (2 ^ d) j t (omega arith) (omega (arith, places .into j b)) in (
+        k .0 ∙ totalOf-same n p (span σ O 0 (2 ^ d)) O down up,
+        (k .1 .0, k .1 .1, completes-alike n e p (span σ O 0 (2 ^ d)) O down up (k .1 .0) (k .1 .2)),
+      )

@@ -22,7 +22,7 @@ use Rattle.lists.proofs.Tests.{by-contra, both-true}
 use Rattle.lists.proofs.Sets.{clash, totalOf-sub, fewest-is, fewest-le}
 use Rattle.narrowing.specs.Windows.{Win}
 use Rattle.readhead.specs.Overload.{by, window, Pair, FirstPair}
-use Rattle.readhead.specs.Theta.{endOf, empty, Places, Holds, Ranged, Climbed, onward, descent}
+use Rattle.readhead.specs.Theta.{far, endOf, empty, Places, Holds, Ranged, Climbed, onward, descent}
 use Rattle.readhead.specs.Sweep.{tied, due}
 use Rattle.readhead.proofs.Pairs.{in-window, window-in}
 use Rattle.readhead.proofs.Nodes.{in-onward, onward-in}
@@ -169,7 +169,7 @@ module _ (n m : ℕ) (p : List ℕ) (W : Win) (k : ℕ) (sums : List ℕ) (ends 
               (omega (arith, rank-rising (W .l) n (x .0) i (x .1) c (omega (arith, x .2)), rank-rising (W .l) n j (x .0) b (x .1) (omega (arith, x .2)))))
         ]
 
-    module _ (small : totalOf n p (entered n W (k + 1)) < 1000000000000) (d : ℕ) (size : m ≡ 2 ^ d) where
+    module _ (small : totalOf n p (entered n W (k + 1)) < far) (d : ℕ) (size : m ≡ 2 ^ d) where
       places : Places n m (W .e) (rank (W .e) n)
       places = rank-places n m (W .e) few
 
@@ -217,7 +217,7 @@ module _ (n m : ℕ) (p : List ℕ) (W : Win) (k : ℕ) (sums : List ℕ) (ends 
 module _ (n m : ℕ) (p : List ℕ) (W : Win) (o : List ℕ) (k : ℕ) (sums : List ℕ) (ends : List ℤ) (sums′ : List ℕ) (ends′ : List ℤ) (few : n ≤ m)
     (order : Ordered (W .l) n o) (G : Going n m p W k sums ends) (lt : k < n)
     (C : Climbed m (set sums (m + rank (W .e) n (o ! k)) (p ! (o ! k))) (set ends (m + rank (W .e) n (o ! k)) (pos (W .e ! (o ! k) + p ! (o ! k)))) sums′ ends′)
-    (small : totalOf n p (entered n W (k + 1)) < 1000000000000) (d : ℕ) (size : m ≡ 2 ^ d) where
+    (small : totalOf n p (entered n W (k + 1)) < far) (d : ℕ) (size : m ≡ 2 ^ d) where
   -- no job of its latest end is next
   not-tied : tied n (W .l) o (k + 1) (W .l ! (o ! k)) ≡ false → (i : ℕ) → i < n → rank (W .l) n i ≡ k + 1 → W .l ! i ≡ W .l ! (o ! k) → ⊥
   not-tied h i c r f =

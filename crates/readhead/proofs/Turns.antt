@@ -13,7 +13,7 @@ use Rattle.lists.specs.Lists.{_!_}
 use Rattle.lists.specs.Sets.{Set, totalOf}
 use Rattle.readhead.specs.Overload.{Found, nothing, overload, foundSaid}
 use Rattle.readhead.specs.Sweep.{due, Sorted, Entered, Reached}
-use Rattle.readhead.specs.Theta.{endOf, depth, descent}
+use Rattle.readhead.specs.Theta.{far, endOf, depth, descent}
 use Rattle.readhead.proofs.Nodes.{total-most}
 use Rattle.readhead.proofs.Pairs.{overload-is}
 use Rattle.readhead.proofs.Sweeps.{Going, going-end, going-on, going-found-at}
@@ -23,7 +23,7 @@ abbrev pub Turning : List ℕ → List ℕ → List ℕ → List ℕ → List �
 Turning est lct dur sums ends k = Going (length est) mostJobs dur (win est lct) k sums ends
 
 module _ (est lct dur place starts stops : List ℕ) (S : Sorted est lct dur place starts stops) where
-  small : (T : Set) → totalOf (length est) dur T < 1000000000000
+  small : (T : Set) → totalOf (length est) dur T < far
   small T = omega (arith, total-most (length est) dur T (S .good .few) (S .good .within .1 .1 .0))
 
   pub next-in : (k : ℕ) → k < length est → stops ! k < length est

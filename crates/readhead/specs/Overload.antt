@@ -45,6 +45,7 @@ pub record FirstPair (n : ℕ) (p : List ℕ) (W : Win) (a b : ℕ) : Type 0 whe
 
 -- ---- the same, computed
 
+-- some jobs lie between a and b, and they last longer than b - a
 unfoldable pub pair? : ℕ → List ℕ → Win → ℕ → ℕ → Bool
 unfolding some? totalOf
 pair? n p W a b = both (some? (window W a b) n) (ltb b (a + totalOf n p (window W a b)))
@@ -63,10 +64,12 @@ pub data Found : Type 0 where
   nothing : Found
   pair : ℕ → ℕ → Found
 
+-- a and b where the test passes
 abbrev pub found : Bool → ℕ → ℕ → Found
 found true a b = Found.pair a b
 found false a b = nothing
 
+-- b the least of the stops' latest ends, and a the greatest of the starts' earliest starts for it
 unfoldable pub overload : ℕ → List ℕ → Win → Found
 unfolding some? stops starts most fewest
 overload n p W =
@@ -74,7 +77,7 @@ overload n p W =
     let a = most (starts n p W b) (λ k. W .e ! k) 0 n in
     found (some? (stops n p W) n) a b
 
--- what is to be said of a finding: where nothing is found, there is no pair
+-- a finding is right: the pair is 01's, and where nothing is found there is no pair
 abbrev pub Finds : ℕ → List ℕ → Win → Found → Type 0
 Finds n p W nothing = (a b : ℕ) → Pair n p W a b → ⊥
 Finds n p W (Found.pair a b) = FirstPair n p W a b

@@ -1,19 +1,19 @@
--- The sweep over the jobs by rising latest end: when a latest end is tested, and what the finding says.
+-- The sweep over the jobs by rising latest end, as the code does it: what it takes, when a latest end is tested, a job put in, a leaf reached.
 use Prim.Native.Nat.{ℕ, _+_, _-_, _≤_, _<_}
 use mathlib.Core.Path.{_≡_}
 use mathlib.Core.Bool.{Bool, not}
-use mathlib.Core.List.{List, []}
+use mathlib.Core.List.{List}
 use lib.Dec.{ltb, eqb}
 use lib.IntN.{ℤ, pos, _+ℤ_}
 use lib.ListN.{length, set}
 use lib.Signed.{ltZ}
-use Rattle.joblist.specs.Limits.{mostJobs, threeLists}
+use Rattle.joblist.specs.Limits.{mostJobs}
 use Rattle.narrowing.specs.Windows.{win}
-use Rattle.joblist.specs.GoodList.{GoodList}
 use Rattle.lists.specs.Lists.{_!_}
 use Rattle.lists.specs.Tests.{both}
 use Rattle.lists.specs.Orders.{rank, Ordered}
 use Rattle.readhead.specs.Order.{Placed}
+use Rattle.readhead.specs.Promise.{Good}
 use Rattle.readhead.specs.Theta.{Climbed}
 
 -- place k of the order o has a job, and one of the latest end b
@@ -26,7 +26,7 @@ due n l o k b end = both (not (tied n l o k b)) (ltZ (pos b) (end +ℤ pos 0))
 
 -- what the sweep takes: a good list, the places by earliest start, and the jobs by earliest start and by latest end
 pub record Sorted (est lct dur place starts stops : List ℕ) : Type 0 where
-  pub good : GoodList (win est lct) dur (threeLists (win est lct) dur) []
+  pub good : Good (win est lct) dur
   pub placed : Placed est place
   pub by-start : Ordered est (length est) starts
   pub by-stop : Ordered lct (length est) stops

@@ -10,11 +10,12 @@ use lib.Dec.{leb, ltb}
 use lib.IntN.{ℤ, pos, negsuc, _+ℤ_}
 use lib.ListN.{length, getD}
 use lib.Signed.{mag, ltZ}
+use Rattle.joblist.specs.Limits.{mostTime}
 use Rattle.lists.specs.Lists.{_!_}
 use Rattle.lists.specs.Tests.{both, pick}
 use Rattle.lists.specs.Sets.{Set}
 
--- the levels below the root of the tree that has a leaf for each job
+-- the levels below the root of the code's tree: 2 ^ depth leaves, one for each job that a list may have
 abbrev pub depth : ℕ
 depth = 8
 
@@ -22,7 +23,11 @@ depth = 8
 abbrev pub endOf : List ℤ → ℕ → ℤ
 endOf ends v = getD ends v (pos 0)
 
--- an empty node's completion, -1,000,000,000,000
+-- how far below 0 an empty node's completion lies
+abbrev pub far : ℕ
+far = 1000000000000
+
+-- that completion
 abbrev pub empty : ℤ
 empty = negsuc 999999999999
 
@@ -78,8 +83,8 @@ descent sums ends b (suc h) v t =
 pub record Ranged (m : ℕ) (sums : List ℕ) (ends : List ℤ) : Type 0 where
   pub sums-long : length sums ≡ 2 * m
   pub ends-long : length ends ≡ 2 * m
-  pub weight : (v : ℕ) → sums ! v * v ≤ 2000000 * m
-  pub near : (v : ℕ) → mag (endOf ends v) ≤ 1000000000000 + sums ! v
+  pub weight : (v : ℕ) → sums ! v * v ≤ 2 * mostTime * m
+  pub near : (v : ℕ) → mag (endOf ends v) ≤ far + sums ! v
 
 -- node i has been changed: every inner node but its parent is what its children say
 pub record Changed (m : ℕ) (sums : List ℕ) (ends : List ℤ) (i : ℕ) : Type 0 where

@@ -20,6 +20,9 @@ const MOST: usize = joblist::MOST;
 // The tree's nodes: 1 is the root, 2v and 2v + 1 are v's children, 0 is none.
 const NODES: usize = 2 * MOST;
 
+// An empty node's completion: below every time in use, whatever total duration comes after it.
+const EMPTY: i64 = -1_000_000_000_000;
+
 // What a good list has: the two orders of its jobs are made, and the tree is swept.
 fn find(est: &[u32], lct: &[u32], dur: &[u32]) -> OverloadAnswer
     requires { ⌜ Good (win (now est) (now lct)) (now dur) ⌝ }

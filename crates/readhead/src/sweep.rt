@@ -1,4 +1,5 @@
 // The jobs go into the tree by rising latest end, ALL jobs of one latest end before that end is tested.
+use crate::EMPTY;
 use crate::MOST;
 use crate::NODES;
 use crate::theta::descend;
@@ -6,7 +7,7 @@ use crate::theta::exceeds;
 use crate::theta::put;
 use answers::OverloadAnswer;
 ghost use mathlib.Core.Path.{_≡_};
-ghost use Prim.Native.Nat.{_-_, _≤_, _<_};
+ghost use Prim.Native.Nat.{_*_, _-_, _≤_, _<_};
 ghost use lib.ListN.{length};
 ghost use lib.Signed.{mag};
 ghost use Rattle.answers.specs.Said.{saysOverload};
@@ -15,7 +16,7 @@ ghost use Rattle.narrowing.specs.Windows.{win};
 ghost use Rattle.lists.specs.Lists.{_!_};
 ghost use Rattle.lists.specs.Orders.{Ordered};
 ghost use Rattle.readhead.specs.Overload.{overload, foundSaid};
-ghost use Rattle.readhead.specs.Theta.{AllJoin, Ranged, descent, depth};
+ghost use Rattle.readhead.specs.Theta.{far, AllJoin, Ranged, descent, depth};
 ghost use Rattle.readhead.specs.Order.{Placed};
 ghost use Rattle.readhead.specs.Sweep.{tied, due, Sorted, Entered, Reached};
 
@@ -33,7 +34,7 @@ fn tied(lct: &[u32], stops: &[usize; MOST], k: usize, b: u32) -> bool
 // Whether the latest end b is to be tested, no job of it being next, and exceeded.
 fn due(lct: &[u32], stops: &[usize; MOST], k: usize, b: u32, end: i64) -> bool
     requires { ⌜ (length (now lct) ≤ mostJobs) × (Ordered (now lct) (length (now lct)) (now stops)) × (length (now stops) ≡ mostJobs) ⌝ }
-    requires { ⌜ mag end ≤ 2000000000000 ⌝ }
+    requires { ⌜ mag end ≤ 2 * far ⌝ }
     ensures { λ r. ⌜ r ≡ due (length (now (lct .entry))) (now (lct .entry)) (now (stops .entry)) k b end ⌝ }
 {
     if tied(lct, stops, k, b) {
@@ -88,7 +89,7 @@ pub fn sweep(
     ensures { λ r. ⌜ saysOverload r ≡ foundSaid (overload (length (now (est .entry))) (now (dur .entry)) (win (now (est .entry)) (now (lct .entry)))) ⌝ }
 {
     let mut sums = [0u32; NODES];
-    let mut ends = [-1000000000000i64; NODES];
+    let mut ends = [EMPTY; NODES];
     let mut k = 0;
     while k < est.len() {
         let j = stops[k];

@@ -3,18 +3,18 @@
 use crate::MOST;
 use crate::NODES;
 ghost use mathlib.Core.Path.{_≡_};
-ghost use Prim.Native.Nat.{_+_, _*_, _≤_, _<_};
+ghost use Prim.Native.Nat.{_+_, _*_, _^_, _≤_, _<_};
 ghost use lib.IntN.{pos, _+ℤ_};
 ghost use lib.ListN.{set};
 ghost use lib.Signed.{mag, ltZ};
 ghost use Rattle.joblist.specs.Limits.{mostJobs, mostTime};
 ghost use Rattle.lists.specs.Lists.{_!_};
 ghost use Rattle.lists.specs.Tests.{pick};
-ghost use Rattle.readhead.specs.Theta.{endOf, joined, AllJoin, Ranged, Changed, Climbed, descent, depth};
+ghost use Rattle.readhead.specs.Theta.{far, endOf, joined, AllJoin, Ranged, Changed, Climbed, descent, depth};
 
 // The later of the right completion and the left one with the right total after it.
 fn join(left: i64, right: i64, total: u32) -> i64
-    requires { ⌜ mag left ≤ 2000000000000 ⌝ }
+    requires { ⌜ mag left ≤ 2 * far ⌝ }
     ensures { λ r. ⌜ r ≡ joined left right total ⌝ }
 {
     let moved = left + (total as i64);
@@ -64,7 +64,7 @@ pub fn put(sums: &mut [u32; NODES], ends: &mut [i64; NODES], x: usize, e: u32, p
 
 // Whether a completion with a tail after it exceeds b.
 pub fn exceeds(end: i64, tail: u32, b: u32) -> bool
-    requires { ⌜ mag end ≤ 2000000000000 ⌝ }
+    requires { ⌜ mag end ≤ 2 * far ⌝ }
     ensures { λ r. ⌜ r ≡ ltZ (pos b) (end +ℤ pos tail) ⌝ }
 {
     (b as i64) < end + (tail as i64)
@@ -83,7 +83,7 @@ fn child(right: bool, v: usize) -> usize
 
 // The tail after that child: to the left the right total comes into it.
 fn tail_of(right: bool, tail: u32, sum: u32) -> u32
-    requires { ⌜ tail + sum ≤ 4000000000 ⌝ }
+    requires { ⌜ tail + sum < 2 ^ 32 ⌝ }
     ensures { λ r. ⌜ r ≡ pick right tail (tail + sum) ⌝ }
 {
     if right {

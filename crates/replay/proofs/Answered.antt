@@ -9,7 +9,7 @@ use Rattle.narrowing.specs.Windows.{Win}
 use Rattle.answers.specs.Said.{Word, said}
 use Rattle.journal.specs.Journal.{roomOf, records}
 use Rattle.timetable.specs.Table.{Call, refusalOf}
-use Rattle.timetable.proofs.Meaning.{good-call}
+use Rattle.timetable.proofs.Calls.{good-call}
 use Rattle.tabling.proofs.Good.{durations-sized}
 use Rattle.replay.specs.declared.Ended.{Ended}
 use Rattle.replay.specs.Replay.{Verdict, holds, clashes, rejected, replay, Checked, finds, judged, refuses, rows, checked}

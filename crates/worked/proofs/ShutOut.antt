@@ -1,5 +1,5 @@
--- The wrong versions that document 01 names under 'How firm the statements are', each refuted by the promise that 01 names for it, without the
--- help of `answered`: so no promise is empty.
+-- The wrong versions that document 01 names under 'How firm the statements are', each refuted by the field of the contract that 01 names for it,
+-- without the help of `answered`: so no promise is empty. `readhead` has those of the overload check.
 use Prim.Native.Nat.{ℕ, zero, suc, _+_, _≤_, _<_}
 use native.Mathlib.Omega.{arith}
 use native.Mathlib.Decide.{decLt}
@@ -7,24 +7,29 @@ use mathlib.Core.Path.{_≡_, refl, sym, ap, subst, _∙_}
 use mathlib.Core.Bool.{Bool, true, false}
 use mathlib.Core.List.{List, [], _∷_, _++_}
 use mathlib.Core.Logic.{_⊎_, inl, inr}
+use mathlib.Core.Option.{Option, some}
+use lib.ListN.{length}
 use Rattle.lists.specs.Lists.{_!_}
 use Rattle.lists.specs.Tests.{only}
-use Rattle.narrowing.specs.Windows.{Win, Side, early, late}
+use Rattle.narrowing.specs.Windows.{Win, Side, early, late, moved}
+use Rattle.narrowing.specs.Search.{Move}
+use Rattle.narrowing.specs.Run.{reachedBy}
+use Rattle.narrowing.specs.Rounds.{Chosen}
 use Rattle.answers.specs.Said.{Word, Said, said}
-use Rattle.members.specs.Members.{has, onesOf}
+use Rattle.members.specs.Members.{has}
 use Rattle.journal.specs.Journal.{roomOf, recordAt}
-use Rattle.timetable.specs.Time.{Jobs, Runs, runs, drawn, Fits, Early, Crowded}
-use Rattle.timetable.specs.Search.{crowded}
+use Rattle.timetable.specs.Time.{Jobs, runs, drawn, Fits, Early, Applies, bound}
+use Rattle.timetable.specs.Search.{crowded, best, search}
 use Rattle.timetable.specs.Reason.{Stated, namedDrawn, Within}
-use Rattle.timetable.specs.Table.{Call, jobsOf, Good, refusalOf, After, narrowed}
+use Rattle.timetable.specs.Table.{Call, call, jobsOf, Good, refusalOf, After}
+use Rattle.timetable.specs.Reasons.{Reasons}
 use Rattle.timetable.specs.Promise.{Scheduled, needs, Room, Kept, Narrowest, Narrows}
 use Rattle.timetable.proofs.Facts.{crowded-yes, runs-yes}
-use Rattle.timetable.proofs.Meaning.{good-call, not-said}
-use Rattle.timetable.proofs.Rows.{clash-count}
-use Rattle.replay.specs.Replay.{changed, Checked, finds}
+use Rattle.timetable.proofs.Calls.{good-call}
+use Rattle.answers.proofs.Same.{not-said}
+use Rattle.replay.specs.Replay.{Checked}
 use Rattle.replay.specs.Fate.{reached}
-use Rattle.replay.specs.Promise.{taken, Reasoned, Checks}
-use Rattle.replay.proofs.Logs.{after, settled-taken}
+use Rattle.replay.specs.Promise.{taken, Reasoned, TakesLogs}
 use Rattle.worked.specs.Rows.{job, line, windows}
 use Rattle.worked.specs.Cases.{lent}
 use Rattle.worked.specs.Checks.{with, pair}
@@ -101,20 +106,44 @@ schedule5 = record { from = from; to = to; fits = fits5 }
 pub clashing-always : (a : After) → Kept case5 a → a .says .word ≡ Word.clash → ⊥
 clashing-always a h e = h .none e (0 ∷ 2 ∷ []) schedule5
 
--- ---- an invented count: case 6 needs three records
+-- ---- an invented count: on case 6 no single move closes the window, so a log of one record is not what a clash leaves
 
-needs6 : needs case6 ≡ 3
-unfolding needs
-needs6 = refl
+no-one-move : (j : ℕ) (s : Side) (t : ℕ) → j < 1 → best (jobsOf case6) (case6 .win) j s ≡ some t
+    → moved (case6 .win) j s (bound s t) .l ! 0 < moved (case6 .win) j s (bound s t) .e ! 0 + 1 → ⊥
+unfolding best
+no-one-move zero early t b e q = let z : 0 ≡ t = cc in omega arith
+no-one-move zero late t b e q = let z : 2 ≡ t = cc in omega arith
+no-one-move (suc j) s t b e q = omega arith
 
-pub invented-count : (a : After) → Narrows case6 a → a .says ≡ said Word.clash (1 ∷ 0 ∷ []) → ⊥
-invented-count a h e = omega (arith, clash-count case6 a h 1 0 e, needs6)
+pub invented-count : (a : After) → Reasons case6 a → a .says ≡ said Word.clash (1 ∷ 0 ∷ []) → ⊥
+unfolding search
+invented-count a h e = let r = h .clash 1 0 e in go (r .logs .moves) (r .logs .many) (r .logs .chosen) (r .closes .closed)
+  where
+    go : (ms : List Move) → length ms ≡ 1 → Chosen (search (jobsOf case6)) (Applies (jobsOf case6)) (case6 .win) 0 early ms
+        → reachedBy (search (jobsOf case6)) (case6 .win) ms .l ! 0 < reachedBy (search (jobsOf case6)) (case6 .win) ms .e ! 0 + 1 → ⊥
+    go [] m x q = omega arith
+    go (y ∷ []) m x q = no-one-move (y .job) (y .side) (y .choice) (x .0 .listed) (x .0 .chosen) q
+    go (y ∷ (z ∷ zs)) m x q = omega arith
 
--- ---- one record that carries a whole run: on case 6 the first record moves the earliest start to 1 and no further
+-- ---- one record that carries a whole run: on case 6 one record for all three moves states what is not so of the submitted windows
 
-pub whole-run : changed (case6 .win) (line 0 0 0 0 0) .e ! 0 ≡ 3 → ⊥
-unfolding changed
-whole-run e = omega arith
+abbrev leap : Call
+leap = with 1 (job 0 3 1 2 ∷ []) (line 0 0 2 0 0)
+
+not-yet : Reasoned leap 0 → ⊥
+unfolding recordAt has reached
+not-yet r = omega (arith, r .true-there (0 ∷ []) (record { from = from; to = to }) .own)
+  where
+    from : (k : ℕ) → k < 1 → leap .win .e ! k ≤ (0 ∷ []) ! k
+    from zero b = omega arith
+    from (suc k) b = absurd (omega arith)
+
+    to : (k : ℕ) → k < 1 → (0 ∷ []) ! k + leap .p ! k ≤ leap .win .l ! k
+    to zero b = omega arith
+    to (suc k) b = absurd (omega arith)
+
+pub whole-run : (a : Checked) → ((i : ℕ) → i < taken (a .says) → Reasoned leap i) → a .says ≡ said Word.clash (1 ∷ 0 ∷ []) → ⊥
+whole-run a h e = not-yet (h 0 (rw e (omega arith)))
 
 -- ---- a checker that takes all: a record with no members on case 5 does not imply its change
 
@@ -159,13 +188,9 @@ not-there r = omega (arith, r .true-there (3 ∷ 2 ∷ []) (record { from = from
 pub final-windows : (a : Checked) → ((i : ℕ) → i < taken (a .says) → Reasoned turned i) → a .says ≡ said Word.holds (2 ∷ []) → ⊥
 final-windows a h e = not-there (h 0 (rw e (omega arith)))
 
--- ---- a checker that rejects all: case 2's log is taken
+-- ---- a checker that rejects all: it takes the logs that narrowing writes, case 2's among them
 
-said2 : narrowed case2 .says ≡ said Word.settled (1 ∷ [])
-unfolding narrowed
-said2 = refl
-
-pub rejecting-all : (a : After) → Narrows case2 a → (b : Checked) → Checks (after case2 (a .log)) 1 b → b .says .word ≡ Word.rejected → ⊥
-rejecting-all a h b k e =
-    let t = settled-taken case2 a h b 1 (ap (λ (x : After). x .says) (h .answered) ∙ said2) k in
-    not-said Word.holds Word.rejected (λ z. omega arith) (sym (ap (λ (x : Checked). x .says .word) t) ∙ e)
+pub rejecting-all : (a : After) → Narrows case2 a → a .says ≡ said Word.settled (1 ∷ [])
+    → (b : Checked) → TakesLogs (call (case2 .win) (case2 .p) (case2 .r) (case2 .cap) (a .log)) 1 b → b .says .word ≡ Word.rejected → ⊥
+rejecting-all a h s b k e =
+    not-said Word.holds Word.rejected (λ z. omega arith) (sym (ap (λ (x : Checked). x .says .word) (k .settled (case2 .log) a h refl s)) ∙ e)

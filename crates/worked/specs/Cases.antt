@@ -25,6 +25,15 @@ abbrev pub refuses : ℕ → ℕ → List Job → ℕ → ℕ → List ℕ → R
 refuses number cap js room k log =
     record { number = number; done = narrowed (lent cap js room); due = leaves (said Word.refused (k ∷ [])) (windows js) log }
 
+-- a log of so many words, cleared
+abbrev pub ragged : ℕ → ℕ → List Job → ℕ → ℕ → Row After
+ragged number cap js words k =
+    record {
+      number = number;
+      done = narrowed (call (windows js) (durations js) (draws js) cap (replicate words 9));
+      due = leaves (said Word.refused (k ∷ [])) (windows js) (replicate words 0);
+    }
+
 -- the overload check leaves the windows alone, and looks at no demand
 abbrev pub heads : ℕ → List Job → Said → Row After
 heads number js a = record { number = number; done = leaves (checked (windows js) (durations js)) (windows js) []; due = leaves a (windows js) [] }
@@ -44,6 +53,7 @@ runs =
     settles 5 1 (job 0 2 2 1 ∷ job 2 4 2 1 ∷ []) 8 0 (span 0 2 ∷ span 2 4 ∷ []) [] ∷
     clashes 6 1 (job 0 3 1 2 ∷ []) 3 3 0 (line 0 0 0 0 0 ++ (line 0 0 1 0 0 ++ line 0 0 2 0 0)) ∷
     refuses 6 1 (job 0 3 1 2 ∷ []) 2 5 (replicate (2 * recordWords) 0) ∷
+    ragged 6 1 (job 0 3 1 2 ∷ []) 29 5 ∷
     clashes 7 1 (job 0 3 2 1 ∷ job 0 3 2 1 ∷ []) 2 1 0 (line 0 0 1 1 2) ∷
     settles 7 1 (job 0 4 2 1 ∷ job 0 4 2 1 ∷ []) 8 0 (span 0 4 ∷ span 0 4 ∷ []) [] ∷
     settles 8 1 (job 1 1 0 5 ∷ []) 8 0 (span 1 1 ∷ []) [] ∷
@@ -60,5 +70,6 @@ runs =
     (line 3 0 3 1 1 ++ line 3 0 5 1 1) ∷
     settles 23 2 (job 3 7 2 1 ∷ job 2 7 3 2 ∷ []) 2 2 (span 5 7 ∷ span 2 5 ∷ []) (line 0 0 4 1 2 ++ line 1 1 5 1 1) ∷
     clashes 24 2 (job 3 7 2 1 ∷ job 2 7 3 2 ∷ job 5 7 2 2 ∷ []) 3 2 0 (line 0 0 4 1 2 ++ line 0 0 6 1 4) ∷
+    clashes 26 1 (job 10 12 2 1 ∷ job 0 2 2 1 ∷ job 0 2 2 1 ∷ []) 2 1 1 (line 1 0 1 1 4) ∷
     overloaded 25 (job 1 2 1 1 ∷ job 0 2 2 1 ∷ job 1 2 1 1 ∷ []) 1 2 ∷
     []

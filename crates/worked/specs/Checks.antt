@@ -1,5 +1,5 @@
 -- Logs by hand for the checker: what holds, what clashes, refusal 6 and each code 20 to 26 (document 01, 'Answer table'). A row's number is 40 for
--- holds, 41 for clash, 6 for the refusal, and the code else; then the capacity, the jobs, the claimed records and the log.
+-- holds, 41 for clash, the refusal's or the code else; then the capacity, the jobs, the claimed records and the log.
 use Prim.Native.Nat.{ℕ}
 use mathlib.Core.List.{List, [], _∷_, _++_}
 use Rattle.answers.specs.Said.{Word, said}
@@ -39,7 +39,9 @@ checks =
     -- the second record's facts are true of the windows reached, and not of the submitted ones
     holding 2 pair 2 (line 0 0 4 1 2 ++ line 1 1 5 1 1) (span 5 7 ∷ span 2 5 ∷ []) ∷
     clashing 1 four 1 (line 0 0 1 1 2) 0 ∷
+    clashing 1 four 1 (line 0 1 0 1 2) 0 ∷
     refusing 6 5 two 2 (line 0 0 4 2 6 ++ (7 ∷ 7 ∷ [])) ∷
+    refusing 6 5 two 2 (line 3 0 4 2 6) ∷
     refusing 4 5 (job 2 4 3 2 ∷ []) 1 [] ∷
     rejecting 20 1 1 four 2 (line 0 0 1 1 2 ++ line 0 0 1 1 2) ∷
     rejecting 21 0 5 two 1 (line 3 0 4 2 6) ∷
@@ -53,4 +55,11 @@ checks =
     rejecting 24 0 5 two 1 (line 0 0 4 1 2) ∷
     rejecting 25 0 5 two 1 (line 0 0 5 2 6) ∷
     rejecting 26 1 5 two 2 (line 0 0 4 2 6 ++ line 0 0 4 2 6) ∷
+    -- several faults in one record: the first code in their order is given
+    rejecting 20 1 1 four 2 (line 0 0 1 1 2 ++ line 9 9 1000001 0 0) ∷
+    rejecting 21 0 5 two 1 (line 3 0 1 9 1) ∷
+    rejecting 22 0 5 two 1 (line 0 0 1 9 1) ∷
+    rejecting 23 0 5 two 1 (line 0 0 1 9 2) ∷
+    rejecting 24 0 5 two 1 (line 0 0 1 1 2) ∷
+    rejecting 25 0 5 two 1 (line 0 0 1 2 6) ∷
     []

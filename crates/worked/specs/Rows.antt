@@ -1,9 +1,10 @@
 -- Rows of a table of runs: a row bears its number, what the run comes to, and what is due. And how lists are written down.
-use Prim.Native.Nat.{ℕ, _*_}
+use Prim.Native.Nat.{ℕ, _*_, _-_}
 use mathlib.Core.Path.{_≡_}
 use mathlib.Core.List.{List, [], _∷_, _++_, map}
 use lib.ListN.{length, replicate, drop}
 use Rattle.narrowing.specs.Windows.{Win, win}
+use Rattle.members.specs.Members.{setWords}
 use Rattle.journal.specs.Journal.{recordWords}
 
 pub record Row (A : Type 0) : Type 0 where
@@ -47,7 +48,7 @@ spans xs = win (map (λ (x : Span). x .from) xs) (map (λ (x : Span). x .to) xs)
 
 -- a record's words: job, side, time, count, the first word of the set, and zeros
 abbrev pub line : ℕ → ℕ → ℕ → ℕ → ℕ → List ℕ
-line j s t n w = j ∷ s ∷ t ∷ n ∷ w ∷ replicate 7 0
+line j s t n w = j ∷ s ∷ t ∷ n ∷ w ∷ replicate (setWords - 1) 0
 
 -- the words counted, and the rest of a log of nines as before
 abbrev pub upon : ℕ → List ℕ → List ℕ

@@ -4,7 +4,7 @@ use mathlib.Core.Path.{sym, _∙_}
 use borrow.Author.Needs.{needs}
 use Rattle.narrowing.specs.Windows.{win}
 use Rattle.journal.specs.Journal.{roomOf}
-use Rattle.timetable.proofs.Meaning.{good-call}
+use Rattle.timetable.proofs.Calls.{good-call}
 use Rattle.timetable.specs.Table.{call, refusalOf}
 use Rattle.replay.proofs.Answered.{promised, row-refused, row-six, row-judged}
 use Rattle.replay.proofs.check_log.Statement.{statement}
