@@ -9,7 +9,7 @@
 // they are afterwards; `unreadable` where the line has any other form.
 mod calls;
 mod input;
-mod lists;
+mod lent;
 
 use calls::Place;
 use check::same;
