@@ -3,13 +3,11 @@
 // end, then the words of the counted records.
 mod run;
 
+use journal::RECORD;
 use run::narrow_line;
 use run::overload_line;
 ghost use Prim.Native.Nat.{_<_};
 ghost use lib.ListN.{length};
-
-// The words of a record.
-const RECORD: usize = 12;
 
 // The room of a log, in records, where the text names none.
 const ROOM: usize = 8;

@@ -1,23 +1,25 @@
-// The calls, three functions to most of them: one reads the line and goes on to the next; the next takes the
-// parts of the lent lists that were read, or says that the line is unreadable; the last, `_said`, makes the call
-// and puts the answer, and the lent lists as they are afterwards, into the sink.
+// The calls: each reads the rest of its line, is made, and puts its answer and the lent lists as they are afterwards
+// into the sink; where the line cannot be read, `unreadable`.
 use crate::input::Cursor;
 use crate::input::LONG;
 use crate::input::is_whole;
 use crate::input::list;
 use crate::input::number;
-use crate::lent::Lists;
+use crate::lent::Asked;
+use crate::lent::Head;
+use crate::lent::Jobs;
 use crate::lent::Times;
-use crate::lent::read_check;
-use crate::lent::read_narrow;
+use crate::lent::check_head;
+use crate::lent::narrow_head;
+use crate::lent::read_jobs;
 use crate::lent::read_times;
 ghost use Prim.Native.Nat.{_<_};
 ghost use lib.ListN.{length};
 ghost use Rattle.io.specs.Counts.{Counts};
-ghost use Rattle.probe.specs.Read.{TimesIn, ListsIn};
+ghost use Rattle.probe.specs.Read.{TimesIn, JobsIn};
 
 // The most entries of a list of jobs.
-const JOBS: usize = 1200;
+const MOST: usize = 1200;
 
 // The cursor of the input, and how many bytes wait in the sink.
 pub struct Place {
@@ -37,20 +39,47 @@ pub fn narrow(source: &mut [u8], sink: &mut [u8], place: Place, log: &mut [u32])
     requires { ⌜ place .at < length (now sink) ⌝ }
     ensures { λ r. ⌜ r .at < length (now (sink .entry)) ⌝ }
 {
-    let mut est = [0u32; JOBS];
-    let mut lct = [0u32; JOBS];
-    let mut dur = [0u32; JOBS];
-    let mut dem = [0u32; JOBS];
-    let n = read_narrow(source, place.cursor, &mut est, &mut lct, &mut dur, &mut dem, log);
-    let cursor = n.cursor;
-    let at = narrowed(sink, place.at, n, &mut est, &mut lct, &dur, &dem, log);
-    Place { cursor, at }
+    let head = narrow_head(source, place.cursor);
+    on_jobs(source, sink, place.at, head, log)
 }
 
-fn narrowed(
+// check CAP COUNT est lct dur dem log
+pub fn check(source: &mut [u8], sink: &mut [u8], place: Place, log: &mut [u32]) -> Place
+    requires { ⌜ place .at < length (now sink) ⌝ }
+    ensures { λ r. ⌜ r .at < length (now (sink .entry)) ⌝ }
+{
+    let head = check_head(source, place.cursor);
+    on_jobs(source, sink, place.at, head, log)
+}
+
+fn on_jobs(source: &mut [u8], sink: &mut [u8], at: usize, head: Head, log: &mut [u32]) -> Place
+    requires { ⌜ at < length (now sink) ⌝ }
+    ensures { λ r. ⌜ r .at < length (now (sink .entry)) ⌝ }
+{
+    let mut est = [0u32; MOST];
+    let mut lct = [0u32; MOST];
+    let mut dur = [0u32; MOST];
+    let mut dem = [0u32; MOST];
+    let n = read_jobs(
+        source,
+        head.cursor,
+        &mut est,
+        &mut lct,
+        &mut dur,
+        &mut dem,
+        log,
+    );
+    let cursor = n.cursor;
+    let end = on_parts(sink, at, head, n, &mut est, &mut lct, &dur, &dem, log);
+    Place { cursor, at: end }
+}
+
+// The same with the lists read, in the first `n` entries of the lent ones.
+fn on_parts(
     sink: &mut [u8],
     at: usize,
-    n: Lists,
+    head: Head,
+    n: Jobs,
     est: &mut [u32],
     lct: &mut [u32],
     dur: &[u32],
@@ -58,7 +87,7 @@ fn narrowed(
     log: &mut [u32],
 ) -> usize
     requires { ⌜ at < length (now sink) ⌝ }
-    requires { ⌜ ListsIn n (now est) (now lct) (now dur) (now dem) (now log) ⌝ }
+    requires { ⌜ JobsIn n (now est) (now lct) (now dur) (now dem) (now log) ⌝ }
     ensures { λ r. ⌜ r < length (now (sink .entry)) ⌝ }
 {
     if !is_whole(n.cursor) {
@@ -69,19 +98,21 @@ fn narrowed(
     let p = n.dur;
     let d = n.dem;
     let g = n.log;
-    narrow_said(
+    let asked = head.asked;
+    said(
         sink,
         at,
         &mut est[..e],
         &mut lct[..l],
         &dur[..p],
         &dem[..d],
-        n.cap,
+        head.cap,
         &mut log[..g],
+        asked,
     )
 }
 
-fn narrow_said(
+fn said(
     sink: &mut [u8],
     at: usize,
     est: &mut [u32],
@@ -90,14 +121,24 @@ fn narrow_said(
     dem: &[u32],
     cap: u32,
     log: &mut [u32],
+    asked: Asked,
 ) -> usize
     requires { ⌜ at < length (now sink) ⌝ }
     ensures { λ r. ⌜ r < length (now (sink .entry)) ⌝ }
 {
-    let answer = desk::narrow(est, lct, dur, dem, cap, log);
-    let said = lines::said::narrowing(sink, at, answer);
-    let behind = windows(sink, said, est, lct);
-    lines::list(sink, behind, log)
+    match asked {
+        Asked::Narrow => {
+            let answer = desk::narrow(est, lct, dur, dem, cap, log);
+            let told = lines::said::narrowing(sink, at, answer);
+            let behind = windows(sink, told, est, lct);
+            lines::list(sink, behind, log)
+        }
+        Asked::Check(count) => {
+            let answer = desk::check_log(est, lct, dur, dem, cap, log, count);
+            let told = lines::said::checking(sink, at, answer);
+            windows(sink, told, est, lct)
+        }
+    }
 }
 
 fn windows(sink: &mut [u8], at: usize, est: &[u32], lct: &[u32]) -> usize
@@ -108,75 +149,6 @@ fn windows(sink: &mut [u8], at: usize, est: &[u32], lct: &[u32]) -> usize
     lines::list(sink, behind, lct)
 }
 
-// check CAP COUNT est lct dur dem log
-pub fn check(source: &mut [u8], sink: &mut [u8], place: Place, log: &mut [u32]) -> Place
-    requires { ⌜ place .at < length (now sink) ⌝ }
-    ensures { λ r. ⌜ r .at < length (now (sink .entry)) ⌝ }
-{
-    let mut est = [0u32; JOBS];
-    let mut lct = [0u32; JOBS];
-    let mut dur = [0u32; JOBS];
-    let mut dem = [0u32; JOBS];
-    let n = read_check(source, place.cursor, &mut est, &mut lct, &mut dur, &mut dem, log);
-    let cursor = n.cursor;
-    let at = checked(sink, place.at, n, &mut est, &mut lct, &dur, &dem, log);
-    Place { cursor, at }
-}
-
-fn checked(
-    sink: &mut [u8],
-    at: usize,
-    n: Lists,
-    est: &mut [u32],
-    lct: &mut [u32],
-    dur: &[u32],
-    dem: &[u32],
-    log: &[u32],
-) -> usize
-    requires { ⌜ at < length (now sink) ⌝ }
-    requires { ⌜ ListsIn n (now est) (now lct) (now dur) (now dem) (now log) ⌝ }
-    ensures { λ r. ⌜ r < length (now (sink .entry)) ⌝ }
-{
-    if !is_whole(n.cursor) {
-        return unreadable(sink, at);
-    }
-    let e = n.est;
-    let l = n.lct;
-    let p = n.dur;
-    let d = n.dem;
-    let g = n.log;
-    check_said(
-        sink,
-        at,
-        &mut est[..e],
-        &mut lct[..l],
-        &dur[..p],
-        &dem[..d],
-        n.cap,
-        &log[..g],
-        n.count,
-    )
-}
-
-fn check_said(
-    sink: &mut [u8],
-    at: usize,
-    est: &mut [u32],
-    lct: &mut [u32],
-    dur: &[u32],
-    dem: &[u32],
-    cap: u32,
-    log: &[u32],
-    count: usize,
-) -> usize
-    requires { ⌜ at < length (now sink) ⌝ }
-    ensures { λ r. ⌜ r < length (now (sink .entry)) ⌝ }
-{
-    let answer = desk::check_log(est, lct, dur, dem, cap, log, count);
-    let said = lines::said::checking(sink, at, answer);
-    windows(sink, said, est, lct)
-}
-
 // record K log
 pub fn record(source: &mut [u8], sink: &mut [u8], place: Place, log: &mut [u32]) -> Place
     requires { ⌜ place .at < length (now sink) ⌝ }
@@ -185,7 +157,7 @@ pub fn record(source: &mut [u8], sink: &mut [u8], place: Place, log: &mut [u32])
     let k = number(source, place.cursor, LONG);
     let n = list(source, k.cursor, log);
     let cursor = n.cursor;
-    let at = recorded(
+    let end = recorded(
         sink,
         place.at,
         cursor,
@@ -193,7 +165,7 @@ pub fn record(source: &mut [u8], sink: &mut [u8], place: Place, log: &mut [u32])
         n.value as usize,
         log,
     );
-    Place { cursor, at }
+    Place { cursor, at: end }
 }
 
 fn recorded(sink: &mut [u8], at: usize, cursor: Cursor, k: usize, n: usize, log: &[u32]) -> usize
@@ -204,9 +176,8 @@ fn recorded(sink: &mut [u8], at: usize, cursor: Cursor, k: usize, n: usize, log:
     if !is_whole(cursor) {
         return unreadable(sink, at);
     }
-    let said = lines::text(sink, at, b"record");
-    let part = desk::show_record(&log[..n], k);
-    lines::list(sink, said, part)
+    let told = lines::text(sink, at, b"record");
+    lines::list(sink, told, desk::show_record(&log[..n], k))
 }
 
 // overload est lct dur
@@ -214,13 +185,13 @@ pub fn overload(source: &mut [u8], sink: &mut [u8], place: Place) -> Place
     requires { ⌜ place .at < length (now sink) ⌝ }
     ensures { λ r. ⌜ r .at < length (now (sink .entry)) ⌝ }
 {
-    let mut est = [0u32; JOBS];
-    let mut lct = [0u32; JOBS];
-    let mut dur = [0u32; JOBS];
+    let mut est = [0u32; MOST];
+    let mut lct = [0u32; MOST];
+    let mut dur = [0u32; MOST];
     let n = read_times(source, place.cursor, &mut est, &mut lct, &mut dur);
     let cursor = n.cursor;
-    let at = overloaded(sink, place.at, n, &est, &lct, &dur);
-    Place { cursor, at }
+    let end = overloaded(sink, place.at, n, &est, &lct, &dur);
+    Place { cursor, at: end }
 }
 
 fn overloaded(sink: &mut [u8], at: usize, n: Times, est: &[u32], lct: &[u32], dur: &[u32]) -> usize

@@ -51,12 +51,7 @@ fn named(word: &[u8]) -> Call {
 }
 
 // Answers the line that the cursor is at the start of, up to its end or to where it is unreadable.
-fn answer(
-    source: &mut [u8],
-    sink: &mut [u8],
-    place: Place,
-    log: &mut [u32],
-) -> Place
+fn answer(source: &mut [u8], sink: &mut [u8], place: Place, log: &mut [u32]) -> Place
     requires { ⌜ place .at < length (now sink) ⌝ }
     ensures { λ r. ⌜ r .at < length (now (sink .entry)) ⌝ }
 {
@@ -94,12 +89,7 @@ fn sent(sink: &[u8], at: usize, cursor: Cursor) -> usize
 }
 
 // Answers the line that the cursor is at the start of, and goes to the start of the next.
-fn line(
-    source: &mut [u8],
-    sink: &mut [u8],
-    place: Place,
-    log: &mut [u32],
-) -> Place
+fn line(source: &mut [u8], sink: &mut [u8], place: Place, log: &mut [u32]) -> Place
     requires { ⌜ place .at < length (now sink) ⌝ }
     ensures { λ r. ⌜ r .at < length (now (sink .entry)) ⌝ }
 {
@@ -114,11 +104,7 @@ fn line(
 }
 
 // Every line of the input. There are no more lines than bytes: the number of turns is not used up either.
-fn serve(
-    source: &mut [u8],
-    sink: &mut [u8],
-    log: &mut [u32],
-)
+fn serve(source: &mut [u8], sink: &mut [u8], log: &mut [u32])
     requires { ⌜ 0 < length (now sink) ⌝ }
 {
     let cursor = input::start(source);

@@ -9,29 +9,76 @@ use Rattle.worked.specs.Cases.{runs}
 
 pub cases : Every Right runs
 unfolding narrowed checked onesOf
-cases =
-    (refl,  -- 1
-    (refl,  -- 2
-    (refl,  -- 3
-    (refl,  -- 4
-    (refl,  -- 5
-    (refl,  -- 6
-    (refl,  -- 6
-    (refl,  -- 6
-    (refl,  -- 7
-    (refl,  -- 7
-    (refl,  -- 8
-    (refl,  -- 9
-    (refl,  -- 9
-    (refl,  -- 10
-    (refl,  -- 10
-    (refl,  -- 11
-    (refl,  -- 12
-    (refl,  -- 20
-    (refl,  -- 21
-    (refl,  -- 22
-    (refl,  -- 23
-    (refl,  -- 24
-    (refl,  -- 26
-    (refl,  -- 25
-    tt))))))))))))))))))))))))
+cases = (
+  refl,  -- 1
+  (
+    refl,  -- 2
+    (
+      refl,  -- 3
+      (
+        refl,  -- 4
+        (
+          refl,  -- 5
+          (
+            refl,  -- 6
+            (
+              refl,  -- 6
+              (
+                refl,  -- 6
+                (
+                  refl,  -- 7
+                  (
+                    refl,  -- 7
+                    (
+                      refl,  -- 8
+                      (
+                        refl,  -- 9
+                        (
+                          refl,  -- 9
+                          (
+                            refl,  -- 10
+                            (
+                              refl,  -- 10
+                              (
+                                refl,  -- 11
+                                (
+                                  refl,  -- 12
+                                  (
+                                    refl,  -- 20
+                                    (
+                                      refl,  -- 21
+                                      (
+                                        refl,  -- 22
+                                        (
+                                          refl,  -- 23
+                                          (
+                                            refl,  -- 24
+                                            (
+                                              refl,  -- 26
+                                              (
+                                                refl,  -- 25
+                                                tt,
+                                              ),
+                                            ),
+                                          ),
+                                        ),
+                                      ),
+                                    ),
+                                  ),
+                                ),
+                              ),
+                            ),
+                          ),
+                        ),
+                      ),
+                    ),
+                  ),
+                ),
+              ),
+            ),
+          ),
+        ),
+      ),
+    ),
+  ),
+)

@@ -7,30 +7,79 @@ use Rattle.worked.specs.Checks.{checks}
 
 pub checks-right : Every Right checks
 unfolding checked
-checks-right =
-    (refl,  -- 40
-    (refl,  -- 40
-    (refl,  -- 40
-    (refl,  -- 41
-    (refl,  -- 41
-    (refl,  -- 6
-    (refl,  -- 6
-    (refl,  -- 4
-    (refl,  -- 20
-    (refl,  -- 21
-    (refl,  -- 21
-    (refl,  -- 21
-    (refl,  -- 22
-    (refl,  -- 22
-    (refl,  -- 22
-    (refl,  -- 23
-    (refl,  -- 24
-    (refl,  -- 25
-    (refl,  -- 26
-    (refl,  -- 20
-    (refl,  -- 21
-    (refl,  -- 22
-    (refl,  -- 23
-    (refl,  -- 24
-    (refl,  -- 25
-    tt)))))))))))))))))))))))))
+checks-right = (
+  refl,  -- 40
+  (
+    refl,  -- 40
+    (
+      refl,  -- 40
+      (
+        refl,  -- 41
+        (
+          refl,  -- 41
+          (
+            refl,  -- 6
+            (
+              refl,  -- 6
+              (
+                refl,  -- 4
+                (
+                  refl,  -- 20
+                  (
+                    refl,  -- 21
+                    (
+                      refl,  -- 21
+                      (
+                        refl,  -- 21
+                        (
+                          refl,  -- 22
+                          (
+                            refl,  -- 22
+                            (
+                              refl,  -- 22
+                              (
+                                refl,  -- 23
+                                (
+                                  refl,  -- 24
+                                  (
+                                    refl,  -- 25
+                                    (
+                                      refl,  -- 26
+                                      (
+                                        refl,  -- 20
+                                        (
+                                          refl,  -- 21
+                                          (
+                                            refl,  -- 22
+                                            (
+                                              refl,  -- 23
+                                              (
+                                                refl,  -- 24
+                                                (
+                                                  refl,  -- 25
+                                                  tt,
+                                                ),
+                                              ),
+                                            ),
+                                          ),
+                                        ),
+                                      ),
+                                    ),
+                                  ),
+                                ),
+                              ),
+                            ),
+                          ),
+                        ),
+                      ),
+                    ),
+                  ),
+                ),
+              ),
+            ),
+          ),
+        ),
+      ),
+    ),
+  ),
+)
