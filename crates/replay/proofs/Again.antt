@@ -23,7 +23,8 @@ use Rattle.timetable.proofs.Entries.{entries-are, entries-count}
 use Rattle.timetable.proofs.Law.{lawful}
 use Rattle.timetable.proofs.Rows.{settled-row}
 use Rattle.timetable.proofs.Again.{same-jobs, good-again, word}
-use Rattle.replay.specs.Facts.{jobOf, side, timeOf, OwnTrue, StatedTrue, Idles, GoodRecord, Coded}
+use Rattle.replay.specs.Codes.{Coded}
+use Rattle.replay.specs.Facts.{jobOf, side, timeOf, OwnTrue, StatedTrue, Idles, GoodRecord}
 use Rattle.replay.specs.Replay.{rejected, Checked, finds, judged}
 use Rattle.replay.specs.Fate.{Fate, reached, nth}
 use Rattle.replay.specs.Promise.{Checks}

@@ -17,8 +17,8 @@ use Rattle.members.proofs.Sets.{has-within}
 use Rattle.joblist.specs.Limits.{mostTime}
 use Rattle.journal.specs.Journal.{sideWord, countWord, setOfRecord}
 use Rattle.timetable.specs.Time.{Jobs, Sure, sure}
-use Rattle.replay.specs.Facts.{jobOf, side, timeOf, isMember, named, InRange, TakesPart, Partners, Counted, Exceeds, OwnTrue, StatedTrue, Tightens, GoodRecord, OutOfRange, Idle, BadPartner, OwnFalse, Untrue, Idles, Coded}
-use Rattle.replay.specs.Codes.{inRange, takesPart, partners, ownTrue, statedTrue, tightens, code}
+use Rattle.replay.specs.Codes.{Coded, inRange, takesPart, partners, ownTrue, statedTrue, tightens, code}
+use Rattle.replay.specs.Facts.{jobOf, side, timeOf, isMember, named, InRange, TakesPart, Partners, Counted, Exceeds, OwnTrue, StatedTrue, Tightens, GoodRecord, OutOfRange, Idle, BadPartner, OwnFalse, Untrue, Idles}
 
 -- ---- the tests of the codes
 

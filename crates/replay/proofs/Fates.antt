@@ -12,8 +12,8 @@ use Rattle.narrowing.specs.Windows.{Win, closes}
 use Rattle.journal.specs.Journal.{records}
 use Rattle.timetable.specs.Time.{Jobs}
 use Rattle.timetable.specs.Table.{Call, jobsOf}
-use Rattle.replay.specs.Facts.{jobOf, Coded, GoodRecord}
-use Rattle.replay.specs.Codes.{code}
+use Rattle.replay.specs.Codes.{Coded, code}
+use Rattle.replay.specs.Facts.{jobOf, GoodRecord}
 use Rattle.replay.specs.Replay.{changed, Verdict, holds, clashes, rejected, closing, orBad, orClosed, replay}
 use Rattle.replay.specs.Fate.{nth, reached, Takes, Held, Closed, Open, Closing, Fate}
 use Rattle.replay.proofs.Codes.{code-exactly, good-record, record-good}

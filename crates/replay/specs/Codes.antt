@@ -1,7 +1,9 @@
--- The tests of codes 21 to 26 in their order (document 01, 'Answer table'); `Facts` has what each stands for.
-use Prim.Native.Nat.{ℕ, _+_}
+-- The tests of codes 21 to 26 in their order (document 01, 'Answer table'), and when a code is given; `Facts` has what each test stands for.
+use Prim.Native.Nat.{ℕ, _+_, _≤_}
+use mathlib.Core.Path.{_≡_}
 use mathlib.Core.Bool.{Bool, not}
 use mathlib.Core.List.{List}
+use mathlib.Core.Logic.{_⊎_}
 use lib.Dec.{ltb, leb, eqb}
 use Rattle.lists.specs.Lists.{_!_}
 use Rattle.lists.specs.Tests.{both, where?, unless, every}
@@ -10,7 +12,7 @@ use Rattle.members.specs.Members.{has, onesOf, places}
 use Rattle.joblist.specs.Limits.{mostTime}
 use Rattle.journal.specs.Journal.{sideWord, countWord, setOfRecord}
 use Rattle.timetable.specs.Time.{Jobs, sure}
-use Rattle.replay.specs.Facts.{jobOf, side, timeOf, isMember, named}
+use Rattle.replay.specs.Facts.{jobOf, side, timeOf, isMember, named, InRange, Partners, Counted, Exceeds, StatedTrue, Tightens, OutOfRange, BadPartner, Untrue, Idles}
 
 -- 21: job in the list, side at most 1, time at most its limit
 unfoldable pub inRange : Jobs → List ℕ → Bool
@@ -53,3 +55,13 @@ code J W x =
     (unless (ltb (J .cap) (named J x + J .r ! jobOf x)) 24
     (unless (statedTrue J W x) 25
     (unless (tightens W (jobOf x) (side x) (timeOf x)) 26 0)))))
+
+-- when code k is given: its fault is there and the facts of the codes before it hold; 0 stands for a good record
+abbrev pub Coded : Jobs → Win → List ℕ → ℕ → Type 0
+Coded J W x k =
+    (OutOfRange J x × (21 ≡ k)) ⊎ (InRange J x
+    × ((BadPartner J x × (22 ≡ k)) ⊎ (Partners J x
+    × (((Counted x → ⊥) × (23 ≡ k)) ⊎ (Counted x
+    × (((named J x + J .r ! jobOf x ≤ J .cap) × (24 ≡ k)) ⊎ (Exceeds J x
+    × ((Untrue J W x × (25 ≡ k)) ⊎ (StatedTrue J W x
+    × ((Idles W (jobOf x) (side x) (timeOf x) × (26 ≡ k)) ⊎ (Tightens W (jobOf x) (side x) (timeOf x) × (0 ≡ k))))))))))))

@@ -1,5 +1,5 @@
--- What a record has to be on the windows reached so far (document 01, 'Answer table', codes 21 to 26): the fact that each code asks for, the fault
--- that it finds, and when a code is given.
+-- What a record has to be on the windows reached so far (document 01, 'Answer table', codes 21 to 26): the fact that each code asks for, and the
+-- fault that it finds.
 use Prim.Native.Nat.{ℕ, _+_, _≤_, _<_}
 use mathlib.Core.Path.{_≡_}
 use mathlib.Core.Bool.{Bool, true}
@@ -111,13 +111,3 @@ Untrue J W x =
 abbrev pub Idles : Win → ℕ → Side → ℕ → Type 0
 Idles W j early t = t < W .e ! j
 Idles W j late t = W .l ! j ≤ t
-
--- when code k is given: its fault is there and the facts of the codes before it hold; 0 stands for a good record
-abbrev pub Coded : Jobs → Win → List ℕ → ℕ → Type 0
-Coded J W x k =
-    (OutOfRange J x × (21 ≡ k)) ⊎ (InRange J x
-    × ((BadPartner J x × (22 ≡ k)) ⊎ (Partners J x
-    × (((Counted x → ⊥) × (23 ≡ k)) ⊎ (Counted x
-    × (((named J x + J .r ! jobOf x ≤ J .cap) × (24 ≡ k)) ⊎ (Exceeds J x
-    × ((Untrue J W x × (25 ≡ k)) ⊎ (StatedTrue J W x
-    × ((Idles W (jobOf x) (side x) (timeOf x) × (26 ≡ k)) ⊎ (Tightens W (jobOf x) (side x) (timeOf x) × (0 ≡ k))))))))))))

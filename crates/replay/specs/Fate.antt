@@ -7,7 +7,8 @@ use Rattle.lists.specs.Lists.{_!_}
 use Rattle.narrowing.specs.Windows.{Win}
 use Rattle.journal.specs.Journal.{recordAt}
 use Rattle.timetable.specs.Table.{Call, jobsOf}
-use Rattle.replay.specs.Facts.{jobOf, GoodRecord, Coded}
+use Rattle.replay.specs.Codes.{Coded}
+use Rattle.replay.specs.Facts.{jobOf, GoodRecord}
 use Rattle.replay.specs.Replay.{changed, Verdict, holds, clashes, rejected}
 
 -- record i of the call's log

@@ -1,6 +1,6 @@
 -- `readhead::theta::descend` meets its contract. The loop's invariant, `Walking`: what is left of the descent ends where the whole does.
 -- The measure is what is left of the node's numbers: a child's number is the greater.
-use Rattle.readhead.proofs.Walks.{child-more}
+use Rattle.readhead.proofs.Walks.{child-more, Walking, walk-start, walk-tail, walk-step, walk-end}
 use Prim.Native.Nat.{_+_, _-_, _*_}
 use mathlib.Core.Path.{refl}
 use native.Mathlib.Omega.{arith}
@@ -9,7 +9,6 @@ use mir.Facts.{toZ-ofZ}
 use Rattle.joblist.specs.Limits.{mostJobs}
 use Rattle.readhead.specs.Theta.{depth}
 use Rattle.readhead.proofs.Climbs.{sum-under, end-under, end-fits}
-use Rattle.readhead.proofs.Walks.{Walking, walk-start, walk-tail, walk-step, walk-end}
 use Rattle.readhead.proofs.theta.descend.Statement.{statement}
 use Rattle.readhead.proofs.theta.descend.Tie as tie
 
