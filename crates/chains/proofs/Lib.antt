@@ -1,0 +1,5 @@
+pub mod Holes
+pub mod Chains
+pub mod Passes
+pub mod Longest
+pub mod Cycles

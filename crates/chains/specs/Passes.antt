@@ -1,0 +1,35 @@
+-- The longest chains and the cycles of `Paths`, computed: once over the pairs raises each successor's value to what its job asks, and as many
+-- passes as there are jobs reach the longest chains, unless there is a cycle (proofs/Longest.antt, proofs/Cycles.antt).
+use Prim.Native.Nat.{ℕ, zero, suc, _+_}
+use mathlib.Core.Bool.{Bool, cond}
+use mathlib.Core.List.{List, [], _∷_}
+use lib.Dec.{ltb}
+use lib.ListN.{set, replicate}
+use Rattle.lists.specs.Lists.{_!_}
+use Rattle.lists.specs.Tests.{every}
+use Rattle.chains.specs.Paths.{Pair}
+
+-- b's value raised to a's with a's duration
+unfoldable pub raise : (ℕ → ℕ) → ℕ → ℕ → List ℕ → List ℕ
+raise w a b v = cond (ltb (v ! b) (v ! a + w a)) (set v b (v ! a + w a)) v
+
+-- once over the pairs, in their order
+unfoldable pub pass : (ℕ → ℕ) → List Pair → List ℕ → List ℕ
+unfolding raise
+pass w [] v = v
+pass w (x ∷ ps) v = pass w ps (raise w (x .job) (x .successor) v)
+
+unfoldable pub passes : (ℕ → ℕ) → List Pair → ℕ → List ℕ → List ℕ
+unfolding pass
+passes w ps zero v = v
+passes w ps (suc m) v = passes w ps m (pass w ps v)
+
+-- the longest chains before the n jobs
+unfoldable pub longest : (ℕ → ℕ) → List Pair → ℕ → List ℕ
+unfolding passes
+longest w ps n = passes w ps n (replicate n 0)
+
+-- no chain has as many steps as there are jobs: then no job comes twice
+unfoldable pub acyclic? : List Pair → ℕ → Bool
+unfolding longest every
+acyclic? ps n = every (λ j. ltb (longest (λ i. 1) ps n ! j) n) n

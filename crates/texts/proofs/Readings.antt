@@ -1,0 +1,147 @@
+-- Several readings one after the other, and what a reading takes: fewer tokens are left, and each number is within its limit.
+use Prim.Native.Nat.{ℕ, zero, suc, _+_, _-_, _≤_, _<_}
+use native.Mathlib.Omega.{arith}
+use mathlib.Core.Path.{_≡_, refl, ap, subst}
+use mathlib.Core.Bool.{Bool, true, false, cond}
+use mathlib.Core.List.{List, [], _∷_, _++_, append-assoc}
+use mathlib.Core.Logic.{_⊎_, inl, inr}
+use lib.Dec.{leb}
+use lib.ListN.{length}
+use borrow.Author.Tests.{leb-true}
+use Rattle.lists.specs.Lists.{_!_, Every}
+use Rattle.texts.specs.Tokens.{Token, number, other}
+use Rattle.texts.specs.Readings.{Read, bad, good, andThen, one, times, many}
+
+-- a refusal is no reading
+pub not-both : {A B : Type 0} (r : Read A) (c : ℕ) (a : A) (rest : List Token) → r ≡ bad c → r ≡ good a rest → B
+not-both r c a rest p q = let z : _≡_ {A = ℕ} 0 1 = cc in absurd (omega arith)
+
+-- a reading is one reading
+pub good-one : {A : Type 0} (r : Read A) (a b : A) (u v : List Token) → r ≡ good a u → r ≡ good b v → (a ≡ b) × (u ≡ v)
+good-one r a b u v p q = (cc, cc)
+
+pub bad-one : {A : Type 0} (r : Read A) (c d : ℕ) → r ≡ bad c → r ≡ bad d → c ≡ d
+bad-one r c d p q = cc
+
+-- what the first of two readings was, where both were good
+pub then-good : {A B : Type 0} (r : Read A) (f : A → List Token → Read B) (b : B) (end : List Token) → andThen r f ≡ good b end
+    → (a : A) × (rest : List Token) × (r ≡ good a rest) × (f a rest ≡ good b end)
+then-good (bad c) f b end e = not-both (bad c) c b end refl e
+then-good (good a rest) f b end e = (a, rest, refl, e)
+
+-- and which of them was refused
+pub then-bad : {A B : Type 0} (r : Read A) (f : A → List Token → Read B) (c : ℕ) → andThen r f ≡ bad c
+    → (r ≡ bad c) ⊎ ((a : A) × (rest : List Token) × (r ≡ good a rest) × (f a rest ≡ bad c))
+then-bad (bad d) f c e = inl cc
+then-bad (good a rest) f c e = inr (a, rest, refl, e)
+
+-- ---- several readings
+
+-- readings in front of others
+abbrev pub ahead : {A : Type 0} → List A → Read (List A) → Read (List A)
+ahead ys (bad c) = bad c
+ahead ys (good xs ts) = good (ys ++ xs) ts
+
+pub ahead-nil : {A : Type 0} (r : Read (List A)) → ahead [] r ≡ r
+ahead-nil (bad c) = refl
+ahead-nil (good xs ts) = refl
+
+pub append-nil : {A : Type 0} (xs : List A) → xs ++ [] ≡ xs
+append-nil [] = refl
+append-nil (x ∷ xs) = ap (λ l. x ∷ l) (append-nil xs)
+
+-- readings that do not look at their number
+pub times-any : {A : Type 0} (f : List Token → Read A) (i j m : ℕ) (ts : List Token) → times (λ k. f) i m ts ≡ times (λ k. f) j m ts
+unfolding times
+times-any f i j zero ts = refl
+times-any {A = A} f i j (suc m) ts = go (f ts) (λ rest. times-any f (suc i) (suc j) m rest)
+  where
+    go : (r : Read A) → ((rest : List Token) → times (λ k. f) (suc i) m rest ≡ times (λ k. f) (suc j) m rest)
+        → andThen r (λ a rest. andThen (times (λ k. f) (suc i) m rest) (λ xs end. good (a ∷ xs) end))
+        ≡ andThen r (λ a rest. andThen (times (λ k. f) (suc j) m rest) (λ xs end. good (a ∷ xs) end))
+    go (bad c) h = refl
+    go (good a rest) h = rw (h rest)
+
+module _ {A : Type 0} (f : List Token → Read A) (ys : List A) (m : ℕ) (ts : List Token) where
+  pub times-step : (a : A) (rest : List Token) → f ts ≡ good a rest → ahead ys (times (λ k. f) 0 (suc m) ts) ≡ ahead (ys ++ a ∷ []) (times (λ k. f) 0 m rest)
+  unfolding times
+  times-step a rest e = rw (e, times-any f 1 0 m rest) (go (times (λ k. f) 0 m rest))
+    where
+      go : (r : Read (List A)) → ahead ys (andThen r (λ xs end. good (a ∷ xs) end)) ≡ ahead (ys ++ a ∷ []) r
+      go (bad c) = refl
+      go (good xs end) = rw (append-assoc ys (a ∷ []) xs)
+
+  pub times-bad : (c : ℕ) → f ts ≡ bad c → ahead ys (times (λ k. f) 0 (suc m) ts) ≡ bad c
+  unfolding times
+  times-bad c e = rw e
+
+  pub times-done : ahead ys (times (λ k. f) 0 0 ts) ≡ good ys ts
+  unfolding times
+  times-done = rw (append-nil ys)
+
+-- ---- what readings take
+
+pub one-takes : (top code v : ℕ) (ts rest : List Token) → one top code ts ≡ good v rest → (length rest < length ts) × (v ≤ top)
+unfolding one
+one-takes top code v [] rest e = not-both (bad 30) 30 v rest refl e
+one-takes top code v (other ∷ ts) rest e = not-both (bad 30) 30 v rest refl e
+one-takes top code v (number x ∷ ts) rest e = go (leb x top) refl e
+  where
+    go : (t : Bool) → leb x top ≡ t → cond t (good x ts) (bad code) ≡ good v rest → (length rest < suc (length ts)) × (v ≤ top)
+    go true d q = let y : x ≡ v = cc in let u : ts ≡ rest = cc in rw (← u, ← y) (omega (arith, leb-true x top d))
+    go false d q = not-both (bad code) code v rest refl q
+
+pub one-codes : (top code c : ℕ) (ts : List Token) → one top code ts ≡ bad c → (c ≡ 30) ⊎ (c ≡ code)
+unfolding one
+one-codes top code c [] e = inl cc
+one-codes top code c (other ∷ ts) e = inl cc
+one-codes top code c (number x ∷ ts) e = go (leb x top) e
+  where
+    go : (t : Bool) → cond t (good x ts) (bad code) ≡ bad c → (c ≡ 30) ⊎ (c ≡ code)
+    go true q = not-both (good x ts) c x ts q refl
+    go false q = inr cc
+
+module _ {A : Type 0} (f : ℕ → List Token → Read A) where
+  -- as many as were asked for; what holds of each reading holds of all; no tokens are added
+  pub times-takes : (P : A → Type 0) → ((j : ℕ) (ts rest : List Token) (a : A) → f j ts ≡ good a rest → P a × (length rest ≤ length ts))
+      → (j m : ℕ) (ts rest : List Token) (xs : List A) → times f j m ts ≡ good xs rest → (length xs ≡ m) × Every P xs × (length rest ≤ length ts)
+  unfolding times
+  times-takes P h j zero ts rest xs e = let u : [] ≡ xs = cc in let v : ts ≡ rest = cc in rw (← u, ← v) (refl, tt, omega arith)
+  times-takes P h j (suc m) ts rest xs e =
+      let s = then-good (f j ts) (λ a u. andThen (times f (suc j) m u) (λ ys end. good (a ∷ ys) end)) xs rest e in
+      let t = then-good (times f (suc j) m (s .1)) (λ ys end. good (s .0 ∷ ys) end) xs rest (s .3) in
+      let q = times-takes P h (suc j) m (s .1) (t .1) (t .0) (t .2) in
+      let p = h j ts (s .1) (s .0) (s .2) in
+      let u : s .0 ∷ t .0 ≡ xs = good-one (good (s .0 ∷ t .0) (t .1)) (s .0 ∷ t .0) xs (t .1) rest refl (t .3) .0 in
+      let v : t .1 ≡ rest = good-one (good (s .0 ∷ t .0) (t .1)) (s .0 ∷ t .0) xs (t .1) rest refl (t .3) .1 in
+      subst (λ (l : List A). (length l ≡ suc m) × Every P l × (length rest ≤ length ts)) u (ap suc (q .0), (p .0, q .1), omega (arith, p .1, q .2, ap length v))
+
+  -- what every refusal of a reading is, every refusal of several is
+  pub times-codes : (P : ℕ → Type 0) → ((j c : ℕ) (ts : List Token) → f j ts ≡ bad c → P c) → (j m c : ℕ) (ts : List Token) → times f j m ts ≡ bad c → P c
+  unfolding times
+  times-codes P h j zero c ts e = not-both (good [] ts) c [] ts e refl
+  times-codes P h j (suc m) c ts e = go (then-bad (f j ts) (λ a u. andThen (times f (suc j) m u) (λ ys end. good (a ∷ ys) end)) c e) (λ u q. times-codes P h (suc j) m c u q)
+    where
+      go : (f j ts ≡ bad c) ⊎ ((a : A) × (u : List Token) × (f j ts ≡ good a u) × (andThen (times f (suc j) m u) (λ ys end. good (a ∷ ys) end) ≡ bad c))
+          → ((u : List Token) → times f (suc j) m u ≡ bad c → P c) → P c
+      go (inl q) k = h j c ts q
+      go (inr q) k = rest (then-bad (times f (suc j) m (q .1)) (λ ys end. good (q .0 ∷ ys) end) c (q .3))
+        where
+          rest : (times f (suc j) m (q .1) ≡ bad c) ⊎ ((ys : List A) × (u : List Token) × (times f (suc j) m (q .1) ≡ good ys u) × (good (q .0 ∷ ys) u ≡ bad c)) → P c
+          rest (inl z) = k (q .1) z
+          rest (inr z) = not-both (good (q .0 ∷ z .0) (z .1)) c (q .0 ∷ z .0) (z .1) (z .3) refl
+
+pub many-takes : (top m : ℕ) (ts rest : List Token) (xs : List ℕ) → many top m ts ≡ good xs rest → (length xs ≡ m) × Every (λ x. x ≤ top) xs × (length rest ≤ length ts)
+unfolding many
+many-takes top m ts rest xs e =
+    times-takes (λ j. one top 31) (λ x. x ≤ top) (λ j u v a q. let t = one-takes top 31 a u v q in (t .1, omega (arith, t .0))) 0 m ts rest xs e
+
+pub many-codes : (top m c : ℕ) (ts : List Token) → many top m ts ≡ bad c → (c ≡ 30) ⊎ (c ≡ 31)
+unfolding many
+many-codes top m c ts e = times-codes (λ j. one top 31) (λ d. (d ≡ 30) ⊎ (d ≡ 31)) (λ j d u q. one-codes top 31 d u q) 0 m c ts e
+
+-- a number of a list of which each is within the limit
+pub every-at : (top : ℕ) (xs : List ℕ) → Every (λ x. x ≤ top) xs → (k : ℕ) → xs ! k ≤ top
+every-at top [] h k = omega arith
+every-at top (x ∷ xs) h zero = h .0
+every-at top (x ∷ xs) h (suc k) = every-at top xs (h .1) k

@@ -1,0 +1,44 @@
+// The tokens of a text, one number at a time (document 01, 'Library layouts'). A number may have any length: what is held of it stops at 2 to the
+// power 32, which no limit reaches, so that none wraps.
+mod scan;
+
+use scan::Next;
+use scan::next_number;
+ghost use mathlib.Core.Path.{_≡_};
+ghost use lib.ListN.{drop};
+ghost use Rattle.texts.specs.Tokens.{tokens};
+ghost use Rattle.texts.specs.Readings.{one};
+ghost use Rattle.texts.specs.Scan.{GotSays, none?};
+
+// A number with the place behind it, or a refusal.
+pub enum Got {
+    Good(u32, usize),
+    Bad(u32),
+}
+
+// The next number from `at` on: 30 where none stands there, `code` where it is above `top`.
+pub fn next_up_to(text: &[u8], at: usize, top: u32, code: u32) -> Got
+    ensures { λ r. ⌜ GotSays (one top code (tokens (drop at (now (text .entry))))) (now (text .entry)) r ⌝ }
+{
+    match next_number(text, at) {
+        Next::Number(v, to) => {
+            if v <= (top as u64) {
+                return Got::Good(v as u32, to);
+            }
+            Got::Bad(code)
+        }
+        Next::Other => Got::Bad(30),
+        Next::End => Got::Bad(30),
+    }
+}
+
+// Whether nothing but blanks is left from `at` on.
+pub fn is_over(text: &[u8], at: usize) -> bool
+    ensures { λ r. ⌜ r ≡ none? (tokens (drop at (now (text .entry)))) ⌝ }
+{
+    match next_number(text, at) {
+        Next::Number(_, _) => false,
+        Next::Other => false,
+        Next::End => true,
+    }
+}
