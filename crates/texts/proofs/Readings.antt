@@ -20,6 +20,9 @@ not-both r c a rest p q = let z : _≡_ {A = ℕ} 0 1 = cc in absurd (omega arit
 pub good-one : {A : Type 0} (r : Read A) (a b : A) (u v : List Token) → r ≡ good a u → r ≡ good b v → (a ≡ b) × (u ≡ v)
 good-one r a b u v p q = (cc, cc)
 
+pub good-same : {A : Type 0} (a b : A) (u v : List Token) → good a u ≡ good b v → (a ≡ b) × (u ≡ v)
+good-same a b u v e = (cc, cc)
+
 pub bad-one : {A : Type 0} (r : Read A) (c d : ℕ) → r ≡ bad c → r ≡ bad d → c ≡ d
 bad-one r c d p q = cc
 
@@ -112,9 +115,8 @@ module _ {A : Type 0} (f : ℕ → List Token → Read A) where
       let t = then-good (times f (suc j) m (s .1)) (λ ys end. good (s .0 ∷ ys) end) xs rest (s .3) in
       let q = times-takes P h (suc j) m (s .1) (t .1) (t .0) (t .2) in
       let p = h j ts (s .1) (s .0) (s .2) in
-      let u : s .0 ∷ t .0 ≡ xs = good-one (good (s .0 ∷ t .0) (t .1)) (s .0 ∷ t .0) xs (t .1) rest refl (t .3) .0 in
-      let v : t .1 ≡ rest = good-one (good (s .0 ∷ t .0) (t .1)) (s .0 ∷ t .0) xs (t .1) rest refl (t .3) .1 in
-      subst (λ (l : List A). (length l ≡ suc m) × Every P l × (length rest ≤ length ts)) u (ap suc (q .0), (p .0, q .1), omega (arith, p .1, q .2, ap length v))
+      let o = good-same (s .0 ∷ t .0) xs (t .1) rest (t .3) in
+      subst (λ (l : List A). (length l ≡ suc m) × Every P l × (length rest ≤ length ts)) (o .0) (ap suc (q .0), (p .0, q .1), omega (arith, p .1, q .2, ap length (o .1)))
 
   -- what every refusal of a reading is, every refusal of several is
   pub times-codes : (P : ℕ → Type 0) → ((j c : ℕ) (ts : List Token) → f j ts ≡ bad c → P c) → (j m c : ℕ) (ts : List Token) → times f j m ts ≡ bad c → P c

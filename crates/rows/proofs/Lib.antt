@@ -1,0 +1,8 @@
+pub mod Numbers
+pub mod Seeing
+pub mod Takes
+pub mod Whole
+pub mod Steps
+pub mod Checking
+pub mod Limits
+pub mod Cases

@@ -1,0 +1,57 @@
+-- The Patterson layout (document 01, 'Library layouts'), with the refusals of document 02, Item 1, as the text meets them: 30 for what is no number,
+-- is missing or is left over; 31 for a number above its limit; 32 for a successor out of range.
+use Prim.Native.Nat.{ℕ}
+use mathlib.Core.List.{List}
+use Rattle.joblist.specs.Limits.{mostTime, mostDemand, mostJobs}
+use Rattle.texts.specs.Tokens.{Token, tokens}
+use Rattle.texts.specs.Readings.{Read, good, andThen, one, times, many, nothingMore}
+use Rattle.rows.specs.Projects.{mostResources, Row, Project, link}
+
+-- a job's row up to its successors: duration, a demand for each of k resources, how many successors (no more than the n jobs)
+pub record Head : Type 0 where
+  pub duration : ℕ
+  pub demands : List ℕ
+  pub count : ℕ
+
+unfoldable pub head : ℕ → ℕ → List Token → Read Head
+unfolding one many
+head n k ts =
+    andThen (one mostTime 31 ts) (λ d t₁.
+    andThen (many mostDemand k t₁) (λ qs t₂.
+    andThen (one n 31 t₂) (λ c t₃.
+    good (record { duration = d; demands = qs; count = c }) t₃)))
+
+-- and its successors
+unfoldable pub row : ℕ → ℕ → ℕ → List Token → Read Row
+unfolding head times link
+row n k j ts =
+    andThen (head n k ts) (λ h rest.
+    andThen (times (λ i. link n) 0 (h .count) rest) (λ ss end.
+    good (record { duration = h .duration; demands = h .demands; successors = ss }) end))
+
+-- the counts and the capacities
+pub record Opening : Type 0 where
+  pub jobs : ℕ
+  pub resources : ℕ
+  pub capacities : List ℕ
+
+unfoldable pub opening : List Token → Read Opening
+unfolding one many
+opening ts =
+    andThen (one mostJobs 31 ts) (λ n t₁.
+    andThen (one mostResources 31 t₁) (λ k t₂.
+    andThen (many mostDemand k t₂) (λ cs t₃.
+    good (record { jobs = n; resources = k; capacities = cs }) t₃)))
+
+-- job count, resource count, capacities, a row for each job, and nothing more
+unfoldable pub project : List Token → Read Project
+unfolding opening row times
+project ts =
+    andThen (opening ts) (λ o t₁.
+    andThen (times (row (o .jobs) (o .resources)) 0 (o .jobs) t₁) (λ rs t₂.
+    nothingMore (record { capacities = o .capacities; rows = rs }) t₂))
+
+-- a text of this layout
+unfoldable pub patterson : List ℕ → Read Project
+unfolding project tokens
+patterson s = project (tokens s)

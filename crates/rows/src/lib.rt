@@ -1,0 +1,147 @@
+// The rows of a text in the Patterson layout (document 01, 'Library layouts'; refusals of document 02, Item 1): its counts, one step along its
+// rows, and all of its rows checked. Nothing is stored but durations and demands: whoever wants the pairs walks the text again.
+mod parts;
+
+use parts::HeadGot;
+use parts::read_head;
+use parts::read_link;
+use parts::read_many;
+use texts::Got;
+ghost use mathlib.Core.Path.{_≡_};
+ghost use Prim.Native.Nat.{ℕ, _≤_};
+ghost use lib.ListN.{length, drop};
+ghost use Rattle.lists.specs.Lists.{_!_};
+ghost use Rattle.joblist.specs.Limits.{mostTime, mostJobs};
+ghost use Rattle.texts.specs.Tokens.{tokens};
+ghost use Rattle.rows.specs.Patterson.{opening};
+ghost use Rattle.rows.specs.Walk.{OpenSays, Fit, StepSays, FoundSays, seeing};
+
+// The most resources that a text may name.
+const RESOURCES: u32 = 8;
+
+// Job count, resource count, the chosen capacity (0 where there is no such resource) and the place of the rows; or a refusal.
+pub enum Opened {
+    Ready(u32, u32, u32, usize),
+    Closed(u32),
+}
+
+// A place among the rows: the next row, the successors left of the row before it, and the place in the text.
+pub struct Walk {
+    pub next: u32,
+    pub left: u32,
+    pub at: usize,
+}
+
+// A successor; a row's duration and demand; the end of the rows; a refusal.
+pub enum Step {
+    Successor(u32, Walk),
+    Begun(u32, u32, Walk),
+    Done,
+    Stop(u32),
+}
+
+// The number of pairs and the place behind the rows, or a refusal.
+pub enum Found {
+    All(usize, usize),
+    Not(u32),
+}
+
+// The counts and the capacities.
+pub fn open_text(text: &[u8], res: u32) -> Opened
+    ensures { λ r. ⌜ OpenSays (opening (tokens (now (text .entry)))) (now (text .entry)) res r ⌝ }
+{
+    match texts::next_up_to(text, 0, joblist::MOST as u32, 31) {
+        Got::Bad(c) => Opened::Closed(c),
+        Got::Good(n, a) => match texts::next_up_to(text, a, RESOURCES, 31) {
+            Got::Bad(c) => Opened::Closed(c),
+            Got::Good(k, b) => match read_many(text, b, k, joblist::DRAW, res) {
+                Got::Bad(c) => Opened::Closed(c),
+                Got::Good(cap, at) => Opened::Ready(n, k, cap, at),
+            },
+        },
+    }
+}
+
+// One step along the rows.
+pub fn advance(text: &[u8], n: u32, k: u32, res: u32, w: Walk) -> Step
+    requires { ⌜ Fit n w × (n ≤ mostJobs) ⌝ }
+    ensures { λ r. ⌜ StepSays n k res (now (text .entry)) w r ⌝ }
+{
+    let at = w.at;
+    let next = w.next;
+    let left = w.left;
+    if 0 < left {
+        match read_link(text, at, n) {
+            Got::Good(v, to) => {
+                return Step::Successor(
+                    v,
+                    Walk {
+                        next: next,
+                        left: left - 1,
+                        at: to,
+                    },
+                );
+            }
+            Got::Bad(c) => {
+                return Step::Stop(c);
+            }
+        }
+    }
+    if next == n {
+        return Step::Done;
+    }
+    match read_head(text, at, n, k, res) {
+        HeadGot::Line(d, q, m, to) => Step::Begun(
+            d,
+            q,
+            Walk {
+                next: next + 1,
+                left: m,
+                at: to,
+            },
+        ),
+        HeadGot::NoLine(c) => Step::Stop(c),
+    }
+}
+
+// All rows from `at` on, durations and demands kept. Each turn takes a token.
+pub fn validate(
+    text: &[u8],
+    at: usize,
+    n: u32,
+    k: u32,
+    res: u32,
+    dur: &mut [u32; joblist::MOST],
+    dem: &mut [u32; joblist::MOST],
+) -> Found
+    requires { ⌜ (n ≤ mostJobs) × (length (now dur) ≡ mostJobs) × (length (now dem) ≡ mostJobs) × ((j : ℕ) → now dur ! j ≤ mostTime) ⌝ }
+    ensures { λ r. ⌜ FoundSays (seeing n k res 0 0 (tokens (drop at (now (text .entry))))) (now (text .entry)) n (now (dur .exit)) (now (dem .exit)) r × (length (now (dur .exit)) ≡ mostJobs) × (length (now (dem .exit)) ≡ mostJobs) × ((j : ℕ) → now (dur .exit) ! j ≤ mostTime) ⌝ }
+{
+    let mut w = Walk {
+        next: 0,
+        left: 0,
+        at: at,
+    };
+    let mut pairs: usize = 0;
+    loop {
+        match advance(text, n, k, res, w) {
+            Step::Successor(v, u) => {
+                pairs += 1;
+                w = u;
+            }
+            Step::Begun(d, q, u) => {
+                let j = w.next as usize;
+                dur[j] = d;
+                dem[j] = q;
+                w = u;
+            }
+            Step::Done => {
+                let to = w.at;
+                return Found::All(pairs, to);
+            }
+            Step::Stop(c) => {
+                return Found::Not(c);
+            }
+        }
+    }
+}

@@ -1,0 +1,81 @@
+// The parts of a row: a successor, several numbers, and what stands before the successors.
+use texts::Got;
+ghost use mathlib.Core.Path.{_≡_};
+ghost use lib.Dec.{eqb};
+ghost use lib.ListN.{drop};
+ghost use Rattle.lists.specs.Tests.{pick};
+ghost use Rattle.texts.specs.Tokens.{tokens};
+ghost use Rattle.texts.specs.Readings.{many};
+ghost use Rattle.texts.specs.Scan.{GotSays};
+ghost use Rattle.rows.specs.Projects.{link};
+ghost use Rattle.rows.specs.Patterson.{head};
+ghost use Rattle.rows.specs.Walk.{PickSays, HeadSays};
+
+// Duration, demand of the chosen resource, successor count, and the place behind them; or a refusal.
+pub enum HeadGot {
+    Line(u32, u32, u32, usize),
+    NoLine(u32),
+}
+
+// A successor, from 0.
+pub fn read_link(text: &[u8], at: usize, n: u32) -> Got
+    ensures { λ r. ⌜ GotSays (link n (tokens (drop at (now (text .entry))))) (now (text .entry)) r ⌝ }
+{
+    match texts::next_up_to(text, at, n, 32) {
+        Got::Good(v, to) => {
+            if v == 0 {
+                return Got::Bad(32);
+            }
+            Got::Good(v - 1, to)
+        }
+        Got::Bad(c) => Got::Bad(c),
+    }
+}
+
+// v where the place is the one asked for, else the old value.
+fn choose(i: u32, res: u32, v: u32, old: u32) -> u32
+    ensures { λ r. ⌜ r ≡ pick (eqb i res) v old ⌝ }
+{
+    if i == res {
+        return v;
+    }
+    old
+}
+
+// m numbers up to `top`; the answer is the one at `res`, 0 where there is none.
+pub fn read_many(text: &[u8], at: usize, m: u32, top: u32, res: u32) -> Got
+    ensures { λ r. ⌜ PickSays (many top m (tokens (drop at (now (text .entry))))) (now (text .entry)) res r ⌝ }
+{
+    let mut picked: u32 = 0;
+    let mut to = at;
+    let mut i: u32 = 0;
+    while i < m {
+        match texts::next_up_to(text, to, top, 31) {
+            Got::Good(v, end) => {
+                picked = choose(i, res, v, picked);
+                to = end;
+            }
+            Got::Bad(c) => {
+                return Got::Bad(c);
+            }
+        }
+        i += 1;
+    }
+    Got::Good(picked, to)
+}
+
+// A row up to its successor count.
+pub fn read_head(text: &[u8], at: usize, n: u32, k: u32, res: u32) -> HeadGot
+    ensures { λ r. ⌜ HeadSays (head n k (tokens (drop at (now (text .entry))))) (now (text .entry)) res r ⌝ }
+{
+    match texts::next_up_to(text, at, joblist::TIME, 31) {
+        Got::Bad(c) => HeadGot::NoLine(c),
+        Got::Good(d, a) => match read_many(text, a, k, joblist::DRAW, res) {
+            Got::Bad(c) => HeadGot::NoLine(c),
+            Got::Good(q, b) => match texts::next_up_to(text, b, n, 31) {
+                Got::Bad(c) => HeadGot::NoLine(c),
+                Got::Good(m, e) => HeadGot::Line(d, q, m, e),
+            },
+        },
+    }
+}
