@@ -1,0 +1,4 @@
+pub mod Pairs
+pub mod Relaxing
+pub mod Settling
+pub mod Orders

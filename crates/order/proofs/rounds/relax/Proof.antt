@@ -1,0 +1,140 @@
+-- `order::relax` meets its contract: the pairs passed have made the values of the first ones, and the rest makes of them what all pairs make.
+use Prim.Native.Nat.{_<_, _-_}
+use native.Mathlib.Omega.{arith}
+use borrow.Author.Needs.{needs}
+use lib.ListN.{length, drop}
+use Rattle.joblist.specs.Limits.{mostJobs}
+use Rattle.texts.specs.Tokens.{tokens}
+use Rattle.order.proofs.Relaxing.{Relaxing, relaxing-start, relaxing-kept, relaxing-rose, relaxing-over, relaxing-same, relaxing-changed, cond-below}
+use Rattle.order.proofs.rounds.relax.Statement.{statement}
+use Rattle.order.proofs.rounds.relax.Tie as tie
+
+abbrev Inv-loop : tie.InvT-loop
+Inv-loop text n k at p back top v₀ w₀ changed₀ v w changed = Relaxing n k text at p back top v₀ v w changed
+
+abbrev μ-loop : tie.MeasureT-loop
+μ-loop text n k at p back top v₀ w₀ changed₀ v w changed = length (tokens (drop (w .at) text))
+
+loop-holds : tie.Need-loop-holds Inv-loop μ-loop
+loop-holds c =
+    let q = c .before .pre in
+    relaxing-start _ _ _ _ _ _ _ _ (q .0 .2) (q .1 .1)
+
+next-pair-requires : tie.Need-next-pair-requires Inv-loop μ-loop
+next-pair-requires c κs = (c .loop .inv .fit, c .before .before .pre .0 .0)
+
+enum-told : tie.Need-enum-told Inv-loop μ-loop
+enum-told c = search needs
+
+returns : tie.Need-returns Inv-loop μ-loop
+returns c =
+    let t = rw (c .before .enum-told .given .1) at (c .before .before .before .next-pair .ensures) in
+    let g = c .before .before .before .before .loop .inv in
+    (relaxing-changed _ _ _ _ _ _ _ _ _ _ _ g t (c .if1 .taken), g .long)
+
+returns-2 : tie.Need-returns-2 Inv-loop μ-loop
+returns-2 c =
+    let t = rw (c .before .enum-told .given .1) at (c .before .before .before .next-pair .ensures) in
+    let g = c .before .before .before .before .loop .inv in
+    (relaxing-same _ _ _ _ _ _ _ _ _ _ _ g t (c .if1 .left), g .long)
+
+enum-known-a : tie.Need-enum-known-a Inv-loop μ-loop
+enum-known-a c = search needs
+
+select-requires : tie.Need-select-requires Inv-loop μ-loop
+select-requires c κs = search needs
+
+select-requires-2 : tie.Need-select-requires-2 Inv-loop μ-loop
+select-requires-2 c κs = search needs
+
+cast-x : tie.Need-cast-x Inv-loop μ-loop
+cast-x c = search needs
+
+mul-x : tie.Need-mul-x Inv-loop μ-loop
+mul-x c = search needs
+
+element-copy-out-x : tie.Need-element-copy-out-x Inv-loop μ-loop
+element-copy-out-x c =
+    let t = rw (c .before .before .before .a .given .1) at (c .before .before .before .before .before .next-pair .ensures) in
+    let m = c .before .before .before .before .before .before .before .before .pre .0 in
+    let ha : c .before .before .before .a .given .0 .0 < mostJobs = omega (arith, t .3, m .0) in
+    let hb : c .before .before .before .a .given .0 .1 .0 < mostJobs = omega (arith, t .4, m .0) in
+    rw (c .before .select .ensures) (cond-below (c .before .before .before .before .before .before .before .before .args .back) _ _ mostJobs hb ha)
+
+lift-requires : tie.Need-lift-requires Inv-loop μ-loop
+lift-requires c κs =
+    let t = rw (c .before .before .before .before .before .a .given .1) at (c .before .before .before .before .before .before .before .next-pair .ensures) in
+    let m = c .before .before .before .before .before .before .before .before .before .before .pre .0 in
+    let g = c .before .before .before .before .before .before .before .before .loop .inv in
+    let ha : c .before .before .before .before .before .a .given .0 .0 < mostJobs = omega (arith, t .3, m .0) in
+    let hb : c .before .before .before .before .before .a .given .0 .1 .0 < mostJobs = omega (arith, t .4, m .0) in (
+      rw (c .before .before .before .select .ensures) (cond-below (c .before .before .before .before .before .before .before .before .before .before .args .back) _ _ mostJobs hb ha),
+      rw (c .before .before .select2 .ensures) (cond-below (c .before .before .before .before .before .before .before .before .before .before .args .back) _ _ mostJobs ha hb),
+      g .long,
+      omega (arith, g .low (c .before .before .before .select .result), m .3),
+      c .before .before .before .before .before .before .before .before .before .before .pre .1 .0 (c .before .before .before .select .result),
+    )
+
+enum-told-2 : tie.Need-enum-told-2 Inv-loop μ-loop
+enum-told-2 c = search needs
+
+loop-less : tie.Need-loop-less Inv-loop μ-loop
+loop-less c =
+    let t = rw (c .before .before .before .before .before .before .before .before .a .given .1) at (c .before .before .before .before .before .before .before .before .before .before .next-pair .ensures) in
+    t .2
+
+loop-again : tie.Need-loop-again Inv-loop μ-loop
+loop-again c =
+    let t = rw (c .before .before .before .before .before .before .before .before .a .given .1) at (c .before .before .before .before .before .before .before .before .before .before .next-pair .ensures) in
+    let h = rw (c .enum-told2 .given .1) at (c .before .before .lift .ensures .0) in
+    relaxing-kept _ _ _ _ _ _ _ _ _ _ _ (c .before .before .before .before .before .before .before .before .before .before .before .loop .inv) _ _ _ t _ _ (c .before .before .before .before .before .before .select .ensures) (c .before .before .before .before .before .select2 .ensures) _ h
+
+enum-told-3 : tie.Need-enum-told-3 Inv-loop μ-loop
+enum-told-3 c = search needs
+
+loop-less-2 : tie.Need-loop-less-2 Inv-loop μ-loop
+loop-less-2 c =
+    let t = rw (c .before .before .before .before .before .before .before .before .a .given .1) at (c .before .before .before .before .before .before .before .before .before .before .next-pair .ensures) in
+    t .2
+
+loop-again-2 : tie.Need-loop-again-2 Inv-loop μ-loop
+loop-again-2 c =
+    let t = rw (c .before .before .before .before .before .before .before .before .a .given .1) at (c .before .before .before .before .before .before .before .before .before .before .next-pair .ensures) in
+    let h = rw (c .enum-told3 .given .1) at (c .before .before .lift .ensures .0) in
+    relaxing-rose _ _ _ _ _ _ _ _ _ _ _ (c .before .before .before .before .before .before .before .before .before .before .before .loop .inv) _ _ _ t _ _ (c .before .before .before .before .before .before .select .ensures) (c .before .before .before .before .before .select2 .ensures) _ (c .before .before .before .before .before .before .before .before .before .before .before .before .before .pre .0 .0) h
+
+enum-told-4 : tie.Need-enum-told-4 Inv-loop μ-loop
+enum-told-4 c = search needs
+
+returns-3 : tie.Need-returns-3 Inv-loop μ-loop
+returns-3 c =
+    let t = rw (c .before .before .before .before .before .before .before .before .a .given .1) at (c .before .before .before .before .before .before .before .before .before .before .next-pair .ensures) in
+    let h = rw (c .enum-told4 .given .1) at (c .before .before .lift .ensures .0) in
+    (relaxing-over _ _ _ _ _ _ _ _ _ _ _ (c .before .before .before .before .before .before .before .before .before .before .before .loop .inv) _ _ _ t _ _ (c .before .before .before .before .before .before .select .ensures) (c .before .before .before .before .before .select2 .ensures) _ h, c .before .before .lift .ensures .1)
+
+pub relax-spec : {M : Type 1} → statement M
+relax-spec =
+    tie.close
+    (tie.spec
+    Inv-loop
+    μ-loop
+    loop-holds
+    next-pair-requires
+    enum-told
+    returns
+    returns-2
+    enum-known-a
+    select-requires
+    select-requires-2
+    cast-x
+    mul-x
+    element-copy-out-x
+    lift-requires
+    enum-told-2
+    loop-less
+    loop-again
+    enum-told-3
+    loop-less-2
+    loop-again-2
+    enum-told-4
+    returns-3)

@@ -1,0 +1,21 @@
+-- Refusals 33 and 34 of document 02, Item 1, and the longest chains where neither is given: number 0 stands for none.
+use Prim.Native.Nat.{ℕ, zero, suc, _≤_}
+use mathlib.Core.Path.{_≡_}
+use mathlib.Core.List.{List}
+use mathlib.Core.Logic.{_⊎_}
+use Rattle.lists.specs.Lists.{_!_}
+use Rattle.chains.specs.Paths.{Pair, Precedes, Cycle, Longest, Longer, Back}
+use Rattle.order.specs.Rounds.{weight}
+
+-- neither: `heads` are the longest chains before the jobs, `tails` those after them
+pub record Ordered (ps : List Pair) (n : ℕ) (p : List ℕ) (h : ℕ) (heads tails : List ℕ) : Type 0 where
+  pub acyclic : Cycle (Precedes ps) → ⊥
+  pub short : Longer (Precedes ps) n (weight p) h → ⊥
+  pub before : (j : ℕ) → Longest (Precedes ps) (weight p) j (heads ! j)
+  pub after : (j : ℕ) → Longest (Back (Precedes ps)) (weight p) j (tails ! j)
+  pub low : (j : ℕ) → tails ! j ≤ h
+
+abbrev pub OrderSays : List Pair → ℕ → List ℕ → ℕ → List ℕ → List ℕ → ℕ → Type 0
+OrderSays ps n p h heads tails zero = Ordered ps n p h heads tails
+OrderSays ps n p h heads tails (suc c) =
+    ((suc c ≡ 33) × Cycle (Precedes ps)) ⊎ ((suc c ≡ 34) × (Cycle (Precedes ps) → ⊥) × Longer (Precedes ps) n (weight p) h)

@@ -1,0 +1,3 @@
+pub mod Pairs
+pub mod Rounds
+pub mod Chains

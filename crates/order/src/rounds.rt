@@ -1,0 +1,149 @@
+// Rounds over the pairs of a text until no value changes. After m rounds every chain of m steps is met, so that there are no more rounds than the
+// longest chain has jobs, and one in which nothing changes.
+use crate::Pull;
+use crate::next_pair;
+use rows::Walk;
+ghost use mathlib.Core.Path.{_≡_};
+ghost use Prim.Native.Nat.{ℕ, _≤_, _<_};
+ghost use lib.ListN.{length, replicate};
+ghost use Rattle.lists.specs.Lists.{_!_};
+ghost use mathlib.Core.Bool.{cond};
+ghost use Rattle.joblist.specs.Limits.{mostTime, mostJobs};
+ghost use Rattle.order.specs.Pairs.{comes, first};
+ghost use Rattle.order.specs.Rounds.{RiseSays, RoundSays, SettleSays, ExceedsSays};
+
+// A value stays; it is raised; it would rise above the limit.
+pub enum Rise {
+    Kept,
+    Rose,
+    High,
+}
+
+// A round in which nothing changed; in which something did; which met a chain above the limit.
+pub enum Round {
+    Same,
+    Changed,
+    Over,
+}
+
+// Raises the value at b to the one at a and x, up to `top`.
+fn lift(v: &mut [u32; joblist::MOST], a: u32, b: u32, x: u32, top: u32) -> Rise
+    requires { ⌜ (a < mostJobs) × (b < mostJobs) × (length (now v) ≡ mostJobs) × (now v ! a ≤ mostTime) × (x ≤ mostTime) ⌝ }
+    ensures { λ r. ⌜ RiseSays (now (v .entry)) (now (v .exit)) a b x top r × (length (now (v .exit)) ≡ mostJobs) ⌝ }
+{
+    let i = a as usize;
+    let j = b as usize;
+    let y = v[i] + x;
+    if y <= v[j] {
+        return Rise::Kept;
+    }
+    if top < y {
+        return Rise::High;
+    }
+    v[j] = y;
+    Rise::Rose
+}
+
+fn select(back: bool, a: u32, b: u32) -> u32
+    ensures { λ r. ⌜ r ≡ cond back b a ⌝ }
+{
+    if back {
+        return b;
+    }
+    a
+}
+
+// One round over the pairs. Each turn takes a token.
+fn relax(
+    text: &[u8],
+    n: u32,
+    k: u32,
+    at: usize,
+    p: &[u32; joblist::MOST],
+    back: bool,
+    top: u32,
+    v: &mut [u32; joblist::MOST],
+) -> Round
+    requires { ⌜ (n ≤ mostJobs) × (length (now p) ≡ mostJobs) × (length (now v) ≡ mostJobs) × (top ≤ mostTime) ⌝ }
+    requires { ⌜ ((j : ℕ) → now p ! j ≤ mostTime) × ((j : ℕ) → now v ! j ≤ top) ⌝ }
+    ensures { λ r. ⌜ RoundSays (comes n k (now (text .entry)) (first at)) (now (p .entry)) back top (now (v .entry)) (now (v .exit)) r × (length (now (v .exit)) ≡ mostJobs) ⌝ }
+{
+    let mut w = Walk {
+        next: 0,
+        left: 0,
+        at: at,
+    };
+    let mut changed = false;
+    loop {
+        match next_pair(text, n, k, w) {
+            Pull::NoMore => {
+                if changed {
+                    return Round::Changed;
+                }
+                return Round::Same;
+            }
+            Pull::Next(a, b, u) => {
+                let i = select(back, a, b);
+                let j = select(back, b, a);
+                let x = p[i as usize];
+                match lift(v, i, j, x, top) {
+                    Rise::Kept => {
+                        w = u;
+                    }
+                    Rise::Rose => {
+                        changed = true;
+                        w = u;
+                    }
+                    Rise::High => {
+                        return Round::Over;
+                    }
+                }
+            }
+        }
+    }
+}
+
+// Rounds until nothing changes: true; or until a chain is longer than `top`: false. The sum of the values rises with each round.
+pub fn settle(
+    text: &[u8],
+    n: u32,
+    k: u32,
+    at: usize,
+    p: &[u32; joblist::MOST],
+    back: bool,
+    top: u32,
+    v: &mut [u32; joblist::MOST],
+) -> bool
+    requires { ⌜ (n ≤ mostJobs) × (length (now p) ≡ mostJobs) × (now v ≡ replicate mostJobs 0) × (top ≤ mostTime) ⌝ }
+    requires { ⌜ ((j : ℕ) → now p ! j ≤ mostTime) ⌝ }
+    ensures { λ r. ⌜ SettleSays (comes n k (now (text .entry)) (first at)) n (now (p .entry)) back top (now (v .exit)) r × (length (now (v .exit)) ≡ mostJobs) ⌝ }
+{
+    loop {
+        match relax(text, n, k, at, p, back, top, v) {
+            Round::Same => {
+                return true;
+            }
+            Round::Over => {
+                return false;
+            }
+            Round::Changed => {}
+        }
+    }
+}
+
+// Whether some value and its job's duration are above h together.
+pub fn exceeds(v: &[u32; joblist::MOST], p: &[u32; joblist::MOST], n: u32, h: u32) -> bool
+    requires { ⌜ (n ≤ mostJobs) × (length (now v) ≡ mostJobs) × (length (now p) ≡ mostJobs) ⌝ }
+    requires { ⌜ ((j : ℕ) → now v ! j ≤ mostTime) × ((j : ℕ) → now p ! j ≤ mostTime) ⌝ }
+    ensures { λ r. ⌜ ExceedsSays (now (v .entry)) (now (p .entry)) n h r ⌝ }
+{
+    let m = n as usize;
+    let mut j: usize = 0;
+    while j < m {
+        if h < v[j] + p[j] {
+            return true;
+        }
+        j += 1;
+    }
+    false
+}
