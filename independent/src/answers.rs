@@ -1,5 +1,5 @@
 //! The answers of all calls, and the word and numbers each is written with
-//! (01, "Answer table" and "Runs on the record").
+//! (01, "Answer table" and "Runs on the record"; 02, Item 1).
 
 use crate::text::Line;
 
@@ -18,6 +18,8 @@ pub enum Answer {
     None,
     /// The pair a and b.
     Overload(i64, i64),
+    /// The capacity, and the number of pairs.
+    Read(u32, usize),
 }
 
 impl Answer {
@@ -30,6 +32,7 @@ impl Answer {
             Answer::Rejected(place, code) => line.word("rejected").word(place).word(code),
             Answer::None => line.word("none"),
             Answer::Overload(a, b) => line.word("overload").word(a).word(b),
+            Answer::Read(cap, pairs) => line.word("read").word(cap).word(pairs),
         }
     }
 }

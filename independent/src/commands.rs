@@ -1,7 +1,7 @@
 //! What the program does for each of its commands.
 
 use crate::lines::Call;
-use crate::{calls, cases, instances, layouts, lines, make};
+use crate::{calls, cases, instances, layouts, lines, make, texts};
 use std::io::{self, BufWriter, Write};
 use std::path::Path;
 use std::str::FromStr;
@@ -14,7 +14,8 @@ pub const USAGE: &str = "usage:
   independent jobshop FILE HORIZON             calls for the machines of a job-shop
   independent chain FILE                       the longest chain of either kind of file
   independent make SEED JOBS LAYOUT            an instance of 30, 60, 90 or 120 jobs as rcp or sm
-  independent instance-calls DIR               calls for the files of a folder and made instances";
+  independent instance-calls DIR               calls for the files of a folder and made instances
+  independent text-calls DIR SEED COUNT        calls of the Patterson reader, COUNT of them drawn";
 
 fn number<T: FromStr>(word: &str) -> Result<T, String> {
     word.parse().map_err(|_| format!("not a number: {word:?}"))
@@ -37,10 +38,13 @@ impl Output {
         self.write(b"\n")
     }
 
+    fn lines(&mut self, lines: impl IntoIterator<Item = impl AsRef<[u8]>>) -> Result<(), String> {
+        let mut lines = lines.into_iter();
+        lines.try_for_each(|line| self.line(line.as_ref()))
+    }
+
     fn calls(&mut self, calls: Vec<Call>) -> Result<(), String> {
-        calls
-            .iter()
-            .try_for_each(|call| self.line(call.line().as_bytes()))
+        self.lines(calls.iter().map(Call::line))
     }
 }
 
@@ -50,14 +54,8 @@ pub fn run(words: &[&str]) -> Result<(), String> {
         ["answer"] => {
             lines::answer_all(io::stdin().lock(), &mut output.0).map_err(|why| why.to_string())?;
         }
-        ["cases"] => {
-            let mut lines = cases::lines().into_iter();
-            lines.try_for_each(|line| output.line(line.as_bytes()))?;
-        }
-        ["calls", seed, count] => {
-            let mut lines = calls::lines(number(seed)?, number(count)?);
-            lines.try_for_each(|line| output.line(&line))?;
-        }
+        ["cases"] => output.lines(cases::lines())?,
+        ["calls", seed, count] => output.lines(calls::lines(number(seed)?, number(count)?))?,
         ["instance", file, resource, horizon] => {
             let project = layouts::instance(&text_of(file)?)?;
             let (resource, horizon) = (number(resource)?, number(horizon)?);
@@ -76,6 +74,11 @@ pub fn run(words: &[&str]) -> Result<(), String> {
         }
         ["instance-calls", dir] => {
             instances::folder_calls(Path::new(dir), |calls| output.calls(calls))?;
+        }
+        ["text-calls", dir, seed, count] => {
+            let published = text_of(&format!("{dir}/{}", texts::PUBLISHED))?;
+            let (seed, count) = (number(seed)?, number(count)?);
+            output.lines(texts::lines(published.as_bytes(), seed, count)?)?;
         }
         _ => return Err(USAGE.to_string()),
     }

@@ -4,14 +4,18 @@
 use crate::answers::Answer;
 use crate::joblist::{Supply, Times};
 use crate::overload::overload;
+use crate::reading::{self, Lent, Request};
 use crate::record::shown;
 use crate::replay::check;
 use crate::text::Line;
 use crate::timetable::narrow;
+use crate::words::Words;
 use std::io::{BufRead, Write};
 
 pub const LONGEST_JOB_LIST: usize = 1_200;
 pub const LONGEST_LOG: usize = 131_072;
+pub const LONGEST_PAIR_LIST: usize = 70_000;
+pub const LONGEST_TEXT: usize = 524_288;
 
 #[derive(Clone, Debug, PartialEq, Eq)]
 pub enum Call {
@@ -19,43 +23,10 @@ pub enum Call {
     Check(Times, Supply, u64, Vec<u32>),
     Record(u64, Vec<u32>),
     Overload(Times),
+    Patterson(Request, Lent),
 }
-
-/// The value of a word of decimal digits, if it is at most `most`.
-fn number(word: &[u8], most: u64) -> Option<u64> {
-    let mut value: u128 = 0;
-    for byte in word {
-        if !byte.is_ascii_digit() {
-            return None;
-        }
-        value = value * 10 + u128::from(byte - b'0');
-        if value > u128::from(most) {
-            return None;
-        }
-    }
-    if word.is_empty() {
-        return None;
-    }
-    u64::try_from(value).ok()
-}
-
-struct Words<'a, I: Iterator<Item = &'a [u8]>>(I);
 
 impl<'a, I: Iterator<Item = &'a [u8]>> Words<'a, I> {
-    fn long(&mut self) -> Option<u64> {
-        number(self.0.next()?, u64::MAX)
-    }
-
-    fn short(&mut self) -> Option<u32> {
-        let value = number(self.0.next()?, u64::from(u32::MAX))?;
-        u32::try_from(value).ok()
-    }
-
-    fn list(&mut self, longest: usize) -> Option<Vec<u32>> {
-        let length = number(self.0.next()?, longest as u64)?;
-        (0..length).map(|_| self.short()).collect()
-    }
-
     fn log(&mut self) -> Option<Vec<u32>> {
         self.list(LONGEST_LOG)
     }
@@ -74,8 +45,31 @@ impl<'a, I: Iterator<Item = &'a [u8]>> Words<'a, I> {
         Some((times, Supply { cap, dem }))
     }
 
+    fn lent(&mut self) -> Option<Lent> {
+        Some(Lent {
+            est: self.list(LONGEST_JOB_LIST)?,
+            lct: self.list(LONGEST_JOB_LIST)?,
+            dur: self.list(LONGEST_JOB_LIST)?,
+            dem: self.list(LONGEST_JOB_LIST)?,
+            jobs: self.list(LONGEST_PAIR_LIST)?,
+            successors: self.list(LONGEST_PAIR_LIST)?,
+        })
+    }
+
+    fn patterson(&mut self) -> Option<Call> {
+        let (resource, horizon) = (self.short()?, self.short()?);
+        let lent = self.lent()?;
+        let text = self.bytes(LONGEST_TEXT)?;
+        let request = Request {
+            resource,
+            horizon,
+            text,
+        };
+        Some(Call::Patterson(request, lent))
+    }
+
     fn call(&mut self) -> Option<Call> {
-        match self.0.next()? {
+        match self.word()? {
             b"narrow" => {
                 let cap = self.short()?;
                 let (times, supply) = self.jobs(cap)?;
@@ -89,6 +83,7 @@ impl<'a, I: Iterator<Item = &'a [u8]>> Words<'a, I> {
             }
             b"record" => Some(Call::Record(self.long()?, self.log()?)),
             b"overload" => Some(Call::Overload(self.times()?)),
+            b"patterson" => self.patterson(),
             _ => None,
         }
     }
@@ -98,7 +93,7 @@ impl<'a, I: Iterator<Item = &'a [u8]>> Words<'a, I> {
 pub fn read(line: &[u8]) -> Option<Call> {
     let mut words = Words(line.split(|&byte| byte == b' '));
     let call = words.call()?;
-    match words.0.next() {
+    match words.word() {
         Some(_) => None,
         None => Some(call),
     }
@@ -106,6 +101,12 @@ pub fn read(line: &[u8]) -> Option<Call> {
 
 fn with_times(line: Line, times: &Times) -> Line {
     line.list(&times.est).list(&times.lct).list(&times.dur)
+}
+
+fn with_lent(line: Line, lent: &Lent) -> Line {
+    lent.lists()
+        .into_iter()
+        .fold(line, |line, list| line.list(list))
 }
 
 fn with_windows(line: Line, times: &Times) -> Line {
@@ -127,6 +128,10 @@ impl Call {
             }
             Call::Record(k, log) => line.word("record").word(k).list(log),
             Call::Overload(times) => with_times(line.word("overload"), times),
+            Call::Patterson(request, lent) => {
+                let line = line.word("patterson").word(request.resource);
+                with_lent(line.word(request.horizon), lent).list(&request.text)
+            }
         };
         line.text()
     }
@@ -145,6 +150,10 @@ impl Call {
             }
             Call::Record(k, log) => Line::default().word("record").list(shown(k, &log)),
             Call::Overload(times) => said(overload(&times)),
+            Call::Patterson(request, mut lent) => {
+                let answer = reading::read(&request, &mut lent);
+                with_lent(said(answer), &lent)
+            }
         }
     }
 }

@@ -11,12 +11,16 @@ mod layouts;
 mod lines;
 mod make;
 mod overload;
+mod patterson;
 mod project;
 mod random;
+mod reading;
 mod record;
 mod replay;
 mod text;
+mod texts;
 mod timetable;
+mod words;
 mod written;
 
 #[cfg(test)]

@@ -19,6 +19,11 @@ pub struct ProjectJob {
 }
 
 impl Project {
+    /// The number of pairs of a job and a successor.
+    pub fn pairs(&self) -> usize {
+        self.jobs.iter().map(|job| job.successors.len()).sum()
+    }
+
     /// The longest chains before (`forward`) or after each job, the job itself
     /// not counted.
     fn chains(&self, forward: bool) -> Result<Vec<u64>, String> {

@@ -15,11 +15,11 @@ impl Line {
         self
     }
 
-    pub fn numbers(self, numbers: &[u32]) -> Line {
+    pub fn numbers<T: Display>(self, numbers: &[T]) -> Line {
         numbers.iter().fold(self, Line::word)
     }
 
-    pub fn list(self, numbers: &[u32]) -> Line {
+    pub fn list<T: Display>(self, numbers: &[T]) -> Line {
         self.word(numbers.len()).numbers(numbers)
     }
 

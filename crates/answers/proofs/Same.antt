@@ -6,7 +6,8 @@ use Rattle.lists.specs.Lists.{_!_}
 use Rattle.answers.specs.declared.Answer.{Answer}
 use Rattle.answers.specs.declared.CheckAnswer.{CheckAnswer}
 use Rattle.answers.specs.declared.OverloadAnswer.{OverloadAnswer}
-use Rattle.answers.specs.Said.{Word, Said, says, saysCheck, saysOverload}
+use Rattle.answers.specs.declared.ReadAnswer.{ReadAnswer}
+use Rattle.answers.specs.Said.{Word, Said, said, says, saysCheck, saysOverload, saysRead}
 
 -- the words told apart by numbers
 abbrev pub told : Word → ℕ
@@ -17,9 +18,13 @@ told Word.holds = 3
 told Word.rejected = 4
 told Word.none = 5
 told Word.overload = 6
+told Word.read = 7
 
 pub not-said : (v w : Word) → (told v ≡ told w → ⊥) → v ≡ w → ⊥
 not-said v w f e = f (ap (λ (x : Word). told x) e)
+
+pub said-apart : {A : Type 0} (v w : Word) (ns ms : List ℕ) → (told v ≡ told w → ⊥) → said v ns ≡ said w ms → A
+said-apart v w ns ms f e = absurd (not-said v w f (ap (λ (x : Said). x .word) e))
 
 -- what can be read back is the same where what is said is
 read-back : {A : Type 0} (say : A → Said) (heard : Said → A) → ((a : A) → heard (say a) ≡ a) → (a b : A) → say a ≡ say b → a ≡ b
@@ -33,6 +38,7 @@ heardOf Word.holds ns = Answer.Refused 0
 heardOf Word.rejected ns = Answer.Refused 0
 heardOf Word.none ns = Answer.Refused 0
 heardOf Word.overload ns = Answer.Refused 0
+heardOf Word.read ns = Answer.Refused 0
 
 heard-says : (a : Answer) → heardOf (says a .word) (says a .numbers) ≡ a
 heard-says (Answer.Settled n) = refl
@@ -50,6 +56,7 @@ heardCheck Word.refused ns = CheckAnswer.Refused (ns ! 0)
 heardCheck Word.settled ns = CheckAnswer.Refused 0
 heardCheck Word.none ns = CheckAnswer.Refused 0
 heardCheck Word.overload ns = CheckAnswer.Refused 0
+heardCheck Word.read ns = CheckAnswer.Refused 0
 
 heard-check : (a : CheckAnswer) → heardCheck (saysCheck a .word) (saysCheck a .numbers) ≡ a
 heard-check (CheckAnswer.Holds n) = refl
@@ -68,6 +75,7 @@ heardOverload Word.settled ns = OverloadAnswer.None
 heardOverload Word.clash ns = OverloadAnswer.None
 heardOverload Word.holds ns = OverloadAnswer.None
 heardOverload Word.rejected ns = OverloadAnswer.None
+heardOverload Word.read ns = OverloadAnswer.None
 
 heard-overload : (a : OverloadAnswer) → heardOverload (saysOverload a .word) (saysOverload a .numbers) ≡ a
 heard-overload OverloadAnswer.None = refl
@@ -76,3 +84,20 @@ heard-overload (OverloadAnswer.Refused k) = refl
 
 pub overload-same : (a b : OverloadAnswer) → saysOverload a ≡ saysOverload b → a ≡ b
 overload-same = read-back saysOverload (λ s. heardOverload (s .word) (s .numbers)) heard-overload
+
+abbrev heardRead : Word → List ℕ → ReadAnswer
+heardRead Word.read ns = ReadAnswer.Read (ns ! 0) (ns ! 1)
+heardRead Word.refused ns = ReadAnswer.Refused (ns ! 0)
+heardRead Word.settled ns = ReadAnswer.Refused 0
+heardRead Word.clash ns = ReadAnswer.Refused 0
+heardRead Word.holds ns = ReadAnswer.Refused 0
+heardRead Word.rejected ns = ReadAnswer.Refused 0
+heardRead Word.none ns = ReadAnswer.Refused 0
+heardRead Word.overload ns = ReadAnswer.Refused 0
+
+heard-read : (a : ReadAnswer) → heardRead (saysRead a .word) (saysRead a .numbers) ≡ a
+heard-read (ReadAnswer.Read cap pairs) = refl
+heard-read (ReadAnswer.Refused k) = refl
+
+pub read-same : (a b : ReadAnswer) → saysRead a ≡ saysRead b → a ≡ b
+read-same = read-back saysRead (λ s. heardRead (s .word) (s .numbers)) heard-read

@@ -1,9 +1,10 @@
--- What each answer says in the paper's words: document 01's answer words and the numbers behind them, one type for all calls.
+-- What each answer says in the paper's words: the answer words of documents 01 and 02 and the numbers behind them, one type for all calls.
 use Prim.Native.Nat.{ℕ}
 use mathlib.Core.List.{List, [], _∷_}
 use Rattle.answers.specs.declared.Answer.{Answer}
 use Rattle.answers.specs.declared.CheckAnswer.{CheckAnswer}
 use Rattle.answers.specs.declared.OverloadAnswer.{OverloadAnswer}
+use Rattle.answers.specs.declared.ReadAnswer.{ReadAnswer}
 
 -- the answer words
 pub data Word : Type 0 where
@@ -14,6 +15,7 @@ pub data Word : Type 0 where
   rejected : Word
   none : Word
   overload : Word
+  read : Word
 
 -- an answer: its word and its numbers
 pub record Said : Type 0 where
@@ -41,3 +43,8 @@ abbrev pub saysOverload : OverloadAnswer → Said
 saysOverload OverloadAnswer.None = said Word.none []
 saysOverload (OverloadAnswer.Overload a b) = said Word.overload (a ∷ b ∷ [])
 saysOverload (OverloadAnswer.Refused k) = said Word.refused (k ∷ [])
+
+-- a reader's answers
+abbrev pub saysRead : ReadAnswer → Said
+saysRead (ReadAnswer.Read cap pairs) = said Word.read (cap ∷ pairs ∷ [])
+saysRead (ReadAnswer.Refused k) = said Word.refused (k ∷ [])

@@ -21,3 +21,9 @@ pub enum OverloadAnswer {
     Overload(u32, u32),
     Refused(u32),
 }
+
+// The readers of project texts: the capacity and the pair count; the refusal's number.
+pub enum ReadAnswer {
+    Read(u32, usize),
+    Refused(u32),
+}

@@ -7,3 +7,6 @@ pub use Rattle.journal.specs.Journal.{recordAt}
 pub use Rattle.replay.specs.Replay.{Checked, finds}
 pub use Rattle.replay.specs.Promise.{Checks}
 pub use Rattle.readhead.specs.Promise.{Overloads}
+pub use Rattle.rows.specs.Patterson.{patterson}
+pub use Rattle.layouts.specs.Table.{Lent, Answered}
+pub use Rattle.layouts.specs.Promise.{Respects, Reads}

@@ -4,6 +4,7 @@ use crate::text;
 use answers::Answer;
 use answers::CheckAnswer;
 use answers::OverloadAnswer;
+use answers::ReadAnswer;
 ghost use Prim.Native.Nat.{_<_};
 ghost use lib.ListN.{length};
 
@@ -68,5 +69,15 @@ pub fn overloading(sink: &mut [u8], at: usize, a: OverloadAnswer) -> usize
         OverloadAnswer::None => text(sink, at, b"none"),
         OverloadAnswer::Overload(a, b) => two(sink, at, b"overload", a as u64, b as u64),
         OverloadAnswer::Refused(number) => refused(sink, at, number),
+    }
+}
+
+pub fn reading(sink: &mut [u8], at: usize, a: ReadAnswer) -> usize
+    requires { ⌜ at < length (now sink) ⌝ }
+    ensures { λ r. ⌜ r < length (now (sink .entry)) ⌝ }
+{
+    match a {
+        ReadAnswer::Read(capacity, pairs) => two(sink, at, b"read", capacity as u64, pairs as u64),
+        ReadAnswer::Refused(number) => refused(sink, at, number),
     }
 }

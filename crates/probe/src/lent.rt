@@ -1,10 +1,10 @@
 // The numbers and lists of a call, read from its line.
 use crate::input::Cursor;
 use crate::input::LONG;
-use crate::input::SHORT;
-use crate::input::list;
-use crate::input::number;
-ghost use Rattle.probe.specs.Read.{TimesIn, JobsIn};
+use crate::words::SHORT;
+use crate::words::list;
+use crate::words::number;
+ghost use Rattle.probe.specs.Read.{TimesIn, JobsIn, LoggedIn};
 
 // What is asked of a job list: narrowing, or a check of so many records.
 pub enum Asked {
@@ -12,7 +12,7 @@ pub enum Asked {
     Check(usize),
 }
 
-// The numbers before the lists.
+// The numbers before its lists.
 pub struct Head {
     pub cap: u32,
     pub asked: Asked,
@@ -50,12 +50,18 @@ pub struct Times {
     pub cursor: Cursor,
 }
 
-// and those of narrowing and the checker.
+// those of a job list,
 pub struct Jobs {
     pub est: usize,
     pub lct: usize,
     pub dur: usize,
     pub dem: usize,
+    pub cursor: Cursor,
+}
+
+// and those of a job list and its log.
+pub struct Logged {
+    pub jobs: Jobs,
     pub log: usize,
     pub cursor: Cursor,
 }
@@ -82,7 +88,7 @@ pub fn read_times(
     }
 }
 
-// est lct dur dem log
+// est lct dur dem
 pub fn read_jobs(
     source: &mut [u8],
     c: Cursor,
@@ -90,19 +96,38 @@ pub fn read_jobs(
     lct: &mut [u32],
     dur: &mut [u32],
     dem: &mut [u32],
-    log: &mut [u32],
 ) -> Jobs
-    ensures { λ r. ⌜ JobsIn r (now (est .exit)) (now (lct .exit)) (now (dur .exit)) (now (dem .exit)) (now (log .exit)) ⌝ }
+    ensures { λ r. ⌜ JobsIn r (now (est .exit)) (now (lct .exit)) (now (dur .exit)) (now (dem .exit)) ⌝ }
 {
     let t = read_times(source, c, est, lct, dur);
     let d = list(source, t.cursor, dem);
-    let g = list(source, d.cursor, log);
-    let cursor = g.cursor;
+    let cursor = d.cursor;
     Jobs {
         est: t.est,
         lct: t.lct,
         dur: t.dur,
         dem: d.value as usize,
+        cursor,
+    }
+}
+
+// est lct dur dem log
+pub fn read_logged(
+    source: &mut [u8],
+    c: Cursor,
+    est: &mut [u32],
+    lct: &mut [u32],
+    dur: &mut [u32],
+    dem: &mut [u32],
+    log: &mut [u32],
+) -> Logged
+    ensures { λ r. ⌜ LoggedIn r (now (est .exit)) (now (lct .exit)) (now (dur .exit)) (now (dem .exit)) (now (log .exit)) ⌝ }
+{
+    let jobs = read_jobs(source, c, est, lct, dur, dem);
+    let g = list(source, jobs.cursor, log);
+    let cursor = g.cursor;
+    Logged {
+        jobs,
         log: g.value as usize,
         cursor,
     }

@@ -4,12 +4,18 @@
 // check CAP COUNT est lct dur dem log
 // record K log
 // overload est lct dur
+// patterson RESOURCE HORIZON est lct dur dem jobs successors text
 //
 // A list is its length and then its numbers. What is written is the answer's word and numbers, then the lent lists as
-// they are afterwards; `unreadable` where the line has any other form.
+// they are afterwards; `unreadable` where the line has any other form. The text is a list of bytes, lent to be read
+// and not written again.
 mod calls;
 mod input;
 mod lent;
+mod logged;
+mod patterson;
+mod project;
+mod words;
 
 use calls::Place;
 use check::same;
@@ -17,8 +23,12 @@ use input::Cursor;
 ghost use Prim.Native.Nat.{_<_};
 ghost use lib.ListN.{length};
 
-// The most words of a log.
+// The most words of a log, the most pairs, and the most bytes of a text.
 const LOG: usize = 131072;
+
+const PAIRS: usize = 70000;
+
+const TEXT: usize = 524288;
 
 // The bytes of one read or write, at most.
 const PART: usize = 65536;
@@ -31,6 +41,7 @@ enum Call {
     Check,
     Record,
     Overload,
+    Patterson,
     Unknown,
 }
 
@@ -47,79 +58,95 @@ fn named(word: &[u8]) -> Call {
     if same(word, b"overload") {
         return Call::Overload;
     }
+    if same(word, b"patterson") {
+        return Call::Patterson;
+    }
     Call::Unknown
 }
 
 // Answers the line that the cursor is at the start of, up to its end or to where it is unreadable.
-fn answer(source: &mut [u8], sink: &mut [u8], place: Place, log: &mut [u32]) -> Place
-    requires { ⌜ place .at < length (now sink) ⌝ }
+fn answer(
+    source: &mut [u8],
+    sink: &mut [u8],
+    c: Cursor,
+    log: &mut [u32],
+    jobs: &mut [u32],
+    successors: &mut [u32],
+    text: &mut [u8],
+) -> Place
+    requires { ⌜ 0 < length (now sink) ⌝ }
     ensures { λ r. ⌜ r .at < length (now (sink .entry)) ⌝ }
 {
     let mut letters = [0u8; LETTERS];
-    let w = input::word(source, place.cursor, &mut letters);
+    let w = words::word(source, c, &mut letters);
     let n = w.value as usize;
     let call = named(&letters[..n]);
     let cursor = w.cursor;
-    let behind = Place {
-        cursor,
-        at: place.at,
-    };
     match call {
-        Call::Narrow => calls::narrow(source, sink, behind, log),
-        Call::Check => calls::check(source, sink, behind, log),
-        Call::Record => calls::record(source, sink, behind, log),
-        Call::Overload => calls::overload(source, sink, behind),
+        Call::Narrow => logged::narrow(source, sink, cursor, log),
+        Call::Check => logged::check(source, sink, cursor, log),
+        Call::Record => calls::record(source, sink, cursor, log),
+        Call::Overload => calls::overload(source, sink, cursor),
+        Call::Patterson => patterson::read(source, sink, cursor, jobs, successors, text),
         Call::Unknown => Place {
             cursor,
-            at: calls::unreadable(sink, behind.at),
+            at: calls::unreadable(sink),
         },
     }
 }
 
-// Writes out what waits where the next byte of the input has to be waited for, so that each answer is seen at once.
-fn sent(sink: &[u8], at: usize, cursor: Cursor) -> usize
-    requires { ⌜ at < length (now sink) ⌝ }
-    ensures { λ r. ⌜ r < length (now (sink .entry)) ⌝ }
+// Answers the line that the cursor is at the start of, and goes to the start of the next. The answer is written out before
+// anything more is read, so that it is seen at once.
+fn line(
+    source: &mut [u8],
+    sink: &mut [u8],
+    c: Cursor,
+    log: &mut [u32],
+    jobs: &mut [u32],
+    successors: &mut [u32],
+    text: &mut [u8],
+) -> Cursor
+    requires { ⌜ 0 < length (now sink) ⌝ }
 {
-    if input::is_used_up(cursor) {
-        lines::flush(sink, at);
-        return 0;
-    }
-    at
-}
-
-// Answers the line that the cursor is at the start of, and goes to the start of the next.
-fn line(source: &mut [u8], sink: &mut [u8], place: Place, log: &mut [u32]) -> Place
-    requires { ⌜ place .at < length (now sink) ⌝ }
-    ensures { λ r. ⌜ r .at < length (now (sink .entry)) ⌝ }
-{
-    let behind = answer(source, sink, place, log);
-    let cursor = behind.cursor;
+    let behind = answer(source, sink, c, log, jobs, successors, text);
     let end = lines::end(sink, behind.at);
-    let at = sent(sink, end, cursor);
-    Place {
-        cursor: input::next_line(source, cursor),
-        at,
-    }
+    lines::flush(sink, end);
+    input::next_line(source, behind.cursor)
 }
 
 // Every line of the input. There are no more lines than bytes: the number of turns is not used up either.
-fn serve(source: &mut [u8], sink: &mut [u8], log: &mut [u32])
+fn serve(
+    source: &mut [u8],
+    sink: &mut [u8],
+    log: &mut [u32],
+    jobs: &mut [u32],
+    successors: &mut [u32],
+    text: &mut [u8],
+)
     requires { ⌜ 0 < length (now sink) ⌝ }
 {
-    let cursor = input::start(source);
-    let mut place = Place { cursor, at: 0 };
+    let mut cursor = input::start(source);
     let mut turns = input::LONG;
-    while 0 < turns && 0 < place.cursor.left {
-        place = line(source, sink, place, log);
+    while 0 < turns && 0 < cursor.left {
+        cursor = line(source, sink, cursor, log, jobs, successors, text);
         turns -= 1;
     }
-    lines::flush(sink, place.at);
 }
 
+// The arrays take 1.7 MB of the stack.
 fn main() {
     let mut source = [0u8; PART];
     let mut sink = [0u8; PART];
     let mut log = [0u32; LOG];
-    serve(&mut source, &mut sink, &mut log);
+    let mut jobs = [0u32; PAIRS];
+    let mut successors = [0u32; PAIRS];
+    let mut text = [0u8; TEXT];
+    serve(
+        &mut source,
+        &mut sink,
+        &mut log,
+        &mut jobs,
+        &mut successors,
+        &mut text,
+    );
 }

@@ -7,7 +7,7 @@ use mathlib.Core.List.{List, [], _∷_}
 use mathlib.Core.Logic.{_⊎_, inl, inr, _↔_}
 use Rattle.answers.specs.declared.OverloadAnswer.{OverloadAnswer}
 use Rattle.answers.specs.Said.{Word, Said, said, saysOverload}
-use Rattle.answers.proofs.Same.{overload-same}
+use Rattle.answers.proofs.Same.{overload-same, said-apart}
 use Rattle.joblist.specs.GoodList.{Given, refusal}
 use Rattle.joblist.specs.Limits.{jobs, threeLists}
 use Rattle.joblist.proofs.Refusals.{refusal-exactly, good, refused-none}
@@ -16,19 +16,6 @@ use Rattle.narrowing.specs.Windows.{Win}
 use Rattle.readhead.specs.Overload.{NoneOverloaded, FirstPair, Found, nothing, overload, foundSaid, Finds}
 use Rattle.readhead.specs.Promise.{Good, refusalOf, tabled, checked, Overloads}
 use Rattle.readhead.proofs.Pairs.{overload-finds, overload-is, none-sets, none-pairs, pair-apart}
-
--- a word that is another one
-abbrev told : Word → ℕ
-told Word.settled = 0
-told Word.clash = 1
-told Word.refused = 2
-told Word.holds = 3
-told Word.rejected = 4
-told Word.none = 5
-told Word.overload = 6
-
-not-said : {A : Type 0} (v w : Word) (ns ms : List ℕ) → (told v ≡ told w → ⊥) → said v ns ≡ said w ms → A
-not-said v w ns ms f e = absurd (f (ap (λ (x : Said). told (x .word)) e))
 
 same-pair : (a b x y : ℕ) → said Word.overload (a ∷ b ∷ []) ≡ said Word.overload (x ∷ y ∷ []) → (a ≡ x) × (b ≡ y)
 same-pair a b x y e = (ap (λ (s : Said). s .numbers ! 0) e, ap (λ (s : Said). s .numbers ! 1) e)
@@ -65,10 +52,10 @@ module _ (W : Win) (p : List ℕ) where
     where
       by : (x : Found) → Finds (jobs W) p W x → said Word.none [] ≡ foundSaid x → NoneOverloaded (jobs W) p W
       by nothing f q = none-sets (jobs W) p W f
-      by (Found.pair a b) f q = not-said Word.none Word.overload [] (a ∷ b ∷ []) (λ z. omega arith) q
+      by (Found.pair a b) f q = said-apart Word.none Word.overload [] (a ∷ b ∷ []) (λ z. omega arith) q
 
       go : Case (checked W p) → Good W p × NoneOverloaded (jobs W) p W
-      go (inl (k, d, q)) = not-said Word.none Word.refused [] (suc k ∷ []) (λ z. omega arith) (sym e ∙ q)
+      go (inl (k, d, q)) = said-apart Word.none Word.refused [] (suc k ∷ []) (λ z. omega arith) (sym e ∙ q)
       go (inr (g, (x, f, q))) = (g, by x f (sym e ∙ q))
 
   row-none : Good W p × NoneOverloaded (jobs W) p W → checked W p ≡ said Word.none []
@@ -78,11 +65,11 @@ module _ (W : Win) (p : List ℕ) where
   pair-row x y e = go case-of
     where
       by : (z : Found) → Finds (jobs W) p W z → said Word.overload (x ∷ y ∷ []) ≡ foundSaid z → FirstPair (jobs W) p W x y
-      by nothing f q = not-said Word.overload Word.none (x ∷ y ∷ []) [] (λ z. omega arith) q
+      by nothing f q = said-apart Word.overload Word.none (x ∷ y ∷ []) [] (λ z. omega arith) q
       by (Found.pair a b) f q = let s = same-pair x y a b q in rw (s .0, s .1) f
 
       go : Case (checked W p) → Good W p × FirstPair (jobs W) p W x y
-      go (inl (k, d, q)) = not-said Word.overload Word.refused (x ∷ y ∷ []) (suc k ∷ []) (λ z. omega arith) (sym e ∙ q)
+      go (inl (k, d, q)) = said-apart Word.overload Word.refused (x ∷ y ∷ []) (suc k ∷ []) (λ z. omega arith) (sym e ∙ q)
       go (inr (g, (z, f, q))) = (g, by z f (sym e ∙ q))
 
   row-pair : (x y : ℕ) → Good W p × FirstPair (jobs W) p W x y → checked W p ≡ said Word.overload (x ∷ y ∷ [])
@@ -117,8 +104,8 @@ module _ (W : Win) (p : List ℕ) where
         to e (inl (i, d, q)) =
             let z : k ≡ suc i = ap (λ (s : Said). s .numbers ! 0) (sym e ∙ h .answered ∙ q) in
             (omega arith, refusal-exactly W p (threeLists W p) [] k .0 (d ∙ sym z))
-        to e (inr (g, (nothing, f, q))) = not-said Word.refused Word.none (k ∷ []) [] (λ z. omega arith) (sym e ∙ h .answered ∙ q)
-        to e (inr (g, (Found.pair x y, f, q))) = not-said Word.refused Word.overload (k ∷ []) (x ∷ y ∷ []) (λ z. omega arith) (sym e ∙ h .answered ∙ q)
+        to e (inr (g, (nothing, f, q))) = said-apart Word.refused Word.none (k ∷ []) [] (λ z. omega arith) (sym e ∙ h .answered ∙ q)
+        to e (inr (g, (Found.pair x y, f, q))) = said-apart Word.refused Word.overload (k ∷ []) (x ∷ y ∷ []) (λ z. omega arith) (sym e ∙ h .answered ∙ q)
 
         from : (1 ≤ k) × Given k W p (threeLists W p) [] → a ≡ said Word.refused (k ∷ [])
         from (b, t) = h .answered ∙ by case-of

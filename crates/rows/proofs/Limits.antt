@@ -1,16 +1,17 @@
 -- What a text that was read says is within the limits; and the refusals that a text itself can meet are 30, 31 and 32.
-use Prim.Native.Nat.{ℕ, zero, suc, _≤_}
+use Prim.Native.Nat.{ℕ, zero, suc, _+_, _≤_, _<_}
 use native.Mathlib.Omega.{arith}
 use mathlib.Core.Path.{_≡_, refl, sym, subst}
-use mathlib.Core.List.{List, [], _∷_}
-use mathlib.Core.Logic.{inl}
+use mathlib.Core.List.{List, [], _∷_, _++_}
+use mathlib.Core.Logic.{inl, inr}
 use lib.ListN.{length}
 use Rattle.lists.specs.Lists.{_!_, Every}
 use Rattle.joblist.specs.Limits.{mostTime, mostDemand, mostJobs}
+use Rattle.chains.specs.Paths.{Pair, Precedes, Below}
 use Rattle.texts.specs.Tokens.{Token, tokens}
 use Rattle.texts.specs.Readings.{bad, good, andThen, one, times, many, nothingMore}
 use Rattle.texts.proofs.Readings.{not-both, good-same, then-good, one-takes, one-codes, many-takes, many-codes, times-takes, times-codes, every-at}
-use Rattle.rows.specs.Projects.{mostResources, Row, Project, durations, demandsOn}
+use Rattle.rows.specs.Projects.{mostResources, Row, Project, tagged, pairsFrom, pairsOf, durations, demandsOn}
 use Rattle.rows.specs.Patterson.{row, Opening, opening, project, patterson}
 use Rattle.rows.proofs.Takes.{OfText, low-code, then-codes, row-codes, Limited, row-takes}
 
@@ -20,16 +21,28 @@ pub record Within (x : Project) : Type 0 where
   pub capacities : (k : ℕ) → x .capacities ! k ≤ mostDemand
   pub durations : (j : ℕ) → durations (x .rows) ! j ≤ mostTime
   pub demands : (resource j : ℕ) → demandsOn resource (x .rows) ! j ≤ mostDemand
+  pub range : Below (length (x .rows)) (Precedes (pairsOf x))
 
-durations-limited : (rs : List Row) → Every Limited rs → (j : ℕ) → durations rs ! j ≤ mostTime
-durations-limited [] h j = omega arith
-durations-limited (r ∷ rs) h zero = h .0 .duration
-durations-limited (r ∷ rs) h (suc j) = durations-limited rs (h .1) j
+durations-limited : (n : ℕ) (rs : List Row) → Every (Limited n) rs → (j : ℕ) → durations rs ! j ≤ mostTime
+durations-limited n [] h j = omega arith
+durations-limited n (r ∷ rs) h zero = h .0 .duration
+durations-limited n (r ∷ rs) h (suc j) = durations-limited n rs (h .1) j
 
-demands-limited : (resource : ℕ) (rs : List Row) → Every Limited rs → (j : ℕ) → demandsOn resource rs ! j ≤ mostDemand
-demands-limited resource [] h j = omega arith
-demands-limited resource (r ∷ rs) h zero = every-at mostDemand (r .demands) (h .0 .demands) resource
-demands-limited resource (r ∷ rs) h (suc j) = demands-limited resource rs (h .1) j
+demands-limited : (n resource : ℕ) (rs : List Row) → Every (Limited n) rs → (j : ℕ) → demandsOn resource rs ! j ≤ mostDemand
+demands-limited n resource [] h j = omega arith
+demands-limited n resource (r ∷ rs) h zero = every-at mostDemand (r .demands) (h .0 .demands) resource
+demands-limited n resource (r ∷ rs) h (suc j) = demands-limited n resource rs (h .1) j
+
+-- the pairs of rows numbered from j on: jobs among them, successors among the n jobs
+tagged-range : (n j : ℕ) (ss : List ℕ) (ps : List Pair) → Every (λ v. v < n) ss → j < n → Below n (Precedes ps) → Below n (Precedes (tagged j ss ++ ps))
+tagged-range n j [] ps h b f a c r = f a c r
+tagged-range n j (s ∷ ss) ps h b f a c (inl e) = (rw (← e .0) b, rw (← e .1) (h .0))
+tagged-range n j (s ∷ ss) ps h b f a c (inr r) = tagged-range n j ss ps (h .1) b f a c r
+
+pairs-range : (n j : ℕ) (rs : List Row) → Every (Limited n) rs → j + length rs ≤ n → Below n (Precedes (pairsFrom j rs))
+unfolding pairsFrom
+pairs-range n j [] h b = λ a c r. absurd r
+pairs-range n j (r ∷ rs) h b = tagged-range n j (r .successors) (pairsFrom (suc j) rs) (h .0 .successors) (omega arith) (pairs-range n (suc j) rs (h .1) (omega arith))
 
 -- what is known of the counts and the capacities that were read
 pub record Opens (o : Opening) : Type 0 where
@@ -69,14 +82,15 @@ project-takes ts rest x e =
     let s = then-good (opening ts) (λ o u. andThen (times (row (o .jobs) (o .resources)) 0 (o .jobs) u) (λ rs v. nothingMore (made o rs) v)) x rest e in
     let t = then-good (times (row (s .0 .jobs) (s .0 .resources)) 0 (s .0 .jobs) (s .1)) (λ rs v. nothingMore (made (s .0) rs) v) x rest (s .3) in
     let o = opening-takes ts (s .1) (s .0) (s .2) in
-    let q = times-takes (row (s .0 .jobs) (s .0 .resources)) Limited (λ j u v r p. row-takes (s .0 .jobs) (s .0 .resources) j u v r p) 0 (s .0 .jobs) (s .1) (t .1) (t .0) (t .2) in
+    let q = times-takes (row (s .0 .jobs) (s .0 .resources)) (Limited (s .0 .jobs)) (λ j u v r p. row-takes (s .0 .jobs) (s .0 .resources) j u v r p) 0 (s .0 .jobs) (s .1) (t .1) (t .0) (t .2) in
     let y = over-good (made (s .0) (t .0)) x (t .1) rest (t .3) in
     record {
       within = subst Within (y .0) (record {
         few = omega (arith, q .0, o .few);
         capacities = o .capacities;
-        durations = durations-limited (t .0) (q .1);
-        demands = λ resource. demands-limited resource (t .0) (q .1);
+        durations = durations-limited (s .0 .jobs) (t .0) (q .1);
+        demands = λ resource. demands-limited (s .0 .jobs) resource (t .0) (q .1);
+        range = rw (q .0) (pairs-range (s .0 .jobs) 0 (t .0) (q .1) (omega (arith, q .0)));
       });
       over = y .1;
     }

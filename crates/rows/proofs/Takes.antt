@@ -93,12 +93,13 @@ row-codes n k j c ts =
     then-codes (head n k ts) _ c (head-codes n k c ts) (λ h u p.
     then-codes (times (λ i. link n) 0 (h .count) u) _ c (times-codes (λ i. link n) OfText (λ i d v q. high-code (link-codes n d v q)) 0 (h .count) c u) (λ ss w p' q. not-both _ c _ w q refl))
 
--- a row whose numbers are within their limits
-pub record Limited (r : Row) : Type 0 where
+-- a row whose numbers are within their limits, for n jobs
+pub record Limited (n : ℕ) (r : Row) : Type 0 where
   pub duration : r .duration ≤ mostTime
   pub demands : Every (λ x. x ≤ mostDemand) (r .demands)
+  pub successors : Every (λ v. v < n) (r .successors)
 
-pub row-takes : (n k j : ℕ) (ts rest : List Token) (r : Row) → row n k j ts ≡ good r rest → Limited r × (length rest ≤ length ts)
+pub row-takes : (n k j : ℕ) (ts rest : List Token) (r : Row) → row n k j ts ≡ good r rest → Limited n r × (length rest ≤ length ts)
 unfolding row
 row-takes n k j ts rest r e =
     let s = then-good (head n k ts) (λ h u. andThen (times (λ i. link n) 0 (h .count) u) (λ ss v. good (made h ss) v)) r rest e in
@@ -106,7 +107,7 @@ row-takes n k j ts rest r e =
     let o = good-same (made (s .0) (t .0)) r (t .1) rest (t .3) in
     let h = head-takes n k ts (s .1) (s .0) (s .2) in
     let q = times-takes (λ i. link n) (λ v. v < n) (λ i u w a p. let y = link-takes n a u w p in (y .1, omega (arith, y .0))) 0 (s .0 .count) (s .1) (t .1) (t .0) (t .2) in
-    (subst Limited (o .0) (record { duration = h .duration; demands = h .demands }), omega (arith, h .fewer, q .2, ap length (o .1)))
+    (subst (Limited n) (o .0) (record { duration = h .duration; demands = h .demands; successors = q .1 }), omega (arith, h .fewer, q .2, ap length (o .1)))
   where
     made : Head → List ℕ → Row
     made h ss = record { duration = h .duration; demands = h .demands; successors = ss }

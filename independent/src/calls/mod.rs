@@ -5,7 +5,7 @@ mod checking;
 mod faults;
 mod lists;
 mod narrowing;
-mod odd;
+pub mod odd;
 mod others;
 mod shapes;
 

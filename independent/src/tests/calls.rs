@@ -26,6 +26,7 @@ fn kind(line: &[u8]) -> String {
         Some(Call::Check(..)) => format!("check {answered}"),
         Some(Call::Record(..)) => format!("record {answered}"),
         Some(Call::Overload(..)) => format!("overload {answered}"),
+        Some(Call::Patterson(..)) => format!("patterson {answered}"),
         None => answered,
     }
 }

@@ -8,7 +8,7 @@ use crate::make;
 use crate::project::Project;
 use std::path::PathBuf;
 
-fn published(name: &str) -> String {
+pub fn published(name: &str) -> String {
     let folder = concat!(env!("CARGO_MANIFEST_DIR"), "/../instances");
     file_text(&PathBuf::from(folder).join(name)).unwrap()
 }

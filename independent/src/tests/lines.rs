@@ -21,6 +21,30 @@ fn each_call_has_its_line() {
 }
 
 #[test]
+fn the_patterson_call_has_its_line() {
+    let line = "patterson 0 4 1 7 1 7 1 7 1 7 1 8 2 9 9 11 49 32 49 32 53 10 51 32 50 32 48";
+    assert_eq!(said(line), "read 5 0 1 0 1 4 1 3 1 2 1 8 2 9 9");
+    let late = line.replace("patterson 0 4", "patterson 0 2");
+    assert_eq!(said(&late), "refused 34 1 7 1 7 1 7 1 7 1 8 2 9 9");
+    let none = "patterson 4294967295 4294967295 0 0 0 0 0 0 0";
+    assert_eq!(said(none), "refused 31 0 0 0 0 0 0");
+    let odd = "patterson 0 4 0 0 0 0 0 0 2 0 255";
+    assert_eq!(said(odd), "refused 30 0 0 0 0 0 0");
+    for line in [
+        "patterson 0 4 0 0 0 0 0 0 2 0 256",
+        "patterson 0 4 0 0 0 0 0 0 2 0",
+        "patterson 0 4 0 0 0 0 0 0 1 0 0",
+        "patterson 0 4 0 0 0 0 0 0",
+        "patterson 0 4294967296 0 0 0 0 0 0 0",
+        "patterson 4294967296 4 0 0 0 0 0 0 0",
+        "patterson 0 4 0 0 0 0 0 1 4294967296 0",
+        "Patterson 0 4 0 0 0 0 0 0 0",
+    ] {
+        assert_eq!(said(line), "unreadable", "{line}");
+    }
+}
+
+#[test]
 fn refusals_and_codes_have_their_lines() {
     assert_eq!(said("narrow 0 1 1 0 0 0 2 7 7"), "refused 1 1 1 0 2 7 7");
     assert_eq!(
@@ -98,12 +122,28 @@ fn lists_may_be_as_long_as_the_line_allows() {
 }
 
 #[test]
+fn pair_lists_and_texts_may_be_as_long_as_the_line_allows() {
+    let zeros = |length: usize| format!(" {length}{}", " 0".repeat(length));
+    let pairs = |from: usize, to: usize| {
+        let lists = format!("patterson 0 0 0 0 0 0{}{} 0", zeros(from), zeros(to));
+        said(&lists).split(' ').next().map(str::to_string)
+    };
+    assert_eq!(pairs(70_000, 70_000).as_deref(), Some("refused"));
+    assert_eq!(pairs(70_001, 0).as_deref(), Some("unreadable"));
+    assert_eq!(pairs(0, 70_001).as_deref(), Some("unreadable"));
+    let text = |length: usize| said(&format!("patterson 0 0 0 0 0 0 0 0{}", zeros(length)));
+    assert_eq!(text(524_288), "refused 30 0 0 0 0 0 0");
+    assert_eq!(text(524_289), "unreadable");
+}
+
+#[test]
 fn a_call_is_read_from_its_own_line() {
     for line in [
         "narrow 1 1 2 2 3 4 3 5 6 7 0 1 9",
         "check 1 2 1 2 2 3 4 3 5 6 7 0 1 9",
         "record 7 2 8 9",
         "overload 1 2 0 3 1 2 3",
+        "patterson 1 2 1 3 0 1 4 2 5 6 1 7 0 3 48 0 255",
     ] {
         assert_eq!(
             read(line.as_bytes()).as_ref().map(Call::line),

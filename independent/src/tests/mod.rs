@@ -1,5 +1,6 @@
 //! Tests: the runs on the record, answers from elsewhere, every refusal and
-//! code by hand, and the definitions against brute force on small lists.
+//! code by hand, and the definitions against brute force on small lists and
+//! networks.
 
 mod calls;
 mod cases;
@@ -10,6 +11,10 @@ mod layouts;
 mod lines;
 mod narrowing;
 mod overload;
+mod paths;
+mod patterson;
+mod reading;
+mod texts;
 
 use crate::answers::Answer;
 use crate::joblist::{lists, Supply, Times};

@@ -1,16 +1,15 @@
--- `probe::input::list` meets its contract and ends. The loop's invariant: both slices are as long as they were.
+-- `probe::words::bytes` meets its contract and ends. The loop's invariant is that of every loop that fills a list.
 -- The measure is the number of entries that are still to come. Assumes nothing.
-use mathlib.Core.Path.{_≡_}
-use Prim.Native.Nat.{_≤_, _-_}
+use Prim.Native.Nat.{_-_}
 use native.Mathlib.Omega.{arith}
-use lib.ListN.{length}
 use borrow.Author.Needs.{needs}
 use Rattle.io.proofs.Counting.{counts}
-use Rattle.probe.proofs.input.list.Statement.{statement}
-use Rattle.probe.proofs.input.list.Tie as tie
+use Rattle.probe.proofs.Filling.{Filling}
+use Rattle.probe.proofs.words.bytes.Statement.{statement}
+use Rattle.probe.proofs.words.bytes.Tie as tie
 
 abbrev Inv-loop : tie.InvT-loop
-Inv-loop source₀ into₀ count n cursor₀ i₀ source into cursor i = (i ≤ n) × (length into ≡ length into₀) × (length source ≡ length source₀)
+Inv-loop source₀ into₀ count n cursor₀ i₀ source into cursor i = Filling i n into₀ into source₀ source
 
 abbrev μ-loop : tie.MeasureT-loop
 μ-loop source₀ into₀ count n cursor₀ i₀ source into cursor i = n - i
@@ -26,9 +25,6 @@ number-requires-2 c κs = search needs
 
 cast-into : tie.Need-cast-into Inv-loop μ-loop
 cast-into c = search needs
-
-mul-into : tie.Need-mul-into Inv-loop μ-loop
-mul-into c = search needs
 
 slice-write-into : tie.Need-slice-write-into Inv-loop μ-loop
 slice-write-into c = search needs
@@ -60,8 +56,8 @@ same-length-4 c = search needs
 returns-2 : tie.Need-returns-2 Inv-loop μ-loop
 returns-2 c = counts _ _ (omega arith)
 
-pub list-spec : {M : Type 1} → statement M
-list-spec =
+pub bytes-spec : {M : Type 1} → statement M
+bytes-spec =
     tie.close
     (tie.spec
     Inv-loop
@@ -70,7 +66,6 @@ list-spec =
     loop-holds
     number-requires-2
     cast-into
-    mul-into
     slice-write-into
     add-i
     loop-less

@@ -1,14 +1,16 @@
-use mathlib.Core.Path.{_≡_}
-use Prim.Native.Nat.{_≤_, _-_}
+-- `probe::words::word` meets its contract and ends. The loop's invariant is that of every loop that fills a list.
+-- The measure is the room that is left. Assumes nothing.
+use Prim.Native.Nat.{_-_}
 use native.Mathlib.Omega.{arith}
 use lib.ListN.{length}
 use borrow.Author.Needs.{needs}
 use Rattle.io.proofs.Counting.{counts}
-use Rattle.probe.proofs.input.word.Statement.{statement}
-use Rattle.probe.proofs.input.word.Tie as tie
+use Rattle.probe.proofs.Filling.{Filling}
+use Rattle.probe.proofs.words.word.Statement.{statement}
+use Rattle.probe.proofs.words.word.Tie as tie
 
 abbrev Inv-loop : tie.InvT-loop
-Inv-loop source₀ into₀ cursor₀ n₀ source into cursor n = (n ≤ length into₀) × (length into ≡ length into₀) × (length source ≡ length source₀)
+Inv-loop source₀ into₀ cursor₀ n₀ source into cursor n = Filling n (length into₀) into₀ into source₀ source
 
 abbrev μ-loop : tie.MeasureT-loop
 μ-loop source₀ into₀ cursor₀ n₀ source into cursor n = length into₀ - n

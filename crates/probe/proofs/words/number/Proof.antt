@@ -1,11 +1,13 @@
+-- `probe::words::number` meets its contract and ends. The loop's invariant: the value is at most `most`, and the source is as long
+-- as it was. The measure is how many bytes may still be stood at. Assumes nothing.
 use borrow.Author.Tests.{ltb-false}
 use mathlib.Core.Path.{_≡_}
 use Prim.Native.Nat.{_≤_}
 use native.Mathlib.Omega.{arith}
 use lib.ListN.{length}
 use borrow.Author.Needs.{needs}
-use Rattle.probe.proofs.input.number.Statement.{statement}
-use Rattle.probe.proofs.input.number.Tie as tie
+use Rattle.probe.proofs.words.number.Statement.{statement}
+use Rattle.probe.proofs.words.number.Tie as tie
 
 abbrev Inv-loop : tie.InvT-loop
 Inv-loop source₀ most cursor₀ value₀ source cursor value = (value ≤ most) × (length source ≡ length source₀)

@@ -1,0 +1,158 @@
+-- From what the parts say to the answer table, for a text of the Patterson layout.
+use Prim.Native.Nat.{ℕ, zero, suc, _≤_, _<_}
+use native.Mathlib.Omega.{arith}
+use mathlib.Core.Path.{_≡_, refl, sym, ap, _∙_, subst}
+use mathlib.Core.List.{List, [], _∷_}
+use mathlib.Core.Logic.{inl, inr}
+use lib.ListN.{length, take}
+use lib.Seq.{getD-take, length-take-le}
+use Rattle.lists.specs.Lists.{_!_}
+use Rattle.answers.specs.Said.{Word, said}
+use Rattle.joblist.specs.Limits.{mostTime, mostJobs}
+use Rattle.chains.specs.Paths.{Longest, Longer, Back}
+use Rattle.chains.proofs.Chains.{chain-map}
+use Rattle.texts.specs.Readings.{Read, bad, good}
+use Rattle.rows.specs.Projects.{Project, pairsOf}
+use Rattle.rows.specs.Patterson.{patterson}
+use Rattle.rows.proofs.Limits.{patterson-codes}
+use Rattle.rows.proofs.Takes.{OfText}
+use Rattle.order.specs.Rounds.{weight}
+use Rattle.order.specs.Chains.{OrderSays}
+use Rattle.order.specs.Pairs.{comes, first}
+use Rattle.layouts.specs.declared.parts.Shape.{Shape}
+use Rattle.layouts.specs.Table.{Lent, Call, After, Order, durationOf, Fits, Met, Refusal, Answered}
+use Rattle.layouts.specs.Parts.{Parsing, Roomy, Lessened, Wrote}
+use Rattle.layouts.proofs.Tests.{none-tested, refusal-of}
+
+-- a call on a text of the Patterson layout
+abbrev pub asked : List ℕ → ℕ → ℕ → Lent → Call
+asked s res h L = record { text = patterson s; resource = res; horizon = h; lent = L }
+
+-- a refusal, every lent word as it was
+abbrev pub refused : Lent → ℕ → After
+refused L k = record { says = said Word.refused (k ∷ []); lent = L }
+
+longest-weights : (R : ℕ → ℕ → Type 0) (w u : ℕ → ℕ) → ((a b : ℕ) → R a b → w a ≡ u a) → {j L : ℕ} → Longest R w j L → Longest R u j L
+longest-weights R w u f l = record {
+  one = chain-map R R w u (λ a b r. (r, f a b r)) (l .one);
+  most = λ M c. l .most M (chain-map R R u w (λ a b r. (r, sym (f a b r))) c);
+}
+
+module _ (s : List ℕ) (res h : ℕ) (L : Lent) where
+  answer : (k : ℕ) → Refusal (asked s res h L) (suc k) → Answered (asked s res h L) (refused L (suc k))
+  answer k t = record { number = suc k; refusal = t; leaves = refl }
+
+  pub far : mostTime < h → Answered (asked s res h L) (refused L 31)
+  far b = answer 30 (inl (b, refl))
+
+  module _ (near : h ≤ mostTime) where
+    pub broken : (d : ℕ) → patterson s ≡ bad d → Answered (asked s res h L) (refused L d)
+    broken zero e = absurd (go 0 refl (patterson-codes s 0 e))
+      where
+        go : (d : ℕ) → d ≡ 0 → OfText d → ⊥
+        go d q (inl t) = omega arith
+        go d q (inr (inl t)) = omega arith
+        go d q (inr (inr t)) = omega arith
+    broken (suc d) e = answer d (inr (near, subst (λ (r : Read Project). Met r res h L (suc d)) (sym e) refl))
+
+    module _ (durs dems : List ℕ) (z : Shape) (x : Project) (e : patterson s ≡ good x []) (p : Parsing s res durs dems z x) where
+      pub no-resource : z .k ≤ res → Answered (asked s res h L) (refused L 37)
+      no-resource b = answer 36 (refusal-of (asked s res h L) x [] e 37 near (inl (omega (arith, p .resources), refl)))
+
+      duration-at : (j : ℕ) → j < z .n → durs ! j ≡ durationOf x j
+      duration-at j b = sym (getD-take (z .n) durs j 0 b) ∙ ap (λ (l : List ℕ). l ! j) (sym (p .durs-are))
+
+      abbrev Room : Type 0
+      Room = Roomy (length (L .est)) (length (L .lct)) (length (L .dur)) (length (L .dem)) (length (L .jobs)) (length (L .successors)) (z .n) (z .pairs)
+
+      fits-of : Room → Fits x L
+      fits-of r = record {
+        est = r .est ∙ sym (p .jobs);
+        lct = r .lct ∙ sym (p .jobs);
+        dur = r .dur ∙ sym (p .jobs);
+        dem = r .dem ∙ sym (p .jobs);
+        jobs = omega (arith, r .jobs, p .count);
+        successors = omega (arith, r .successors, p .count);
+      }
+
+      of-fits : Fits x L → Room
+      of-fits t = record {
+        est = t .est ∙ p .jobs;
+        lct = t .lct ∙ p .jobs;
+        dur = t .dur ∙ p .jobs;
+        dem = t .dem ∙ p .jobs;
+        jobs = omega (arith, t .jobs, p .count);
+        successors = omega (arith, t .successors, p .count);
+      }
+
+      longer-out : Longer (Order x) (z .n) (weight durs) h → Longer (Order x) (length (x .rows)) (durationOf x) h
+      longer-out l = record {
+        last = l .last;
+        job = omega (arith, l .job, p .jobs);
+        before = l .before;
+        chain = chain-map (Order x) (Order x) (weight durs) (durationOf x) (λ a b q. (q, duration-at a (p .range a b q .0))) (l .chain);
+        over = omega (arith, l .over, duration-at (l .last) (l .job));
+      }
+
+      longer-in : Longer (Order x) (length (x .rows)) (durationOf x) h → Longer (Order x) (z .n) (weight durs) h
+      longer-in l =
+          let b : l .last < z .n = omega (arith, l .job, p .jobs) in
+          record {
+            last = l .last;
+            job = b;
+            before = l .before;
+            chain = chain-map (Order x) (Order x) (durationOf x) (weight durs) (λ a b q. (q, sym (duration-at a (p .range a b q .0)))) (l .chain);
+            over = omega (arith, l .over, duration-at (l .last) b);
+          }
+
+      module _ (chosen : res < z .k) where
+        pick : res < length (x .capacities)
+        pick = omega (arith, p .resources)
+
+        pub no-room : (Room → ⊥) → Answered (asked s res h L) (refused L 38)
+        no-room f = answer 37 (refusal-of (asked s res h L) x [] e 38 near (inr (pick, inl ((λ t. f (of-fits t)), refl))))
+
+        module _ (r : Room) (heads tails : List ℕ) where
+          pub no-order : (c : ℕ) → (c ≡ 0 → ⊥) → OrderSays (pairsOf x) (z .n) durs h heads tails c → Answered (asked s res h L) (refused L c)
+          no-order zero f o = absurd (f refl)
+          no-order (suc c) f (inl q) = answer c (refusal-of (asked s res h L) x [] e (suc c) near (inr (pick, inr (fits-of r, inl (q .1, q .0)))))
+          no-order (suc c) f (inr q) = answer c (refusal-of (asked s res h L) x [] e (suc c) near (inr (pick, inr (fits-of r, inr (q .1, inl (longer-out (q .2), q .0))))))
+
+          pub taken : (K : Lent) (c : ℕ) → c ≡ 0 → OrderSays (pairsOf x) (z .n) durs h heads tails c → length heads ≡ mostJobs
+              → K .est ≡ take (length (L .est)) heads
+              → Lessened tails h (L .lct) (K .lct)
+              → K .dur ≡ take (length (L .dur)) durs
+              → K .dem ≡ take (length (L .dem)) dems
+              → Wrote (comes (z .n) (z .k) s (first (z .at))) (L .jobs) (L .successors) (K .jobs) (K .successors)
+              → Answered (asked s res h L) (record { says = said Word.read (z .cap ∷ z .pairs ∷ []); lent = K })
+          taken K c c₀ oc long ke kl kd kq w =
+              let o = rw c₀ at oc in
+              let y = fits-of r in
+              let v = w .are (pairsOf x) [] (p .come) (y .jobs) (y .successors) in
+              let ne : length (L .est) ≡ z .n = r .est in
+              record {
+                number = 0;
+                refusal = refusal-of (asked s res h L) x [] e 0 near (none-tested x res h L (record { chosen = pick; fits = y; acyclic = o .acyclic; short = λ l. o .short (longer-in l) }));
+                leaves = record {
+                  x = x;
+                  rest = [];
+                  text = e;
+                  says = rw (p .cap, p .count);
+                  filled = record {
+                    est-long = ap length ke ∙ length-take-le (length (L .est)) heads (omega (arith, ne, p .few, long)) ∙ y .est;
+                    lct-long = kl .long ∙ y .lct;
+                    est = λ j b.
+                        let at : K .est ! j ≡ heads ! j = ap (λ (l : List ℕ). l ! j) ke ∙ getD-take (length (L .est)) heads j 0 (omega (arith, y .est)) in
+                        rw at (longest-weights (Order x) (weight durs) (durationOf x) (λ a d q. duration-at a (p .range a d q .0)) (o .before j));
+                    lct = λ j b. (
+                      tails ! j,
+                      longest-weights (Back (Order x)) (weight durs) (durationOf x) (λ a d q. duration-at a (p .range d a q .1)) (o .after j),
+                      kl .each j (omega (arith, y .lct)),
+                    );
+                    dur = kd ∙ ap (λ (m : ℕ). take m durs) (r .dur) ∙ sym (p .durs-are);
+                    dem = kq ∙ ap (λ (m : ℕ). take m dems) (r .dem) ∙ sym (p .dems-are);
+                    jobs = v .0;
+                    successors = v .1;
+                  };
+                };
+              }

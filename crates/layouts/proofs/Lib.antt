@@ -1,0 +1,7 @@
+pub mod Parsing
+pub mod Filling
+pub mod Tests
+pub mod Answering
+pub mod Meaning
+pub mod One
+pub mod When

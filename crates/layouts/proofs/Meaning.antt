@@ -1,0 +1,155 @@
+-- From the answer table to the base: the lists that were filled are good lists, and every choice of start times that respects the pairs and the
+-- horizon lies within the windows.
+use Prim.Native.Nat.{ℕ, zero, suc, _+_, _≤_, _<_}
+use native.Mathlib.Omega.{arith}
+use native.Mathlib.Decide.{decLt}
+use mathlib.Core.Path.{_≡_, refl, sym, ap, _∙_, subst}
+use mathlib.Core.List.{List, [], _∷_, _++_, map}
+use mathlib.Core.Logic.{inl, inr}
+use lib.ListN.{length, length-map, List·getD-eq-default}
+use Rattle.lists.specs.Lists.{_!_}
+use Rattle.lists.proofs.Tests.{by-contra}
+use Rattle.answers.specs.Said.{Word, Said}
+use Rattle.answers.proofs.Same.{not-said}
+use Rattle.narrowing.specs.Windows.{Long}
+use Rattle.narrowing.specs.Schedules.{Schedule}
+use Rattle.joblist.specs.Limits.{mostTime, mostDemand, fourLists, supply}
+use Rattle.joblist.specs.GoodList.{GoodList}
+use Rattle.chains.specs.Paths.{Pair, Precedes, Below, Back}
+use Rattle.chains.proofs.Chains.{Stable, stable-most, stable-after, chain-on, chain-starts}
+use Rattle.texts.specs.Tokens.{Token}
+use Rattle.texts.specs.Readings.{good}
+use Rattle.rows.specs.Projects.{Row, Project, pairsOf, durations, demandsOn}
+use Rattle.rows.proofs.Limits.{Within}
+use Rattle.layouts.specs.Table.{Lent, Call, After, Order, durationOf, Filled, Taken, Leaves, Answered, Refusal}
+use Rattle.layouts.specs.Promise.{windows, Respects, Reads}
+use Rattle.layouts.proofs.Tests.{Passed, refusal-none}
+
+beyond : (xs : List ℕ) (k : ℕ) → length xs ≤ k → xs ! k ≡ 0
+beyond xs k h = List·getD-eq-default xs 0 h
+
+-- a number limited below the length is limited everywhere
+everywhere : (xs : List ℕ) (n m : ℕ) → length xs ≡ n → ((j : ℕ) → j < n → xs ! j ≤ m) → (j : ℕ) → xs ! j ≤ m
+everywhere xs n m e f j = elim (decLt j n) [ yes h ↦ f j h | no h ↦ omega (arith, beyond xs j (omega arith)) ]
+
+front-at : (xs ys : List ℕ) (i : ℕ) → i < length xs → (xs ++ ys) ! i ≡ xs ! i
+front-at [] ys i h = absurd (omega arith)
+front-at (x ∷ xs) ys zero h = refl
+front-at (x ∷ xs) ys (suc i) h = front-at xs ys i (omega arith)
+
+-- a pair's place
+pub pair-place : (ps : List Pair) (a b : ℕ) → Precedes ps a b
+    → (i : ℕ) × (i < length ps) × (map (λ (p : Pair). p .job) ps ! i ≡ a) × (map (λ (p : Pair). p .successor) ps ! i ≡ b)
+pair-place [] a b r = absurd r
+pair-place (x ∷ ps) a b (inl e) = (0, omega arith, e .0, e .1)
+pair-place (x ∷ ps) a b (inr r) = let q = pair-place ps a b r in (suc (q .0), omega (arith, q .1), q .2, q .3)
+
+-- ---- a text that was read
+
+module _ (x : Project) (resource horizon : ℕ) (L K : Lent) (limits : Within x) (near : horizon ≤ mostTime) (passed : Passed x resource horizon L)
+    (f : Filled x resource horizon L K) where
+  abbrev w : ℕ → ℕ
+  w = durationOf x
+
+  -- earliest starts respect the pairs
+  est-stable : Stable (Order x) w (K .est)
+  est-stable a b r =
+      let q = limits .range a b r in
+      f .est b (q .1) .most (K .est ! a + w a) (chain-on r (f .est a (q .0) .one))
+
+  est-ends : (j : ℕ) → j < length (x .rows) → K .est ! j + w j ≤ horizon
+  est-ends j b = by-contra (K .est ! j + w j) horizon (λ h. passed .short (record { last = j; job = b; before = K .est ! j; chain = f .est j b .one; over = h }))
+
+  -- a chain after a job, from whatever values that respect the pairs and the horizon
+  after-ends : (v : List ℕ) → Stable (Order x) w v → ((j : ℕ) → j < length (x .rows) → v ! j + w j ≤ horizon)
+      → (j : ℕ) → j < length (x .rows) → v ! j + w j ≤ K .lct ! j
+  after-ends v s e j b =
+      let m = f .lct j b in
+      let c = m .1 .one in
+      let R : Below (length (x .rows)) (Back (Order x)) = λ p q r. (limits .range q p r .1, limits .range q p r .0) in
+      omega (arith, stable-after (Order x) w v s c, e (c .from) (chain-starts (Back (Order x)) (length (x .rows)) w R c b), m .2)
+
+  dur-long : length (K .dur) ≡ length (x .rows)
+  dur-long = ap length (f .dur) ∙ length-map (x .rows) (λ (r : Row). r .duration)
+
+  dem-long : length (K .dem) ≡ length (x .rows)
+  dem-long = ap length (f .dem) ∙ length-map (x .rows) (λ (r : Row). r .demands ! resource)
+
+  dur-at : (j : ℕ) → K .dur ! j ≡ w j
+  dur-at j = ap (λ (l : List ℕ). l ! j) (f .dur)
+
+  dem-at : (j : ℕ) → K .dem ! j ≡ demandsOn resource (x .rows) ! j
+  dem-at j = ap (λ (l : List ℕ). l ! j) (f .dem)
+
+  pub filled-good : GoodList (windows K) (K .dur) (fourLists (windows K) (K .dur) (K .dem)) (supply (x .capacities ! resource))
+  unfolding Long
+  filled-good = record {
+    sized = (refl, (f .lct-long ∙ sym (f .est-long), (dur-long ∙ sym (f .est-long), (dem-long ∙ sym (f .est-long), tt))));
+    few = omega (arith, f .est-long, limits .few);
+    within = (
+      everywhere (K .est) (length (x .rows)) mostTime (f .est-long) (λ j b. omega (arith, est-ends j b)),
+      (
+        everywhere (K .lct) (length (x .rows)) mostTime (f .lct-long) (λ j b. omega (arith, f .lct j b .2)),
+        ((λ j. omega (arith, dur-at j, limits .durations j)), ((λ j. omega (arith, dem-at j, limits .demands resource j)), tt)),
+      ),
+    );
+    beside = (capped, tt);
+    long = λ j b. omega (arith, after-ends (K .est) est-stable est-ends j (omega (arith, f .est-long)), dur-at j);
+  }
+    where
+      capped : (k : ℕ) → (x .capacities ! resource ∷ []) ! k ≤ mostDemand
+      capped zero = limits .capacities resource
+      capped (suc k) = omega arith
+
+  module _ (s : List ℕ) (t : Respects K (length (pairsOf x)) horizon s) where
+    starts-stable : Stable (Order x) w s
+    starts-stable a b r =
+        let q = pair-place (pairsOf x) a b r in
+        let j : K .jobs ! (q .0) ≡ a =
+        ap (λ (l : List ℕ). l ! (q .0)) (f .jobs) ∙ front-at (map (λ (p : Pair). p .job) (pairsOf x)) _ (q .0) (omega (arith, q .1, length-map (pairsOf x) (λ (p : Pair). p .job))) ∙ q .2 in
+        let k : K .successors ! (q .0) ≡ b =
+        ap (λ (l : List ℕ). l ! (q .0)) (f .successors) ∙ front-at (map (λ (p : Pair). p .successor) (pairsOf x)) _ (q .0) (omega (arith, q .1, length-map (pairsOf x) (λ (p : Pair). p .successor))) ∙ q .3 in
+        omega (arith, moved (K .jobs ! (q .0)) a (K .successors ! (q .0)) b j k (t .pairs (q .0) (q .1)), dur-at a)
+      where
+        moved : (i a k b : ℕ) → i ≡ a → k ≡ b → s ! i + K .dur ! i ≤ s ! k → s ! a + K .dur ! a ≤ s ! b
+        moved i a k b e g h = rw (← e, ← g) h
+
+    starts-end : (j : ℕ) → j < length (x .rows) → s ! j + w j ≤ horizon
+    starts-end j b = omega (arith, t .ends j (omega (arith, dur-long)), dur-at j)
+
+    pub filled-kept : Schedule (length (K .dur)) (K .dur) (Respects K (length (pairsOf x)) horizon) (windows K) s
+    filled-kept = record {
+      from = λ j b. stable-most (Order x) w s starts-stable (f .est j (omega (arith, dur-long)) .one);
+      to = λ j b. omega (arith, after-ends s starts-stable starts-end j (omega (arith, dur-long)), dur-at j);
+      fits = t;
+    }
+
+-- ---- of any call whose layout keeps to the limits
+
+module _ (c : Call) (limits : (x : Project) (rest : List Token) → c .text ≡ good x rest → Within x) (a : After) where
+  -- an answer that says `read` is of a text that was read
+  read-taken : Answered c a → a .says .word ≡ Word.read → Taken c a × Refusal c 0
+  read-taken r e = go (r .number) (r .refusal) (r .leaves)
+    where
+      go : (k : ℕ) → Refusal c k → Leaves c a k → Taken c a × Refusal c 0
+      go zero t l = (l, t)
+      go (suc k) t l = absurd (not-said Word.refused Word.read (λ z. omega arith) (sym (ap (λ (y : After). y .says .word) l) ∙ e))
+
+  pub reads-of : Answered c a → Reads c a
+  reads-of r = record {
+    answered = r;
+    good = λ e.
+        let t = read-taken r e in
+        let y = t .0 in
+        let n = refusal-none c (y .x) (y .rest) (y .text) (t .1) in
+        subst (λ (m : ℕ). GoodList (windows (a .lent)) (a .lent .dur) (fourLists (windows (a .lent)) (a .lent .dur) (a .lent .dem)) (supply m))
+        (sym (ap (λ (z : Said). z .numbers ! 0) (y .says)))
+        (filled-good (y .x) (c .resource) (c .horizon) (c .lent) (a .lent) (limits (y .x) (y .rest) (y .text)) (n .0) (n .1) (y .filled));
+    kept = λ e s.
+        let t = read-taken r e in
+        let y = t .0 in
+        let n = refusal-none c (y .x) (y .rest) (y .text) (t .1) in
+        subst (λ (m : ℕ). Respects (a .lent) m (c .horizon) s → Schedule (length (a .lent .dur)) (a .lent .dur) (Respects (a .lent) m (c .horizon)) (windows (a .lent)) s)
+        (sym (ap (λ (z : Said). z .numbers ! 1) (y .says)))
+        (filled-kept (y .x) (c .resource) (c .horizon) (c .lent) (a .lent) (limits (y .x) (y .rest) (y .text)) (n .0) (n .1) (y .filled) s);
+  }

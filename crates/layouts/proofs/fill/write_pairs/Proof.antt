@@ -1,0 +1,112 @@
+-- `layouts::write_pairs` meets its contract: i pairs are written, in text order, and the others still come.
+use Prim.Native.Nat.{_-_}
+use native.Mathlib.Omega.{arith}
+use borrow.Author.Needs.{needs}
+use lib.ListN.{length, drop}
+use Rattle.texts.specs.Tokens.{tokens}
+use Rattle.layouts.proofs.Filling.{Writing, writing-start, writing-step, writing-end, writing-full, writing-full₂}
+use Rattle.layouts.proofs.fill.write_pairs.Statement.{statement}
+use Rattle.layouts.proofs.fill.write_pairs.Tie as tie
+
+abbrev Inv-loop : tie.InvT-loop
+Inv-loop text n k at js₀ ss₀ w₀ i₀ js ss w i = Writing n k text at js₀ ss₀ js ss w i
+
+abbrev μ-loop : tie.MeasureT-loop
+μ-loop text n k at js₀ ss₀ w₀ i₀ js ss w i = length (tokens (drop (w .at) text))
+
+loop-holds : tie.Need-loop-holds Inv-loop μ-loop
+loop-holds c = writing-start _ _ _ _ _ _
+
+next-pair-requires : tie.Need-next-pair-requires Inv-loop μ-loop
+next-pair-requires c κs = (c .loop .inv .fit, c .before .before .before .before .pre)
+
+enum-told : tie.Need-enum-told Inv-loop μ-loop
+enum-told c = search needs
+
+same-length : tie.Need-same-length Inv-loop μ-loop
+same-length c = omega (arith, c .before .before .before .loop .inv .long-js)
+
+same-length-2 : tie.Need-same-length-2 Inv-loop μ-loop
+same-length-2 c = omega (arith, c .before .before .before .loop .inv .long-ss)
+
+returns : tie.Need-returns Inv-loop μ-loop
+returns c =
+    let t = rw (c .enum-told .given .1) at (c .before .before .next-pair .ensures) in
+    writing-end _ _ _ _ _ _ _ _ _ _ (c .before .before .before .loop .inv) t
+
+enum-known-a : tie.Need-enum-known-a Inv-loop μ-loop
+enum-known-a c = search needs
+
+same-length-3 : tie.Need-same-length-3 Inv-loop μ-loop
+same-length-3 c = omega (arith, c .before .before .before .before .before .loop .inv .long-js)
+
+same-length-4 : tie.Need-same-length-4 Inv-loop μ-loop
+same-length-4 c = omega (arith, c .before .before .before .before .before .loop .inv .long-ss)
+
+returns-2 : tie.Need-returns-2 Inv-loop μ-loop
+returns-2 c =
+    let t = rw (c .before .before .a .given .1) at (c .before .before .before .before .next-pair .ensures) in
+    writing-full _ _ _ _ _ _ _ _ _ _ (c .before .before .before .before .before .loop .inv) _ _ _ t (c .if1 .taken)
+
+same-length-5 : tie.Need-same-length-5 Inv-loop μ-loop
+same-length-5 c = omega (arith, c .before .before .before .before .before .before .loop .inv .long-js)
+
+same-length-6 : tie.Need-same-length-6 Inv-loop μ-loop
+same-length-6 c = omega (arith, c .before .before .before .before .before .before .loop .inv .long-ss)
+
+returns-3 : tie.Need-returns-3 Inv-loop μ-loop
+returns-3 c =
+    let t = rw (c .before .before .before .a .given .1) at (c .before .before .before .before .before .next-pair .ensures) in
+    writing-full₂ _ _ _ _ _ _ _ _ _ _ (c .before .before .before .before .before .before .loop .inv) _ _ _ t (c .if2 .taken)
+
+mul-js : tie.Need-mul-js Inv-loop μ-loop
+mul-js c = search needs
+
+slice-write-js : tie.Need-slice-write-js Inv-loop μ-loop
+slice-write-js c = search needs
+
+mul-ss : tie.Need-mul-ss Inv-loop μ-loop
+mul-ss c = search needs
+
+slice-write-ss : tie.Need-slice-write-ss Inv-loop μ-loop
+slice-write-ss c = search needs
+
+add-i : tie.Need-add-i Inv-loop μ-loop
+add-i c = search needs
+
+loop-less : tie.Need-loop-less Inv-loop μ-loop
+loop-less c =
+    let t = rw (c .before .before .before .a .given .1) at (c .before .before .before .before .before .next-pair .ensures) in
+    t .2
+
+loop-again : tie.Need-loop-again Inv-loop μ-loop
+loop-again c =
+    let t = rw (c .before .before .before .a .given .1) at (c .before .before .before .before .before .next-pair .ensures) in
+    writing-step _ _ _ _ _ _ _ _ _ _ (c .before .before .before .before .before .before .loop .inv) _ _ _ t (c .before .if1 .left) (c .if2 .left)
+
+pub write-pairs-spec : {M : Type 1} → statement M
+write-pairs-spec =
+    tie.close
+    (tie.spec
+    Inv-loop
+    μ-loop
+    loop-holds
+    next-pair-requires
+    enum-told
+    same-length
+    same-length-2
+    returns
+    enum-known-a
+    same-length-3
+    same-length-4
+    returns-2
+    same-length-5
+    same-length-6
+    returns-3
+    mul-js
+    slice-write-js
+    mul-ss
+    slice-write-ss
+    add-i
+    loop-less
+    loop-again)

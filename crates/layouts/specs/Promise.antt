@@ -1,0 +1,38 @@
+-- What a reader promises: the answer table, and what ties the lists that it fills to the base: narrowing takes them, and no start times that respect
+-- the pairs and the horizon are lost.
+use Prim.Native.Nat.{ℕ, _+_, _≤_, _<_}
+use mathlib.Core.Path.{_≡_}
+use mathlib.Core.List.{List}
+use lib.ListN.{length}
+use Rattle.lists.specs.Lists.{_!_}
+use Rattle.answers.specs.Said.{Word}
+use Rattle.narrowing.specs.Windows.{Win, win}
+use Rattle.narrowing.specs.Schedules.{Schedule}
+use Rattle.joblist.specs.Limits.{fourLists, supply}
+use Rattle.joblist.specs.GoodList.{GoodList}
+use Rattle.layouts.specs.Table.{Lent, Call, After, Answered}
+
+-- the windows in the lists
+abbrev pub windows : Lent → Win
+windows K = win (K .est) (K .lct)
+
+-- start times s that respect the first `count` pairs in the lists and end by the horizon
+pub record Respects (K : Lent) (count horizon : ℕ) (s : List ℕ) : Type 0 where
+  pub pairs : (i : ℕ) → i < count → s ! (K .jobs ! i) + K .dur ! (K .jobs ! i) ≤ s ! (K .successors ! i)
+  pub ends : (j : ℕ) → j < length (K .dur) → s ! j + K .dur ! j ≤ horizon
+
+-- the capacity and the pair count that are said
+abbrev pub capacity : After → ℕ
+capacity a = a .says .numbers ! 0
+
+abbrev pub count : After → ℕ
+count a = a .says .numbers ! 1
+
+-- the contract of a reader
+pub record Reads (c : Call) (a : After) : Type 0 where
+  pub answered : Answered c a
+  -- the lists pass tests 1 to 4 of document 01
+  pub good : a .says .word ≡ Word.read → GoodList (windows (a .lent)) (a .lent .dur) (fourLists (windows (a .lent)) (a .lent .dur) (a .lent .dem)) (supply (capacity a))
+  -- all start times that respect the pairs and end by the horizon lie within the windows
+  pub kept : a .says .word ≡ Word.read → (s : List ℕ) → Respects (a .lent) (count a) (c .horizon) s
+      → Schedule (length (a .lent .dur)) (a .lent .dur) (Respects (a .lent) (count a) (c .horizon)) (windows (a .lent)) s

@@ -1,0 +1,54 @@
+// The lent lists filled: latest ends, and the pairs.
+use order::Pull;
+use rows::Walk;
+ghost use mathlib.Core.Path.{_≡_};
+ghost use Prim.Native.Nat.{ℕ, _≤_};
+ghost use lib.ListN.{length};
+ghost use Rattle.lists.specs.Lists.{_!_};
+ghost use Rattle.joblist.specs.Limits.{mostJobs};
+ghost use Rattle.order.specs.Pairs.{comes, first};
+ghost use Rattle.layouts.specs.Parts.{Lessened, Wrote};
+
+// The horizon less each chain.
+pub fn latest(tails: &[u32; joblist::MOST], h: u32, to: &mut [u32])
+    requires { ⌜ (length (now tails) ≡ mostJobs) × (length (now to) ≤ mostJobs) × ((j : ℕ) → now tails ! j ≤ h) ⌝ }
+    ensures { λ _. ⌜ Lessened (now (tails .entry)) h (now (to .entry)) (now (to .exit)) ⌝ }
+{
+    let mut i: usize = 0;
+    while i < to.len() {
+        to[i] = h - tails[i];
+        i += 1;
+    }
+}
+
+// The pairs of the text, in its order. Each turn takes a token.
+pub fn write_pairs(text: &[u8], n: u32, k: u32, at: usize, js: &mut [u32], ss: &mut [u32])
+    requires { ⌜ n ≤ mostJobs ⌝ }
+    ensures { λ _. ⌜ Wrote (comes n k (now (text .entry)) (first at)) (now (js .entry)) (now (ss .entry)) (now (js .exit)) (now (ss .exit)) ⌝ }
+{
+    let mut w = Walk {
+        next: 0,
+        left: 0,
+        at: at,
+    };
+    let mut i: usize = 0;
+    loop {
+        match order::next_pair(text, n, k, w) {
+            Pull::NoMore => {
+                return;
+            }
+            Pull::Next(a, b, u) => {
+                if js.len() <= i {
+                    return;
+                }
+                if ss.len() <= i {
+                    return;
+                }
+                js[i] = a;
+                ss[i] = b;
+                i += 1;
+                w = u;
+            }
+        }
+    }
+}

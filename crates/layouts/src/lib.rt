@@ -1,0 +1,77 @@
+// The reader of the Patterson layout (document 02, Item 1): a partner's text becomes a job list and its precedence pairs.
+//
+// Every refusal is decided before a lent word is written: durations, demands and chains go into local arrays first, and the pairs are written by
+// reading the text once more, in its order. A bit matrix would lose that order and the pairs that are named twice, and an array of all pairs that a
+// text may have would be far larger than the text.
+mod fill;
+mod parts;
+
+use answers::ReadAnswer;
+use fill::latest;
+use fill::write_pairs;
+use parts::Parsed;
+use parts::parse;
+use parts::roomy;
+ghost use Rattle.answers.specs.Said.{saysRead};
+ghost use Rattle.rows.specs.Patterson.{patterson};
+ghost use Rattle.layouts.specs.Promise.{Reads};
+
+// Fills the six lists from the text, for one resource (from 0) and a horizon.
+pub fn read_patterson(
+    text: &[u8],
+    resource: u32,
+    horizon: u32,
+    est: &mut [u32],
+    lct: &mut [u32],
+    dur: &mut [u32],
+    dem: &mut [u32],
+    jobs: &mut [u32],
+    successors: &mut [u32],
+) -> ReadAnswer
+    ensures { λ r. ⌜ Reads
+        (record { text = patterson (now (text .entry)); resource = resource; horizon = horizon; lent = record { est = now (est .entry); lct = now (lct .entry); dur = now (dur .entry); dem = now (dem .entry); jobs = now (jobs .entry); successors = now (successors .entry) } })
+        (record { says = saysRead r; lent = record { est = now (est .exit); lct = now (lct .exit); dur = now (dur .exit); dem = now (dem .exit); jobs = now (jobs .exit); successors = now (successors .exit) } }) ⌝ }
+{
+    if joblist::TIME < horizon {
+        return ReadAnswer::Refused(31);
+    }
+    let mut d = [0u32; joblist::MOST];
+    let mut q = [0u32; joblist::MOST];
+    match parse(text, resource, &mut d, &mut q) {
+        Parsed::Broken(c) => ReadAnswer::Refused(c),
+        Parsed::Whole(z) => {
+            let n = z.n;
+            let k = z.k;
+            let cap = z.cap;
+            let pairs = z.pairs;
+            let at = z.at;
+            if k <= resource {
+                return ReadAnswer::Refused(37);
+            }
+            if !roomy(
+                est.len(),
+                lct.len(),
+                dur.len(),
+                dem.len(),
+                jobs.len(),
+                successors.len(),
+                n,
+                pairs,
+            ) {
+                return ReadAnswer::Refused(38);
+            }
+            let mut heads = [0u32; joblist::MOST];
+            let mut tails = [0u32; joblist::MOST];
+            let c = order::longest_chains(text, n, k, at, &d, horizon, &mut heads, &mut tails);
+            if c != 0 {
+                return ReadAnswer::Refused(c);
+            }
+            joblist::restore(&heads, est);
+            latest(&tails, horizon, lct);
+            joblist::restore(&d, dur);
+            joblist::restore(&q, dem);
+            write_pairs(text, n, k, at, jobs, successors);
+            ReadAnswer::Read(cap, pairs)
+        }
+    }
+}
