@@ -28,10 +28,10 @@ of-back [] a b r = r
 of-back (x ∷ ps) a b (inl e) = inl (e .1, e .0)
 of-back (x ∷ ps) a b (inr r) = inr (of-back ps a b r)
 
-pub replicate-under : (m x j : ℕ) → replicate m x ! j ≤ x
-replicate-under zero x j = omega arith
-replicate-under (suc m) x zero = omega arith
-replicate-under (suc m) x (suc j) = replicate-under m x j
+pub replicate-low : (m x top j : ℕ) → x ≤ top → replicate m x ! j ≤ top
+replicate-low zero x top j h = omega arith
+replicate-low (suc m) x top zero h = h
+replicate-low (suc m) x top (suc j) h = replicate-low m x top j h
 
 module _ (r : Read (List Pair)) (n : ℕ) (few : n ≤ mostJobs) (ps : List Pair) (end : List Token) (e : r ≡ good ps end) (range : Below n (Precedes ps)) where
   -- ---- steps counted

@@ -42,9 +42,13 @@ module _ (w : ℕ → ℕ) (a b : ℕ) (rest : List Pair) where
   first-turned true = inl (refl, refl)
   first-turned false = inl (refl, refl)
 
-pub cond-below : (t : Bool) (a b m : ℕ) → a < m → b < m → cond t a b < m
+cond-below : (t : Bool) (a b m : ℕ) → a < m → b < m → cond t a b < m
 cond-below true a b m h k = h
 cond-below false a b m h k = k
+
+-- both jobs of a pair, as a round takes it, are among the jobs
+pub both-below : (back : Bool) (a b i j n m : ℕ) → i ≡ cond back b a → j ≡ cond back a b → a < n → b < n → n ≤ m → (i < m) × (j < m)
+both-below back a b i j n m ei ej h k l = (rw ei (cond-below back b a m (omega arith) (omega arith)), rw ej (cond-below back a b m (omega arith) (omega arith)))
 
 pub record Following (p : List ℕ) (back : Bool) (v₀ v : List ℕ) (now : Read (List Pair)) (ps : List Pair) (end : List Token) : Type 0 where
   pub rest : List Pair
@@ -117,7 +121,7 @@ module _ (n k : ℕ) (s : List ℕ) (at : ℕ) (p : List ℕ) (back : Bool) (top
 
         pub relaxing-rose : (v' : List ℕ) → n ≤ mostJobs → RiseSays v v' i j (p ! i) top Rose → Relaxing n k s at p back top v₀ v' u true
         relaxing-rose v' m h =
-            let below : j < mostJobs = rw ej (cond-below back a b mostJobs (omega (arith, t .3)) (omega (arith, t .4))) in
+            let below : j < mostJobs = both-below back a b i j n mostJobs ei ej (t .3) (t .4) m .1 in
             let more : sum v < sum v' = rw (h .0) (sum-set v j (v ! i + p ! i) (g .long) below (h .1)) in
             record {
               fit = t .1;

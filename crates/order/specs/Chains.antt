@@ -13,7 +13,7 @@ pub record Ordered (ps : List Pair) (n : ℕ) (p : List ℕ) (h : ℕ) (heads ta
   pub short : Longer (Precedes ps) n (weight p) h → ⊥
   pub before : (j : ℕ) → Longest (Precedes ps) (weight p) j (heads ! j)
   pub after : (j : ℕ) → Longest (Back (Precedes ps)) (weight p) j (tails ! j)
-  pub low : (j : ℕ) → tails ! j ≤ h
+  pub low : (j : ℕ) → (heads ! j ≤ h) × (tails ! j ≤ h)
 
 abbrev pub OrderSays : List Pair → ℕ → List ℕ → ℕ → List ℕ → List ℕ → ℕ → Type 0
 OrderSays ps n p h heads tails zero = Ordered ps n p h heads tails

@@ -6,14 +6,14 @@ use native.Mathlib.Omega.{arith}
 use borrow.Author.Needs.{needs}
 use borrow.Author.Tests.{not-true, not-false}
 use Rattle.joblist.specs.Limits.{mostJobs}
-use Rattle.order.proofs.Orders.{replicate-under, says-33, no-33, head-34, tail-34, head-longest, over-34, no-34, tail-longest}
+use Rattle.order.proofs.Orders.{replicate-low, says-33, no-33, head-34, tail-34, head-longest, over-34, no-34, tail-longest}
 use Rattle.order.proofs.longest_chains.Statement.{statement}
 use Rattle.order.proofs.longest_chains.Tie as tie
 
 settle-requires : tie.Need-settle-requires
 settle-requires c κs =
     let q = c .before .before .before .pre .0 in
-    ((q .0, refl, refl, omega (arith, q .0)), λ j. omega (arith, replicate-under mostJobs 1 j))
+    ((q .0, refl, refl, omega (arith, q .0)), λ j. replicate-low mostJobs _ _ j (omega arith))
 
 returns : tie.Need-returns
 returns c =
@@ -77,7 +77,7 @@ returns-5 c =
         short = no-34 _ _ (s .0) ps end e range _ _ _ u x;
         before = head-longest _ _ (s .0) ps end e range _ _ _ u;
         after = tail-longest _ _ (s .0) ps end e range _ _ _ v;
-        low = v .low;
+        low = λ j. (u .low j, v .low j);
       }),
       c .before .before .before .before .before .before .before .settle2 .ensures .1,
       c .before .before .before .before .settle3 .ensures .1,

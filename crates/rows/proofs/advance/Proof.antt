@@ -1,5 +1,6 @@
 -- `rows::advance` meets its contract: a successor where one is left, the end behind the last row, else the head of the next row.
 use Rattle.rows.proofs.Steps.{step-successor, step-stop, step-done, step-headless, step-begun}
+use native.Mathlib.Omega.{arith}
 use borrow.Author.Needs.{needs}
 use Rattle.rows.proofs.advance.Statement.{statement}
 use Rattle.rows.proofs.advance.Tie as tie
@@ -16,16 +17,16 @@ sub-t19 c = search needs
 returns : tie.Need-returns
 returns c =
     let q = rw (c .before .v .given .1) at (c .before .before .before .read-link .ensures) in
-    step-successor _ _ _ _ _ (c .before .before .before .before .before .before .pre .0) _ _ (c .before .before .before .before .if1 .taken) q
+    step-successor _ _ _ _ _ (c .before .before .before .before .before .before .pre .0) _ _ (omega (arith, c .before .before .before .before .if1 .taken)) q
 
 enum-known-c : tie.Need-enum-known-c
 enum-known-c c = search needs
 
 returns-2 : tie.Need-returns-2
-returns-2 c = step-stop _ _ _ _ _ (c .before .before .before .before .before .before .pre .0) _ (c .before .before .before .before .if1 .taken) (rw (c .before .c .given .1) at (c .before .before .before .read-link .ensures))
+returns-2 c = step-stop _ _ _ _ _ (c .before .before .before .before .before .before .pre .0) _ (omega (arith, c .before .before .before .before .if1 .taken)) (rw (c .before .c .given .1) at (c .before .before .before .read-link .ensures))
 
 returns-3 : tie.Need-returns-3
-returns-3 c = step-done _ _ _ _ _ (c .before .before .before .pre .0) (c .before .if1 .left) (c .if2 .taken)
+returns-3 c = step-done _ _ _ _ _ (c .before .before .before .pre .0) (omega (arith, c .before .if1 .left)) (c .if2 .taken)
 
 read-head-requires : tie.Need-read-head-requires
 read-head-requires c κs = search needs
@@ -42,10 +43,10 @@ enum-known-c-2 c = search needs
 returns-4 : tie.Need-returns-4
 returns-4 c =
     let q = rw (c .before .d .given .1) at (c .before .before .before .read-head .ensures) in
-    step-begun _ _ _ _ _ (c .before .before .before .before .before .before .before .pre .0) (c .before .before .before .before .before .if1 .left) _ _ _ _ (q .0) (c .before .before .before .before .before .before .before .pre .1) (c .before .before .before .before .if2 .left) (q .1) (q .2) (q .3) (q .4)
+    step-begun _ _ _ _ _ (c .before .before .before .before .before .before .before .pre .0) (omega (arith, c .before .before .before .before .before .if1 .left)) _ _ _ _ (q .0) (c .before .before .before .before .before .before .before .pre .1) (c .before .before .before .before .if2 .left) (q .1) (q .2) (q .3) (q .4)
 
 returns-5 : tie.Need-returns-5
-returns-5 c = step-headless _ _ _ _ _ (c .before .before .before .before .before .before .before .pre .0) (c .before .before .before .before .before .if1 .left) _ (c .before .before .before .before .if2 .left) (rw (c .before .c2 .given .1) at (c .before .before .before .read-head .ensures))
+returns-5 c = step-headless _ _ _ _ _ (c .before .before .before .before .before .before .before .pre .0) (omega (arith, c .before .before .before .before .before .if1 .left)) _ (c .before .before .before .before .if2 .left) (rw (c .before .c2 .given .1) at (c .before .before .before .read-head .ensures))
 
 pub advance-spec : {M : Type 1} → statement M
 advance-spec =

@@ -1,11 +1,11 @@
 -- `order::relax` meets its contract: the pairs passed have made the values of the first ones, and the rest makes of them what all pairs make.
-use Prim.Native.Nat.{_<_, _-_}
+use Prim.Native.Nat.{_-_}
 use native.Mathlib.Omega.{arith}
 use borrow.Author.Needs.{needs}
 use lib.ListN.{length, drop}
 use Rattle.joblist.specs.Limits.{mostJobs}
 use Rattle.texts.specs.Tokens.{tokens}
-use Rattle.order.proofs.Relaxing.{Relaxing, relaxing-start, relaxing-kept, relaxing-rose, relaxing-over, relaxing-same, relaxing-changed, cond-below}
+use Rattle.order.proofs.Relaxing.{Relaxing, relaxing-start, relaxing-kept, relaxing-rose, relaxing-over, relaxing-same, relaxing-changed, both-below}
 use Rattle.order.proofs.rounds.relax.Statement.{statement}
 use Rattle.order.proofs.rounds.relax.Tie as tie
 
@@ -56,24 +56,16 @@ mul-x c = search needs
 element-copy-out-x : tie.Need-element-copy-out-x Inv-loop μ-loop
 element-copy-out-x c =
     let t = rw (c .before .before .before .a .given .1) at (c .before .before .before .before .before .next-pair .ensures) in
-    let m = c .before .before .before .before .before .before .before .before .pre .0 in
-    let ha : c .before .before .before .a .given .0 .0 < mostJobs = omega (arith, t .3, m .0) in
-    let hb : c .before .before .before .a .given .0 .1 .0 < mostJobs = omega (arith, t .4, m .0) in
-    rw (c .before .select .ensures) (cond-below (c .before .before .before .before .before .before .before .before .args .back) _ _ mostJobs hb ha)
+    let h = both-below (c .before .before .before .before .before .before .before .before .args .back) _ _ _ _ _ mostJobs (c .before .select .ensures) (c .select2 .ensures) (t .3) (t .4) (c .before .before .before .before .before .before .before .before .pre .0 .0) in
+    omega (arith, h, c .before .before .before .before .before .before .before .before .pre .0 .1)
 
 lift-requires : tie.Need-lift-requires Inv-loop μ-loop
 lift-requires c κs =
     let t = rw (c .before .before .before .before .before .a .given .1) at (c .before .before .before .before .before .before .before .next-pair .ensures) in
-    let m = c .before .before .before .before .before .before .before .before .before .before .pre .0 in
+    let m = c .before .before .before .before .before .before .before .before .before .before .pre in
     let g = c .before .before .before .before .before .before .before .before .loop .inv in
-    let ha : c .before .before .before .before .before .a .given .0 .0 < mostJobs = omega (arith, t .3, m .0) in
-    let hb : c .before .before .before .before .before .a .given .0 .1 .0 < mostJobs = omega (arith, t .4, m .0) in (
-      rw (c .before .before .before .select .ensures) (cond-below (c .before .before .before .before .before .before .before .before .before .before .args .back) _ _ mostJobs hb ha),
-      rw (c .before .before .select2 .ensures) (cond-below (c .before .before .before .before .before .before .before .before .before .before .args .back) _ _ mostJobs ha hb),
-      g .long,
-      omega (arith, g .low (c .before .before .before .select .result), m .3),
-      c .before .before .before .before .before .before .before .before .before .before .pre .1 .0 (c .before .before .before .select .result),
-    )
+    let h = both-below (c .before .before .before .before .before .before .before .before .before .before .args .back) _ _ _ _ _ mostJobs (c .before .before .before .select .ensures) (c .before .before .select2 .ensures) (t .3) (t .4) (m .0 .0) in
+    (h .0, h .1, g .long, omega (arith, g .low (c .before .before .before .select .result), m .0 .3), omega (arith, m .1 .0 (c .before .before .before .select .result), m .1 .0 (c .before .before .select2 .result)))
 
 enum-told-2 : tie.Need-enum-told-2 Inv-loop μ-loop
 enum-told-2 c = search needs
