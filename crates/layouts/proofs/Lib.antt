@@ -5,3 +5,5 @@ pub mod Answering
 pub mod Meaning
 pub mod One
 pub mod When
+pub mod Computed
+pub mod Cases

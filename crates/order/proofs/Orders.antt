@@ -18,12 +18,12 @@ turned-false : (ps : List Pair) → turned false ps ≡ ps
 turned-false [] = refl
 turned-false (x ∷ ps) = ap (λ l. x ∷ l) (turned-false ps)
 
-back-of : (ps : List Pair) (a b : ℕ) → Precedes (turned true ps) a b → Precedes ps b a
+pub back-of : (ps : List Pair) (a b : ℕ) → Precedes (turned true ps) a b → Precedes ps b a
 back-of [] a b r = r
 back-of (x ∷ ps) a b (inl e) = inl (e .1, e .0)
 back-of (x ∷ ps) a b (inr r) = inr (back-of ps a b r)
 
-of-back : (ps : List Pair) (a b : ℕ) → Precedes ps b a → Precedes (turned true ps) a b
+pub of-back : (ps : List Pair) (a b : ℕ) → Precedes ps b a → Precedes (turned true ps) a b
 of-back [] a b r = r
 of-back (x ∷ ps) a b (inl e) = inl (e .1, e .0)
 of-back (x ∷ ps) a b (inr r) = inr (of-back ps a b r)

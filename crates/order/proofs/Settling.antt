@@ -24,7 +24,7 @@ unfolding total
 sum-under f top zero h = omega arith
 sum-under f top (suc m) h = omega (arith, sum-under f top m h, h m, suc-mul m top)
 
-below-turned : (back : Bool) (ps : List Pair) (n : ℕ) → Below n (Precedes ps) → Below n (Precedes (turned back ps))
+pub below-turned : (back : Bool) (ps : List Pair) (n : ℕ) → Below n (Precedes ps) → Below n (Precedes (turned back ps))
 below-turned true [] n f a b r = absurd r
 below-turned false [] n f a b r = absurd r
 below-turned true (x ∷ ps) n f a b (inl e) = let q = f b a (inl (e .1, e .0)) in (q .1, q .0)

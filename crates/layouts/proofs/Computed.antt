@@ -1,0 +1,132 @@
+-- Answers computed: with the longest chains and the test for a cycle as `chains` computes them, the answer to a call on a given text follows by
+-- computation, whatever program meets the contract.
+use Prim.Native.Nat.{ℕ, suc, _+_, _≤_, _<_}
+use native.Mathlib.Omega.{arith}
+use mathlib.Core.Path.{_≡_, refl}
+use mathlib.Core.Bool.{Bool, true, false}
+use mathlib.Core.List.{List, [], _∷_, _++_, map}
+use mathlib.Core.Logic.{inl, inr}
+use lib.Dec.{eqb, leb}
+use lib.ListN.{length, drop}
+use borrow.Author.Tests.{eqb-true, leb-true}
+use Rattle.lists.specs.Lists.{_!_}
+use Rattle.lists.specs.Tests.{every}
+use Rattle.lists.proofs.Tests.{every-at}
+use Rattle.answers.specs.Said.{Word, said}
+use Rattle.joblist.specs.Limits.{mostTime}
+use Rattle.chains.specs.Paths.{Pair, Precedes, Below, Cycle, Longest, Longer, Back}
+use Rattle.chains.specs.Passes.{longest, acyclic?}
+use Rattle.chains.proofs.Chains.{chain-map}
+use Rattle.chains.proofs.Longest.{longest-chained, longest-is}
+use Rattle.chains.proofs.Cycles.{judged-acyclic}
+use Rattle.texts.specs.Readings.{good}
+use Rattle.rows.specs.Projects.{Project, pairsOf, durations, demandsOn}
+use Rattle.rows.specs.Patterson.{patterson}
+use Rattle.rows.proofs.Limits.{patterson-takes}
+use Rattle.order.specs.Rounds.{turned}
+use Rattle.order.proofs.Orders.{back-of, of-back}
+use Rattle.order.proofs.Settling.{below-turned}
+use Rattle.layouts.specs.Table.{Lent, After, Order, durationOf, Fits, Tested}
+use Rattle.layouts.specs.Promise.{Reads}
+use Rattle.layouts.proofs.Tests.{refusal-of, none-tested}
+use Rattle.layouts.proofs.Answering.{asked, refused}
+use Rattle.layouts.proofs.One.{answered-one}
+
+-- the longest chains before each job, and after it
+abbrev pub heads : Project → List ℕ
+heads x = longest (durationOf x) (pairsOf x) (length (x .rows))
+
+abbrev pub tails : Project → List ℕ
+tails x = longest (durationOf x) (turned true (pairsOf x)) (length (x .rows))
+
+-- no cycle among pairs
+abbrev pub calm? : Project → List Pair → Bool
+calm? x ps = acyclic? ps (length (x .rows))
+
+-- no chain is longer than h
+abbrev pub short? : Project → ℕ → Bool
+short? x h = every (λ j. leb (heads x ! j + durationOf x j) h) (length (x .rows))
+
+-- each latest end and the chain after its job make h
+abbrev pub ends? : Project → ℕ → List ℕ → Bool
+ends? x h lct = every (λ j. eqb (lct ! j + tails x ! j) h) (length (x .rows))
+
+module _ (s : List ℕ) (x : Project) (e : patterson s ≡ good x []) (res h : ℕ) (L : Lent) (near : h ≤ mostTime) (a : After) (r : Reads (asked s res h L) a) where
+  range : Below (length (x .rows)) (Order x)
+  range = patterson-takes s [] x e .within .range
+
+  -- the number of the first test that fails, where one does
+  pub by-number : (k : ℕ) → Tested x res h L (suc k) → a ≡ refused L (suc k)
+  by-number k t =
+      answered-one (asked s res h L) a (refused L (suc k)) (r .answered) (record { number = suc k; refusal = refusal-of (asked s res h L) x [] e (suc k) near t; leaves = refl })
+
+  module _ (chosen : res < length (x .capacities)) (fits : Fits x L) where
+    pub by-33 : calm? x (pairsOf x) ≡ false → a ≡ refused L 33
+    by-33 q = by-number 32 (inr (chosen, inr (fits, inl (judged-acyclic (pairsOf x) (length (x .rows)) range .failed q, refl))))
+
+    module _ (calm : calm? x (pairsOf x) ≡ true) where
+      no-cycle : Cycle (Order x) → ⊥
+      no-cycle = judged-acyclic (pairsOf x) (length (x .rows)) range .passed calm
+
+      pub by-34 : (j : ℕ) → j < length (x .rows) → h < heads x ! j + durationOf x j → a ≡ refused L 34
+      by-34 j b q =
+          by-number 33 (inr (chosen, inr (fits, inr (no-cycle, inl (record { last = j; job = b; before = heads x ! j; chain = longest-chained (durationOf x) (pairsOf x) (length (x .rows)) range j; over = q }, refl)))))
+
+      head-is : (j : ℕ) → j < length (x .rows) → Longest (Order x) (durationOf x) j (heads x ! j)
+      head-is = longest-is (durationOf x) (pairsOf x) (length (x .rows)) range no-cycle
+
+      module _ (back : calm? x (turned true (pairsOf x)) ≡ true) where
+        turned-range : Below (length (x .rows)) (Precedes (turned true (pairsOf x)))
+        turned-range = below-turned true (pairsOf x) (length (x .rows)) range
+
+        tail-is : (j : ℕ) → j < length (x .rows) → Longest (Back (Order x)) (durationOf x) j (tails x ! j)
+        tail-is j b =
+            let t = longest-is (durationOf x) (turned true (pairsOf x)) (length (x .rows)) turned-range (judged-acyclic (turned true (pairsOf x)) (length (x .rows)) turned-range .passed back) j b in
+            record {
+              one = chain-map (Precedes (turned true (pairsOf x))) (Back (Order x)) (durationOf x) (durationOf x) (λ p q d. (back-of (pairsOf x) p q d, refl)) (t .one);
+              most = λ M c. t .most M (chain-map (Back (Order x)) (Precedes (turned true (pairsOf x))) (durationOf x) (durationOf x) (λ p q d. (of-back (pairsOf x) p q d, refl)) c);
+            }
+
+        -- the text is read, and the lists are those computed
+        pub by-reading : short? x h ≡ true → (lct : List ℕ) → length lct ≡ length (x .rows) → ends? x h lct ≡ true → length (heads x) ≡ length (x .rows)
+            → a ≡ record {
+              says = said Word.read (x .capacities ! res ∷ length (pairsOf x) ∷ []);
+              lent = record {
+                est = heads x;
+                lct = lct;
+                dur = durations (x .rows);
+                dem = demandsOn res (x .rows);
+                jobs = map (λ (p : Pair). p .job) (pairsOf x) ++ drop (length (pairsOf x)) (L .jobs);
+                successors = map (λ (p : Pair). p .successor) (pairsOf x) ++ drop (length (pairsOf x)) (L .successors);
+              };
+            }
+        by-reading short lct long ends l =
+            answered-one (asked s res h L) a _ (r .answered) (record {
+              number = 0;
+              refusal = refusal-of (asked s res h L) x [] e 0 near (none-tested x res h L (record { chosen = chosen; fits = fits; acyclic = no-cycle; short = no-longer }));
+              leaves = record {
+                x = x;
+                rest = [];
+                text = e;
+                says = refl;
+                filled = record {
+                  est-long = l;
+                  lct-long = long;
+                  est = head-is;
+                  lct = λ j b. (tails x ! j, tail-is j b, eqb-true (lct ! j + tails x ! j) h (every-at (λ i. eqb (lct ! i + tails x ! i) h) (length (x .rows)) ends j b));
+                  dur = refl;
+                  dem = refl;
+                  jobs = refl;
+                  successors = refl;
+                };
+              };
+            })
+          where
+            no-longer : Longer (Order x) (length (x .rows)) (durationOf x) h → ⊥
+            no-longer t =
+                omega (
+                  arith,
+                  head-is (t .last) (t .job) .most (t .before) (t .chain),
+                  leb-true (heads x ! (t .last) + durationOf x (t .last)) h (every-at (λ i. leb (heads x ! i + durationOf x i) h) (length (x .rows)) short (t .last) (t .job)),
+                  t .over,
+                )
