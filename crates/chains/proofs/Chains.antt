@@ -6,15 +6,8 @@ use mathlib.Core.Path.{_≡_, refl, sym, ap, _∙_, subst}
 use mathlib.Core.List.{List}
 use Rattle.lists.specs.Lists.{_!_}
 use Rattle.chains.specs.Paths.{Below, Path, here, on, lengthOf, Cycle, Chain, Longest, Back}
+use Rattle.chains.specs.Passes.{Stable, Chained}
 use Rattle.chains.proofs.Holes.{holes}
-
--- no pair raises a value any more
-abbrev pub Stable : (ℕ → ℕ → Type 0) → (ℕ → ℕ) → List ℕ → Type 0
-Stable R w v = (a b : ℕ) → R a b → v ! a + w a ≤ v ! b
-
--- every value is a chain's length
-abbrev pub Chained : (ℕ → ℕ → Type 0) → (ℕ → ℕ) → List ℕ → Type 0
-Chained R w v = (j : ℕ) → Chain R w j (v ! j)
 
 -- no job before j
 pub chain-none : {R : ℕ → ℕ → Type 0} {w : ℕ → ℕ} {j : ℕ} → Chain R w j 0
@@ -48,7 +41,7 @@ module _ (R : ℕ → ℕ → Type 0) (w : ℕ → ℕ) (v : List ℕ) (s : Stab
   stable-back here = omega arith
   stable-back (on {a} {b} {c} t r) = omega (arith, stable-back t, s c b r)
 
-  -- its far end, from its length
+  -- the same of a chain after j, whose far end is where it starts
   pub stable-after : {j L : ℕ} (c : Chain (Back R) w j L) → v ! j + w j + L ≤ v ! (c .from) + w (c .from)
   stable-after c = omega (arith, stable-back (c .path), c .long)
 
@@ -65,7 +58,7 @@ path-map R S w u f (on {a} {b} {c} t r) = let x = path-map R S w u f t in (on (x
 pub chain-map : (R S : ℕ → ℕ → Type 0) (w u : ℕ → ℕ) → ((a b : ℕ) → R a b → S a b × (w a ≡ u a)) → {j L : ℕ} → Chain R w j L → Chain S u j L
 chain-map R S w u f c = let x = path-map R S w u f (c .path) in record { from = c .from; path = x .0; long = x .1 ∙ c .long }
 
--- both ends of a path lie below n, where one does
+-- a path starts below n where it ends there
 path-starts : (R : ℕ → ℕ → Type 0) (n : ℕ) → Below n R → {a j : ℕ} → Path R a j → j < n → a < n
 path-starts R n q here h = h
 path-starts R n q (on {a} {b} {c} t r) h = path-starts R n q t (q b c r .0)
@@ -77,7 +70,7 @@ path-inside : (R : ℕ → ℕ → Type 0) (n : ℕ) (w : ℕ → ℕ) → Below
 path-inside R n w q here h = absurd (omega arith)
 path-inside R n w q (on {a} {b} {c} t r) h = q b c r .1
 
--- a chain with something in it ends at a pair's successor
+-- a chain with something in it ends below n
 pub chain-inside : (R : ℕ → ℕ → Type 0) (n : ℕ) (w : ℕ → ℕ) → Below n R → {j L : ℕ} → 0 < L → Chain R w j L → j < n
 chain-inside R n w q h c = path-inside R n w q (c .path) (omega (arith, c .long))
 

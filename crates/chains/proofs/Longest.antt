@@ -7,15 +7,11 @@ use mathlib.Core.Path.{_≡_, refl, sym, _∙_, subst}
 use mathlib.Core.List.{List}
 use lib.ListN.{length, replicate, length-replicate}
 use Rattle.lists.specs.Lists.{_!_}
+use Rattle.lists.proofs.Lists.{zeros-at}
 use Rattle.chains.specs.Paths.{Pair, Precedes, Below, Path, here, on, lengthOf, Cycle, Chain, Longest}
-use Rattle.chains.specs.Passes.{pass, passes, longest}
-use Rattle.chains.proofs.Chains.{Chained, chain-none, chain-of, long-cycle}
+use Rattle.chains.specs.Passes.{Chained, pass, passes, longest}
+use Rattle.chains.proofs.Chains.{chain-none, chain-of, long-cycle}
 use Rattle.chains.proofs.Passes.{pass-length, pass-chained, pass-meets}
-
-pub zeros-at : (m k : ℕ) → _≡_ {A = ℕ} (replicate m 0 ! k) 0
-zeros-at zero k = refl
-zeros-at (suc m) zero = refl
-zeros-at (suc m) (suc k) = zeros-at m k
 
 -- zeros are chains of no job
 pub zeros-chained : (R : ℕ → ℕ → Type 0) (w : ℕ → ℕ) (m : ℕ) → Chained R w (replicate m 0)

@@ -1,4 +1,4 @@
--- A pass over the pairs: values stay lengths of chains and never fall, and each successor's value reaches what its job asks.
+-- A pass over the pairs: values stay lengths of chains and never fall, and each successor's value reaches its job's value plus duration.
 use Prim.Native.Nat.{ℕ, _+_, _≤_, _<_}
 use native.Mathlib.Omega.{arith}
 use mathlib.Core.Path.{_≡_, refl, sym, _∙_, subst}
@@ -12,8 +12,8 @@ use borrow.Author.Tests.{ltb-true, ltb-false}
 use Rattle.lists.specs.Lists.{_!_}
 use Rattle.lists.proofs.Lists.{set-any}
 use Rattle.chains.specs.Paths.{Pair, Precedes, Chain}
-use Rattle.chains.specs.Passes.{raise, pass}
-use Rattle.chains.proofs.Chains.{Chained, chain-on}
+use Rattle.chains.specs.Passes.{Chained, raise, pass}
+use Rattle.chains.proofs.Chains.{chain-on}
 
 -- ---- a raise
 

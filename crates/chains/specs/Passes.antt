@@ -1,15 +1,24 @@
--- The longest chains and the cycles of `Paths`, computed: once over the pairs raises each successor's value to what its job asks, and as many
--- passes as there are jobs reach the longest chains, unless there is a cycle (proofs/Longest.antt, proofs/Cycles.antt).
-use Prim.Native.Nat.{ℕ, zero, suc, _+_}
+-- The longest chains and the cycles of `Paths`, computed. Each job has a value. A pass over the pairs raises each successor's value to its job's value
+-- plus duration, where it is less; as many passes as there are jobs reach the longest chains, unless there is a cycle (proofs/Longest.antt,
+-- proofs/Cycles.antt).
+use Prim.Native.Nat.{ℕ, zero, suc, _+_, _≤_}
 use mathlib.Core.Bool.{Bool, cond}
 use mathlib.Core.List.{List, [], _∷_}
 use lib.Dec.{ltb}
 use lib.ListN.{set, replicate}
 use Rattle.lists.specs.Lists.{_!_}
 use Rattle.lists.specs.Tests.{every}
-use Rattle.chains.specs.Paths.{Pair}
+use Rattle.chains.specs.Paths.{Pair, Chain}
 
--- b's value raised to a's with a's duration
+-- every value is a chain's length
+abbrev pub Chained : (ℕ → ℕ → Type 0) → (ℕ → ℕ) → List ℕ → Type 0
+Chained R w v = (j : ℕ) → Chain R w j (v ! j)
+
+-- no pair raises a value any more
+abbrev pub Stable : (ℕ → ℕ → Type 0) → (ℕ → ℕ) → List ℕ → Type 0
+Stable R w v = (a b : ℕ) → R a b → v ! a + w a ≤ v ! b
+
+-- b's value raised to a's value plus duration
 unfoldable pub raise : (ℕ → ℕ) → ℕ → ℕ → List ℕ → List ℕ
 raise w a b v = cond (ltb (v ! b) (v ! a + w a)) (set v b (v ! a + w a)) v
 
@@ -19,6 +28,7 @@ unfolding raise
 pass w [] v = v
 pass w (x ∷ ps) v = pass w ps (raise w (x .job) (x .successor) v)
 
+-- so many passes
 unfoldable pub passes : (ℕ → ℕ) → List Pair → ℕ → List ℕ → List ℕ
 unfolding pass
 passes w ps zero v = v

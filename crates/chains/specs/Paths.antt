@@ -1,15 +1,17 @@
--- Precedences, paths along them, chains and cycles (document 02, Item 1, over 002, section 4). R a b says that job a comes before job b; w gives
--- each job's duration.
+-- Precedences, paths along them, chains and cycles (document 02, Item 1, over 002, section 4). R a b says that job a comes before job b; w gives each
+-- job's duration.
 use Prim.Native.Nat.{ℕ, _+_, _≤_, _<_}
 use mathlib.Core.Path.{_≡_}
 use mathlib.Core.List.{List, [], _∷_}
 use mathlib.Core.Logic.{_⊎_}
+use Rattle.lists.specs.Lists.{_!_}
 
 -- a job and one of its successors
 pub record Pair : Type 0 where
   pub job : ℕ
   pub successor : ℕ
 
+-- job a and its successor b
 abbrev pub pair : ℕ → ℕ → Pair
 pair a b = record { job = a; successor = b }
 
@@ -18,11 +20,19 @@ abbrev pub Precedes : List Pair → ℕ → ℕ → Type 0
 Precedes [] a b = ⊥
 Precedes (x ∷ ps) a b = ((x .job ≡ a) × (x .successor ≡ b)) ⊎ Precedes ps a b
 
+-- a and b stand at one of the first `count` places of two lists, jobs and successors
+abbrev pub Listed : List ℕ → List ℕ → ℕ → ℕ → ℕ → Type 0
+Listed jobs successors count a b = (i : ℕ) × (i < count) × (jobs ! i ≡ a) × (successors ! i ≡ b)
+
 -- R speaks of jobs below n alone
 abbrev pub Below : ℕ → (ℕ → ℕ → Type 0) → Type 0
 Below n R = (a b : ℕ) → R a b → (a < n) × (b < n)
 
--- a path from a to b along R; it has no step where b is a itself
+-- durations in a list, by job
+abbrev pub weight : List ℕ → ℕ → ℕ
+weight p j = p ! j
+
+-- a path from a to b along R, of any number of steps; of none, it stays at a
 pub data Path (R : ℕ → ℕ → Type 0) : ℕ → ℕ → Type 0 where
   here : {a : ℕ} → Path R a a
   on : {a b c : ℕ} → Path R a b → R b c → Path R a c
@@ -54,7 +64,7 @@ pub record Longest (R : ℕ → ℕ → Type 0) (w : ℕ → ℕ) (j L : ℕ) : 
 abbrev pub Back : (ℕ → ℕ → Type 0) → ℕ → ℕ → Type 0
 Back R a b = R b a
 
--- some chain of the n jobs, its last job among them, is longer than h
+-- some chain that ends with a job below n is longer than h, that job counted
 pub record Longer (R : ℕ → ℕ → Type 0) (n : ℕ) (w : ℕ → ℕ) (h : ℕ) : Type 0 where
   pub last : ℕ
   pub job : last < n

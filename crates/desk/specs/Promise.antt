@@ -7,6 +7,10 @@ pub use Rattle.journal.specs.Journal.{recordAt}
 pub use Rattle.replay.specs.Replay.{Checked, finds}
 pub use Rattle.replay.specs.Promise.{Checks}
 pub use Rattle.readhead.specs.Promise.{Overloads}
+pub use Rattle.chains.specs.Paths.{Pair, Precedes, Listed, Path, Cycle, Chain, Longest, Back, Longer}
+pub use Rattle.rows.specs.Projects.{Row, Project, pairsOf}
 pub use Rattle.rows.specs.Patterson.{patterson}
-pub use Rattle.layouts.specs.Table.{Lent, Answered}
-pub use Rattle.layouts.specs.Promise.{Respects, Reads}
+pub use Rattle.layouts.specs.Calls.{Lent, TextCall, TextAfter}
+pub use Rattle.layouts.specs.Tests.{Fits, Unfit, Refusal}
+pub use Rattle.layouts.specs.Table.{Filled, Taken, Answered}
+pub use Rattle.layouts.specs.Promise.{Written, Respects, Reads}

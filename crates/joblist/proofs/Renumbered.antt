@@ -5,18 +5,16 @@ use native.Mathlib.Decide.{decLt}
 use mathlib.Core.Path.{_≡_, refl, sym, ap, _∙_}
 use mathlib.Core.List.{List, [], _∷_, _++_}
 use mathlib.Core.Logic.{inl, inr}
-use lib.ListN.{length, List·getD-eq-default}
+use lib.ListN.{length}
 use Rattle.lists.specs.Lists.{_!_, Every}
 use Rattle.lists.specs.Turns.{Turn, SameList}
+use Rattle.lists.proofs.Lists.{beyond}
 use Rattle.narrowing.specs.Windows.{Win, Long}
 use Rattle.narrowing.specs.Renumbered.{SameWin}
 use Rattle.joblist.specs.Limits.{Column, jobs, fourLists, threeLists, supply}
 use Rattle.joblist.specs.GoodList.{Sized, Within, Above, Any, TooShort, Given, refusal}
 use Rattle.joblist.specs.Renumbered.{SameColumn, SameColumns}
 use Rattle.joblist.proofs.Refusals.{refusal-exactly}
-
-beyond : (xs : List ℕ) (k : ℕ) → length xs ≤ k → xs ! k ≡ 0
-beyond xs k h = List·getD-eq-default xs 0 h
 
 module _ (n : ℕ) (π σ : ℕ → ℕ) (t : Turn n π σ) where
   sized-same : (cs ds : List Column) → SameColumns n π cs ds → Every (Sized n) cs → Every (Sized n) ds

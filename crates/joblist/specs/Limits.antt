@@ -1,4 +1,4 @@
--- The limits of document 01, 'Job lists', each in this one place; and lists with the limit of their numbers.
+-- The limits of document 01, 'Job lists', and of document 02, each in this one place; and lists with the limit of their numbers.
 use Prim.Native.Nat.{ℕ}
 use mathlib.Core.List.{List, [], _∷_}
 use lib.ListN.{length}
@@ -15,6 +15,10 @@ mostDemand = 10000
 -- jobs
 abbrev pub mostJobs : ℕ
 mostJobs = 256
+
+-- resources of a project
+abbrev pub mostResources : ℕ
+mostResources = 8
 
 -- a list with the limit of its numbers
 pub record Column : Type 0 where

@@ -21,6 +21,9 @@ pub const TIME: u32 = 1_000_000;
 // The greatest demand and the greatest capacity.
 pub const DRAW: u32 = 10_000;
 
+// The most resources that a project may name.
+pub const RESOURCES: u32 = 8;
+
 fn larger(a: u32, b: u32) -> u32
     ensures { λ r. ⌜ r ≡ pick (leb a b) b a ⌝ }
 {

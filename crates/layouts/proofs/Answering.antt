@@ -9,27 +9,28 @@ use lib.Seq.{getD-take, length-take-le}
 use Rattle.lists.specs.Lists.{_!_}
 use Rattle.answers.specs.Said.{Word, said}
 use Rattle.joblist.specs.Limits.{mostTime, mostJobs}
-use Rattle.chains.specs.Paths.{Longest, Longer, Back}
+use Rattle.chains.specs.Paths.{Longest, Longer, Back, weight}
 use Rattle.chains.proofs.Chains.{chain-map}
 use Rattle.texts.specs.Readings.{Read, bad, good}
 use Rattle.rows.specs.Projects.{Project, pairsOf}
 use Rattle.rows.specs.Patterson.{patterson}
 use Rattle.rows.proofs.Limits.{patterson-codes}
 use Rattle.rows.proofs.Takes.{OfText}
-use Rattle.order.specs.Rounds.{weight}
 use Rattle.order.specs.Chains.{OrderSays}
 use Rattle.order.specs.Pairs.{comes, first}
 use Rattle.layouts.specs.declared.parts.Shape.{Shape}
-use Rattle.layouts.specs.Table.{Lent, Call, After, Order, durationOf, Fits, Met, Refusal, Answered}
-use Rattle.layouts.specs.Parts.{Parsing, Roomy, Lessened, Wrote}
+use Rattle.layouts.specs.Calls.{Lent, TextCall, TextAfter, Order, durationOf}
+use Rattle.layouts.specs.Tests.{Fitting, Misfit, Fits, Unfit, Met, Refusal}
+use Rattle.layouts.specs.Table.{Answered}
+use Rattle.layouts.specs.Parts.{Parsing, Lessened, Wrote}
 use Rattle.layouts.proofs.Tests.{none-tested, refusal-of}
 
 -- a call on a text of the Patterson layout
-abbrev pub asked : List ℕ → ℕ → ℕ → Lent → Call
+abbrev pub asked : List ℕ → ℕ → ℕ → Lent → TextCall
 asked s res h L = record { text = patterson s; resource = res; horizon = h; lent = L }
 
 -- a refusal, every lent word as it was
-abbrev pub refused : Lent → ℕ → After
+abbrev pub refused : Lent → ℕ → TextAfter
 refused L k = record { says = said Word.refused (k ∷ []); lent = L }
 
 longest-weights : (R : ℕ → ℕ → Type 0) (w u : ℕ → ℕ) → ((a b : ℕ) → R a b → w a ≡ u a) → {j L : ℕ} → Longest R w j L → Longest R u j L
@@ -63,27 +64,16 @@ module _ (s : List ℕ) (res h : ℕ) (L : Lent) where
       duration-at j b = sym (getD-take (z .n) durs j 0 b) ∙ ap (λ (l : List ℕ). l ! j) (sym (p .durs-are))
 
       abbrev Room : Type 0
-      Room = Roomy (length (L .est)) (length (L .lct)) (length (L .dur)) (length (L .dem)) (length (L .jobs)) (length (L .successors)) (z .n) (z .pairs)
+      Room = Fitting (z .n) (z .pairs) (length (L .est)) (length (L .lct)) (length (L .dur)) (length (L .dem)) (length (L .jobs)) (length (L .successors))
+
+      abbrev Short : Type 0
+      Short = Misfit (z .n) (z .pairs) (length (L .est)) (length (L .lct)) (length (L .dur)) (length (L .dem)) (length (L .jobs)) (length (L .successors))
 
       fits-of : Room → Fits x L
-      fits-of r = record {
-        est = r .est ∙ sym (p .jobs);
-        lct = r .lct ∙ sym (p .jobs);
-        dur = r .dur ∙ sym (p .jobs);
-        dem = r .dem ∙ sym (p .jobs);
-        jobs = omega (arith, r .jobs, p .count);
-        successors = omega (arith, r .successors, p .count);
-      }
+      fits-of r = rw (p .jobs, p .count) r
 
-      of-fits : Fits x L → Room
-      of-fits t = record {
-        est = t .est ∙ p .jobs;
-        lct = t .lct ∙ p .jobs;
-        dur = t .dur ∙ p .jobs;
-        dem = t .dem ∙ p .jobs;
-        jobs = omega (arith, t .jobs, p .count);
-        successors = omega (arith, t .successors, p .count);
-      }
+      unfit-of : Short → Unfit x L
+      unfit-of r = rw (p .jobs, p .count) r
 
       longer-out : Longer (Order x) (z .n) (weight durs) h → Longer (Order x) (length (x .rows)) (durationOf x) h
       longer-out l = record {
@@ -109,8 +99,8 @@ module _ (s : List ℕ) (res h : ℕ) (L : Lent) where
         pick : res < length (x .capacities)
         pick = omega (arith, p .resources)
 
-        pub no-room : (Room → ⊥) → Answered (asked s res h L) (refused L 38)
-        no-room f = answer 37 (refusal-of (asked s res h L) x [] e 38 near (inr (pick, inl ((λ t. f (of-fits t)), refl))))
+        pub no-room : Short → Answered (asked s res h L) (refused L 38)
+        no-room f = answer 37 (refusal-of (asked s res h L) x [] e 38 near (inr (pick, inl (unfit-of f, refl))))
 
         module _ (r : Room) (heads tails : List ℕ) where
           pub no-order : (c : ℕ) → (c ≡ 0 → ⊥) → OrderSays (pairsOf x) (z .n) durs h heads tails c → Answered (asked s res h L) (refused L c)

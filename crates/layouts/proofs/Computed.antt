@@ -18,7 +18,7 @@ use Rattle.chains.specs.Paths.{Pair, Precedes, Below, Cycle, Longest, Longer, B
 use Rattle.chains.specs.Passes.{longest, acyclic?}
 use Rattle.chains.proofs.Chains.{chain-map}
 use Rattle.chains.proofs.Longest.{longest-chained, longest-is}
-use Rattle.chains.proofs.Cycles.{judged-acyclic}
+use Rattle.chains.proofs.Cycles.{judged-acyclic, cycle-back, cycle-map}
 use Rattle.texts.specs.Readings.{good}
 use Rattle.rows.specs.Projects.{Project, pairsOf, durations, demandsOn}
 use Rattle.rows.specs.Patterson.{patterson}
@@ -26,7 +26,8 @@ use Rattle.rows.proofs.Limits.{patterson-takes}
 use Rattle.order.specs.Rounds.{turned}
 use Rattle.order.proofs.Orders.{back-of, of-back}
 use Rattle.order.proofs.Settling.{below-turned}
-use Rattle.layouts.specs.Table.{Lent, After, Order, durationOf, Fits, Tested}
+use Rattle.layouts.specs.Calls.{Lent, TextAfter, Order, durationOf}
+use Rattle.layouts.specs.Tests.{Fits, Tested}
 use Rattle.layouts.specs.Promise.{Reads}
 use Rattle.layouts.proofs.Tests.{refusal-of, none-tested}
 use Rattle.layouts.proofs.Answering.{asked, refused}
@@ -39,9 +40,9 @@ heads x = longest (durationOf x) (pairsOf x) (length (x .rows))
 abbrev pub tails : Project → List ℕ
 tails x = longest (durationOf x) (turned true (pairsOf x)) (length (x .rows))
 
--- no cycle among pairs
-abbrev pub calm? : Project → List Pair → Bool
-calm? x ps = acyclic? ps (length (x .rows))
+-- there is no cycle
+abbrev pub calm? : Project → Bool
+calm? x = acyclic? (pairsOf x) (length (x .rows))
 
 -- no chain is longer than h
 abbrev pub short? : Project → ℕ → Bool
@@ -51,7 +52,7 @@ short? x h = every (λ j. leb (heads x ! j + durationOf x j) h) (length (x .rows
 abbrev pub ends? : Project → ℕ → List ℕ → Bool
 ends? x h lct = every (λ j. eqb (lct ! j + tails x ! j) h) (length (x .rows))
 
-module _ (s : List ℕ) (x : Project) (e : patterson s ≡ good x []) (res h : ℕ) (L : Lent) (near : h ≤ mostTime) (a : After) (r : Reads (asked s res h L) a) where
+module _ (s : List ℕ) (x : Project) (e : patterson s ≡ good x []) (res h : ℕ) (L : Lent) (near : h ≤ mostTime) (a : TextAfter) (r : Reads (asked s res h L) a) where
   range : Below (length (x .rows)) (Order x)
   range = patterson-takes s [] x e .within .range
 
@@ -61,10 +62,10 @@ module _ (s : List ℕ) (x : Project) (e : patterson s ≡ good x []) (res h : �
       answered-one (asked s res h L) a (refused L (suc k)) (r .answered) (record { number = suc k; refusal = refusal-of (asked s res h L) x [] e (suc k) near t; leaves = refl })
 
   module _ (chosen : res < length (x .capacities)) (fits : Fits x L) where
-    pub by-33 : calm? x (pairsOf x) ≡ false → a ≡ refused L 33
+    pub by-33 : calm? x ≡ false → a ≡ refused L 33
     by-33 q = by-number 32 (inr (chosen, inr (fits, inl (judged-acyclic (pairsOf x) (length (x .rows)) range .failed q, refl))))
 
-    module _ (calm : calm? x (pairsOf x) ≡ true) where
+    module _ (calm : calm? x ≡ true) where
       no-cycle : Cycle (Order x) → ⊥
       no-cycle = judged-acyclic (pairsOf x) (length (x .rows)) range .passed calm
 
@@ -75,58 +76,60 @@ module _ (s : List ℕ) (x : Project) (e : patterson s ≡ good x []) (res h : �
       head-is : (j : ℕ) → j < length (x .rows) → Longest (Order x) (durationOf x) j (heads x ! j)
       head-is = longest-is (durationOf x) (pairsOf x) (length (x .rows)) range no-cycle
 
-      module _ (back : calm? x (turned true (pairsOf x)) ≡ true) where
-        turned-range : Below (length (x .rows)) (Precedes (turned true (pairsOf x)))
-        turned-range = below-turned true (pairsOf x) (length (x .rows)) range
+      turned-range : Below (length (x .rows)) (Precedes (turned true (pairsOf x)))
+      turned-range = below-turned true (pairsOf x) (length (x .rows)) range
 
-        tail-is : (j : ℕ) → j < length (x .rows) → Longest (Back (Order x)) (durationOf x) j (tails x ! j)
-        tail-is j b =
-            let t = longest-is (durationOf x) (turned true (pairsOf x)) (length (x .rows)) turned-range (judged-acyclic (turned true (pairsOf x)) (length (x .rows)) turned-range .passed back) j b in
-            record {
-              one = chain-map (Precedes (turned true (pairsOf x))) (Back (Order x)) (durationOf x) (durationOf x) (λ p q d. (back-of (pairsOf x) p q d, refl)) (t .one);
-              most = λ M c. t .most M (chain-map (Back (Order x)) (Precedes (turned true (pairsOf x))) (durationOf x) (durationOf x) (λ p q d. (of-back (pairsOf x) p q d, refl)) c);
-            }
+      no-turned : Cycle (Precedes (turned true (pairsOf x))) → ⊥
+      no-turned c = no-cycle (cycle-back (Order x) (cycle-map (Precedes (turned true (pairsOf x))) (Back (Order x)) (back-of (pairsOf x)) c))
 
-        -- the text is read, and the lists are those computed
-        pub by-reading : short? x h ≡ true → (lct : List ℕ) → length lct ≡ length (x .rows) → ends? x h lct ≡ true → length (heads x) ≡ length (x .rows)
-            → a ≡ record {
-              says = said Word.read (x .capacities ! res ∷ length (pairsOf x) ∷ []);
-              lent = record {
-                est = heads x;
-                lct = lct;
-                dur = durations (x .rows);
-                dem = demandsOn res (x .rows);
-                jobs = map (λ (p : Pair). p .job) (pairsOf x) ++ drop (length (pairsOf x)) (L .jobs);
-                successors = map (λ (p : Pair). p .successor) (pairsOf x) ++ drop (length (pairsOf x)) (L .successors);
+      tail-is : (j : ℕ) → j < length (x .rows) → Longest (Back (Order x)) (durationOf x) j (tails x ! j)
+      tail-is j b =
+          let t = longest-is (durationOf x) (turned true (pairsOf x)) (length (x .rows)) turned-range no-turned j b in
+          record {
+            one = chain-map (Precedes (turned true (pairsOf x))) (Back (Order x)) (durationOf x) (durationOf x) (λ p q d. (back-of (pairsOf x) p q d, refl)) (t .one);
+            most = λ M c. t .most M (chain-map (Back (Order x)) (Precedes (turned true (pairsOf x))) (durationOf x) (durationOf x) (λ p q d. (of-back (pairsOf x) p q d, refl)) c);
+          }
+
+      -- the text is read, and the lists are those computed
+      pub by-reading : short? x h ≡ true → (lct : List ℕ) → length lct ≡ length (x .rows) → ends? x h lct ≡ true → length (heads x) ≡ length (x .rows)
+          → a ≡ record {
+            says = said Word.read (x .capacities ! res ∷ length (pairsOf x) ∷ []);
+            lent = record {
+              est = heads x;
+              lct = lct;
+              dur = durations (x .rows);
+              dem = demandsOn res (x .rows);
+              jobs = map (λ (p : Pair). p .job) (pairsOf x) ++ drop (length (pairsOf x)) (L .jobs);
+              successors = map (λ (p : Pair). p .successor) (pairsOf x) ++ drop (length (pairsOf x)) (L .successors);
+            };
+          }
+      by-reading short lct long ends l =
+          answered-one (asked s res h L) a _ (r .answered) (record {
+            number = 0;
+            refusal = refusal-of (asked s res h L) x [] e 0 near (none-tested x res h L (record { chosen = chosen; fits = fits; acyclic = no-cycle; short = no-longer }));
+            leaves = record {
+              x = x;
+              rest = [];
+              text = e;
+              says = refl;
+              filled = record {
+                est-long = l;
+                lct-long = long;
+                est = head-is;
+                lct = λ j b. (tails x ! j, tail-is j b, eqb-true (lct ! j + tails x ! j) h (every-at (λ i. eqb (lct ! i + tails x ! i) h) (length (x .rows)) ends j b));
+                dur = refl;
+                dem = refl;
+                jobs = refl;
+                successors = refl;
               };
-            }
-        by-reading short lct long ends l =
-            answered-one (asked s res h L) a _ (r .answered) (record {
-              number = 0;
-              refusal = refusal-of (asked s res h L) x [] e 0 near (none-tested x res h L (record { chosen = chosen; fits = fits; acyclic = no-cycle; short = no-longer }));
-              leaves = record {
-                x = x;
-                rest = [];
-                text = e;
-                says = refl;
-                filled = record {
-                  est-long = l;
-                  lct-long = long;
-                  est = head-is;
-                  lct = λ j b. (tails x ! j, tail-is j b, eqb-true (lct ! j + tails x ! j) h (every-at (λ i. eqb (lct ! i + tails x ! i) h) (length (x .rows)) ends j b));
-                  dur = refl;
-                  dem = refl;
-                  jobs = refl;
-                  successors = refl;
-                };
-              };
-            })
-          where
-            no-longer : Longer (Order x) (length (x .rows)) (durationOf x) h → ⊥
-            no-longer t =
-                omega (
-                  arith,
-                  head-is (t .last) (t .job) .most (t .before) (t .chain),
-                  leb-true (heads x ! (t .last) + durationOf x (t .last)) h (every-at (λ i. leb (heads x ! i + durationOf x i) h) (length (x .rows)) short (t .last) (t .job)),
-                  t .over,
-                )
+            };
+          })
+        where
+          no-longer : Longer (Order x) (length (x .rows)) (durationOf x) h → ⊥
+          no-longer t =
+              omega (
+                arith,
+                head-is (t .last) (t .job) .most (t .before) (t .chain),
+                leb-true (heads x ! (t .last) + durationOf x (t .last)) h (every-at (λ i. leb (heads x ! i + durationOf x i) h) (length (x .rows)) short (t .last) (t .job)),
+                t .over,
+              )

@@ -4,14 +4,13 @@ use native.Mathlib.Omega.{arith}
 use native.Mathlib.Numerals.{add-one}
 use native.Mathlib.Decide.{ℕ-discrete}
 use mathlib.Core.Path.{_≡_, refl, sym, ap, _∙_}
-use mathlib.Core.List.{List, [], _∷_, _++_, map, append-assoc}
+use mathlib.Core.List.{List, [], _∷_, _++_, map, append-assoc, append-nil}
 use lib.ListN.{length, drop, set, length-append, length-set, length-map}
 use lib.Seq.{drop-cons, set-at, getD-set-same, getD-set-other}
 use Rattle.lists.specs.Lists.{_!_}
 use Rattle.chains.specs.Paths.{Pair, pair}
 use Rattle.texts.specs.Tokens.{Token}
 use Rattle.texts.specs.Readings.{Read, good}
-use Rattle.texts.proofs.Readings.{append-nil}
 use Rattle.rows.specs.declared.Walk.{Walk}
 use Rattle.rows.specs.Walk.{Fit}
 use Rattle.order.specs.Pairs.{comes, first, PullSays}

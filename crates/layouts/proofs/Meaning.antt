@@ -1,13 +1,13 @@
--- From the answer table to the base: the lists that were filled are good lists, and every choice of start times that respects the pairs and the
--- horizon lies within the windows.
+-- From the answer table to the base: the lists that were filled are good lists, the pairs in them are those of the text, and every choice of start times
+-- that respects the pairs and the horizon lies within the windows.
 use Prim.Native.Nat.{ℕ, zero, suc, _+_, _≤_, _<_}
 use native.Mathlib.Omega.{arith}
-use native.Mathlib.Decide.{decLt}
 use mathlib.Core.Path.{_≡_, refl, sym, ap, _∙_, subst}
-use mathlib.Core.List.{List, [], _∷_, _++_, map}
+use mathlib.Core.List.{List, [], _∷_, map}
 use mathlib.Core.Logic.{inl, inr}
-use lib.ListN.{length, length-map, List·getD-eq-default}
+use lib.ListN.{length, length-map}
 use Rattle.lists.specs.Lists.{_!_}
+use Rattle.lists.proofs.Lists.{everywhere, front-at}
 use Rattle.lists.proofs.Tests.{by-contra}
 use Rattle.answers.specs.Said.{Word, Said}
 use Rattle.answers.proofs.Same.{not-said}
@@ -15,27 +15,19 @@ use Rattle.narrowing.specs.Windows.{Long}
 use Rattle.narrowing.specs.Schedules.{Schedule}
 use Rattle.joblist.specs.Limits.{mostTime, mostDemand, fourLists, supply}
 use Rattle.joblist.specs.GoodList.{GoodList}
-use Rattle.chains.specs.Paths.{Pair, Precedes, Below, Back}
-use Rattle.chains.proofs.Chains.{Stable, stable-most, stable-after, chain-on, chain-starts}
+use Rattle.chains.specs.Paths.{Pair, Precedes, Below, Cycle, Back}
+use Rattle.chains.specs.Passes.{Stable}
+use Rattle.chains.proofs.Cycles.{cycle-map}
+use Rattle.chains.proofs.Chains.{stable-most, stable-after, chain-on, chain-starts}
 use Rattle.texts.specs.Tokens.{Token}
 use Rattle.texts.specs.Readings.{good}
 use Rattle.rows.specs.Projects.{Row, Project, pairsOf, durations, demandsOn}
 use Rattle.rows.proofs.Limits.{Within}
-use Rattle.layouts.specs.Table.{Lent, Call, After, Order, durationOf, Filled, Taken, Leaves, Answered, Refusal}
-use Rattle.layouts.specs.Promise.{windows, Respects, Reads}
+use Rattle.layouts.specs.Calls.{Lent, TextCall, TextAfter, Order, durationOf}
+use Rattle.layouts.specs.Tests.{Refusal}
+use Rattle.layouts.specs.Table.{Filled, Taken, Leaves, Answered}
+use Rattle.layouts.specs.Promise.{windows, Written, Respects, Reads}
 use Rattle.layouts.proofs.Tests.{Passed, refusal-none}
-
-beyond : (xs : List ℕ) (k : ℕ) → length xs ≤ k → xs ! k ≡ 0
-beyond xs k h = List·getD-eq-default xs 0 h
-
--- a number limited below the length is limited everywhere
-everywhere : (xs : List ℕ) (n m : ℕ) → length xs ≡ n → ((j : ℕ) → j < n → xs ! j ≤ m) → (j : ℕ) → xs ! j ≤ m
-everywhere xs n m e f j = elim (decLt j n) [ yes h ↦ f j h | no h ↦ omega (arith, beyond xs j (omega arith)) ]
-
-front-at : (xs ys : List ℕ) (i : ℕ) → i < length xs → (xs ++ ys) ! i ≡ xs ! i
-front-at [] ys i h = absurd (omega arith)
-front-at (x ∷ xs) ys zero h = refl
-front-at (x ∷ xs) ys (suc i) h = front-at xs ys i (omega arith)
 
 -- a pair's place
 pub pair-place : (ps : List Pair) (a b : ℕ) → Precedes ps a b
@@ -43,6 +35,12 @@ pub pair-place : (ps : List Pair) (a b : ℕ) → Precedes ps a b
 pair-place [] a b r = absurd r
 pair-place (x ∷ ps) a b (inl e) = (0, omega arith, e .0, e .1)
 pair-place (x ∷ ps) a b (inr r) = let q = pair-place ps a b r in (suc (q .0), omega (arith, q .1), q .2, q .3)
+
+-- and what stands at a place
+place-pair : (ps : List Pair) (a b i : ℕ) → i < length ps → map (λ (p : Pair). p .job) ps ! i ≡ a → map (λ (p : Pair). p .successor) ps ! i ≡ b → Precedes ps a b
+place-pair [] a b i h p q = absurd (omega arith)
+place-pair (x ∷ ps) a b zero h p q = inl (p, q)
+place-pair (x ∷ ps) a b (suc i) h p q = inr (place-pair ps a b i (omega arith) p q)
 
 -- ---- a text that was read
 
@@ -101,18 +99,29 @@ module _ (x : Project) (resource horizon : ℕ) (L K : Lent) (limits : Within x)
       capped zero = limits .capacities resource
       capped (suc k) = omega arith
 
+  -- ---- the pairs that are written are those of the text
+
+  jobs-at : (i : ℕ) → i < length (pairsOf x) → K .jobs ! i ≡ map (λ (p : Pair). p .job) (pairsOf x) ! i
+  jobs-at i b = ap (λ (l : List ℕ). l ! i) (f .jobs) ∙ front-at (map (λ (p : Pair). p .job) (pairsOf x)) _ i (omega (arith, length-map (pairsOf x) (λ (p : Pair). p .job)))
+
+  successors-at : (i : ℕ) → i < length (pairsOf x) → K .successors ! i ≡ map (λ (p : Pair). p .successor) (pairsOf x) ! i
+  successors-at i b = ap (λ (l : List ℕ). l ! i) (f .successors) ∙ front-at (map (λ (p : Pair). p .successor) (pairsOf x)) _ i (omega (arith, length-map (pairsOf x) (λ (p : Pair). p .successor)))
+
+  written : (a b : ℕ) → Order x a b → Written K (length (pairsOf x)) a b
+  written a b r = let q = pair-place (pairsOf x) a b r in (q .0, q .1, jobs-at (q .0) (q .1) ∙ q .2, successors-at (q .0) (q .1) ∙ q .3)
+
+  of-written : (a b : ℕ) → Written K (length (pairsOf x)) a b → Order x a b
+  of-written a b (i, h, p, q) = place-pair (pairsOf x) a b i h (sym (jobs-at i h) ∙ p) (sym (successors-at i h) ∙ q)
+
+  pub filled-ordered : Below (length (K .dur)) (Written K (length (pairsOf x))) × (Cycle (Written K (length (pairsOf x))) → ⊥)
+  filled-ordered = (
+    (λ a b r. rw dur-long (limits .range a b (of-written a b r))),
+    (λ c. passed .acyclic (cycle-map (Written K (length (pairsOf x))) (Order x) of-written c)),
+  )
+
   module _ (s : List ℕ) (t : Respects K (length (pairsOf x)) horizon s) where
     starts-stable : Stable (Order x) w s
-    starts-stable a b r =
-        let q = pair-place (pairsOf x) a b r in
-        let j : K .jobs ! (q .0) ≡ a =
-        ap (λ (l : List ℕ). l ! (q .0)) (f .jobs) ∙ front-at (map (λ (p : Pair). p .job) (pairsOf x)) _ (q .0) (omega (arith, q .1, length-map (pairsOf x) (λ (p : Pair). p .job))) ∙ q .2 in
-        let k : K .successors ! (q .0) ≡ b =
-        ap (λ (l : List ℕ). l ! (q .0)) (f .successors) ∙ front-at (map (λ (p : Pair). p .successor) (pairsOf x)) _ (q .0) (omega (arith, q .1, length-map (pairsOf x) (λ (p : Pair). p .successor))) ∙ q .3 in
-        omega (arith, moved (K .jobs ! (q .0)) a (K .successors ! (q .0)) b j k (t .pairs (q .0) (q .1)), dur-at a)
-      where
-        moved : (i a k b : ℕ) → i ≡ a → k ≡ b → s ! i + K .dur ! i ≤ s ! k → s ! a + K .dur ! a ≤ s ! b
-        moved i a k b e g h = rw (← e, ← g) h
+    starts-stable a b r = omega (arith, t .pairs a b (written a b r), dur-at a)
 
     starts-end : (j : ℕ) → j < length (x .rows) → s ! j + w j ≤ horizon
     starts-end j b = omega (arith, t .ends j (omega (arith, dur-long)), dur-at j)
@@ -126,14 +135,14 @@ module _ (x : Project) (resource horizon : ℕ) (L K : Lent) (limits : Within x)
 
 -- ---- of any call whose layout keeps to the limits
 
-module _ (c : Call) (limits : (x : Project) (rest : List Token) → c .text ≡ good x rest → Within x) (a : After) where
+module _ (c : TextCall) (limits : (x : Project) (rest : List Token) → c .text ≡ good x rest → Within x) (a : TextAfter) where
   -- an answer that says `read` is of a text that was read
   read-taken : Answered c a → a .says .word ≡ Word.read → Taken c a × Refusal c 0
   read-taken r e = go (r .number) (r .refusal) (r .leaves)
     where
       go : (k : ℕ) → Refusal c k → Leaves c a k → Taken c a × Refusal c 0
       go zero t l = (l, t)
-      go (suc k) t l = absurd (not-said Word.refused Word.read (λ z. omega arith) (sym (ap (λ (y : After). y .says .word) l) ∙ e))
+      go (suc k) t l = absurd (not-said Word.refused Word.read (λ z. omega arith) (sym (ap (λ (y : TextAfter). y .says .word) l) ∙ e))
 
   pub reads-of : Answered c a → Reads c a
   reads-of r = record {
@@ -145,6 +154,13 @@ module _ (c : Call) (limits : (x : Project) (rest : List Token) → c .text ≡ 
         subst (λ (m : ℕ). GoodList (windows (a .lent)) (a .lent .dur) (fourLists (windows (a .lent)) (a .lent .dur) (a .lent .dem)) (supply m))
         (sym (ap (λ (z : Said). z .numbers ! 0) (y .says)))
         (filled-good (y .x) (c .resource) (c .horizon) (c .lent) (a .lent) (limits (y .x) (y .rest) (y .text)) (n .0) (n .1) (y .filled));
+    ordered = λ e.
+        let t = read-taken r e in
+        let y = t .0 in
+        let n = refusal-none c (y .x) (y .rest) (y .text) (t .1) in
+        subst (λ (m : ℕ). Below (length (a .lent .dur)) (Written (a .lent) m) × (Cycle (Written (a .lent) m) → ⊥))
+        (sym (ap (λ (z : Said). z .numbers ! 1) (y .says)))
+        (filled-ordered (y .x) (c .resource) (c .horizon) (c .lent) (a .lent) (limits (y .x) (y .rest) (y .text)) (n .0) (n .1) (y .filled));
     kept = λ e s.
         let t = read-taken r e in
         let y = t .0 in

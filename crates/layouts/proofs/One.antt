@@ -13,7 +13,8 @@ use Rattle.chains.specs.Paths.{Back}
 use Rattle.chains.proofs.Chains.{longest-unique}
 use Rattle.texts.proofs.Readings.{good-one}
 use Rattle.rows.specs.Projects.{Project, pairsOf}
-use Rattle.layouts.specs.Table.{Lent, Call, After, Order, durationOf, Filled, Taken, Leaves, Answered}
+use Rattle.layouts.specs.Calls.{Lent, TextCall, TextAfter, Order, durationOf}
+use Rattle.layouts.specs.Table.{Filled, Taken, Leaves, Answered}
 use Rattle.layouts.specs.Promise.{Reads}
 use Rattle.layouts.proofs.Tests.{refusal-one}
 
@@ -49,28 +50,28 @@ module _ (x : Project) (resource horizon : ℕ) (L A B : Lent) (f : Filled x res
           ∙ ap (λ (l : List ℕ). lists (B .est) (B .lct) (B .dur) (B .dem) l (A .successors)) e₅
           ∙ ap (λ (l : List ℕ). lists (B .est) (B .lct) (B .dur) (B .dem) (B .jobs) l) e₆
 
-taken-one : (c : Call) (a b : After) → Taken c a → Taken c b → a ≡ b
+taken-one : (c : TextCall) (a b : TextAfter) → Taken c a → Taken c b → a ≡ b
 taken-one c a b t u =
     let e : u .x ≡ t .x = good-one (c .text) (u .x) (t .x) (u .rest) (t .rest) (u .text) (t .text) .0 in
     let s : a .says ≡ b .says = t .says ∙ ap (λ (y : Project). said Word.read (y .capacities ! c .resource ∷ length (pairsOf y) ∷ [])) (sym e) ∙ sym (u .says) in
     let l : a .lent ≡ b .lent = filled-one (t .x) (c .resource) (c .horizon) (c .lent) (a .lent) (b .lent) (t .filled) (subst (λ (y : Project). Filled y (c .resource) (c .horizon) (c .lent) (b .lent)) e (u .filled)) in
     after-same a b s l
   where
-    after-same : (a b : After) → a .says ≡ b .says → a .lent ≡ b .lent → a ≡ b
+    after-same : (a b : TextAfter) → a .says ≡ b .says → a .lent ≡ b .lent → a ≡ b
     after-same a b p q = ap (λ (s : Said). record { says = s; lent = a .lent }) p ∙ ap (λ (l : Lent). record { says = b .says; lent = l }) q
 
-pub answered-one : (c : Call) (a b : After) → Answered c a → Answered c b → a ≡ b
+pub answered-one : (c : TextCall) (a b : TextAfter) → Answered c a → Answered c b → a ≡ b
 answered-one c a b p q = go (p .number) (p .leaves) (subst (Leaves c b) (sym (refusal-one c (p .number) (q .number) (p .refusal) (q .refusal))) (q .leaves))
   where
     go : (k : ℕ) → Leaves c a k → Leaves c b k → a ≡ b
     go zero l m = taken-one c a b l m
     go (suc k) l m = l ∙ sym m
 
-pub reads-one : (c : Call) (a b : After) → Reads c a → Reads c b → a ≡ b
+pub reads-one : (c : TextCall) (a b : TextAfter) → Reads c a → Reads c b → a ≡ b
 reads-one c a b p q = answered-one c a b (p .answered) (q .answered)
 
 -- two results and the lists that they leave
-pub results-one : (c : Call) (r s : ReadAnswer) (A B : Lent) → Reads c (record { says = saysRead r; lent = A }) → Reads c (record { says = saysRead s; lent = B }) → (r ≡ s) × (A ≡ B)
+pub results-one : (c : TextCall) (r s : ReadAnswer) (A B : Lent) → Reads c (record { says = saysRead r; lent = A }) → Reads c (record { says = saysRead s; lent = B }) → (r ≡ s) × (A ≡ B)
 results-one c r s A B p q =
     let e = reads-one c (record { says = saysRead r; lent = A }) (record { says = saysRead s; lent = B }) p q in
-    (read-same r s (ap (λ (y : After). y .says) e), ap (λ (y : After). y .lent) e)
+    (read-same r s (ap (λ (y : TextAfter). y .says) e), ap (λ (y : TextAfter). y .lent) e)

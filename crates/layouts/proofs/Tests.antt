@@ -6,11 +6,12 @@ use mathlib.Core.List.{List}
 use mathlib.Core.Logic.{inl, inr}
 use lib.ListN.{length}
 use Rattle.joblist.specs.Limits.{mostTime}
-use Rattle.chains.specs.Paths.{Cycle, Longer}
+use Rattle.chains.specs.Paths.{Cycle}
 use Rattle.texts.specs.Tokens.{Token}
 use Rattle.texts.specs.Readings.{Read, bad, good}
-use Rattle.rows.specs.Projects.{Project}
-use Rattle.layouts.specs.Table.{Lent, Call, Order, durationOf, Fits, Unless, None, Tested, Met, Refusal}
+use Rattle.rows.specs.Projects.{Project, pairsOf}
+use Rattle.layouts.specs.Calls.{Lent, TextCall, Order}
+use Rattle.layouts.specs.Tests.{Fitting, Misfit, Fits, Unfit, TooLong, Unless, None, Tested, Met, Refusal}
 
 -- ---- one number alone
 
@@ -18,35 +19,43 @@ use Rattle.layouts.specs.Table.{Lent, Call, Order, durationOf, Fits, Unl
 abbrev Alone : (ℕ → Type 0) → Type 0
 Alone P = (c d : ℕ) → P c → P d → c ≡ d
 
-unless-alone : (k : ℕ) (Fact Fault : Type 0) (After : ℕ → Type 0) → (Fact → Fault → ⊥) → Alone After → Alone (Unless k Fact Fault After)
-unless-alone k Fact Fault After f g c d (inl p) (inl q) = p .1 ∙ sym (q .1)
-unless-alone k Fact Fault After f g c d (inl p) (inr q) = absurd (f (q .0) (p .0))
-unless-alone k Fact Fault After f g c d (inr p) (inl q) = absurd (f (p .0) (q .0))
-unless-alone k Fact Fault After f g c d (inr p) (inr q) = g c d (p .1) (q .1)
+unless-alone : (k : ℕ) (Fact Fault : Type 0) (Next : ℕ → Type 0) → (Fact → Fault → ⊥) → Alone Next → Alone (Unless k Fact Fault Next)
+unless-alone k Fact Fault Next f g c d (inl p) (inl q) = p .1 ∙ sym (q .1)
+unless-alone k Fact Fault Next f g c d (inl p) (inr q) = absurd (f (q .0) (p .0))
+unless-alone k Fact Fault Next f g c d (inr p) (inl q) = absurd (f (p .0) (q .0))
+unless-alone k Fact Fault Next f g c d (inr p) (inr q) = g c d (p .1) (q .1)
 
 none-alone : Alone None
 none-alone c d p q = p ∙ sym q
 
+fits-apart : (n m e l d q j s : ℕ) → Fitting n m e l d q j s → Misfit n m e l d q j s → ⊥
+fits-apart n m e l d q j s f (inl g) = g (f .est)
+fits-apart n m e l d q j s f (inr (inl g)) = g (f .lct)
+fits-apart n m e l d q j s f (inr (inr (inl g))) = g (f .dur)
+fits-apart n m e l d q j s f (inr (inr (inr (inl g)))) = g (f .dem)
+fits-apart n m e l d q j s f (inr (inr (inr (inr (inl g))))) = omega (arith, f .jobs)
+fits-apart n m e l d q j s f (inr (inr (inr (inr (inr g))))) = omega (arith, f .successors)
+
 module _ (x : Project) (resource horizon : ℕ) (L : Lent) where
+  abbrev Behind-33 : ℕ → Type 0
+  Behind-33 = Unless 34 (TooLong x horizon → ⊥) (TooLong x horizon) None
+
   abbrev Behind-38 : ℕ → Type 0
-  Behind-38 =
-      Unless 33 (Cycle (Order x) → ⊥) (Cycle (Order x))
-      (Unless 34 (Longer (Order x) (length (x .rows)) (durationOf x) horizon → ⊥) (Longer (Order x) (length (x .rows)) (durationOf x) horizon) None)
+  Behind-38 = Unless 33 (Cycle (Order x) → ⊥) (Cycle (Order x)) Behind-33
 
   tested-alone : Alone (Tested x resource horizon L)
   tested-alone =
-      unless-alone 37 (resource < length (x .capacities)) (length (x .capacities) ≤ resource) (Unless 38 (Fits x L) (Fits x L → ⊥) Behind-38) (λ f g. omega arith)
-      (unless-alone 38 (Fits x L) (Fits x L → ⊥) Behind-38 (λ f g. g f)
-      (unless-alone 33 (Cycle (Order x) → ⊥) (Cycle (Order x))
-      (Unless 34 (Longer (Order x) (length (x .rows)) (durationOf x) horizon → ⊥) (Longer (Order x) (length (x .rows)) (durationOf x) horizon) None)
-      (λ f g. f g)
-      (unless-alone 34 (Longer (Order x) (length (x .rows)) (durationOf x) horizon → ⊥) (Longer (Order x) (length (x .rows)) (durationOf x) horizon) None (λ f g. f g) none-alone)))
+      unless-alone 37 (resource < length (x .capacities)) (length (x .capacities) ≤ resource) (Unless 38 (Fits x L) (Unfit x L) Behind-38) (λ f g. omega arith)
+      (unless-alone 38 (Fits x L) (Unfit x L) Behind-38
+      (fits-apart (length (x .rows)) (length (pairsOf x)) (length (L .est)) (length (L .lct)) (length (L .dur)) (length (L .dem)) (length (L .jobs)) (length (L .successors)))
+      (unless-alone 33 (Cycle (Order x) → ⊥) (Cycle (Order x)) Behind-33 (λ f g. f g)
+      (unless-alone 34 (TooLong x horizon → ⊥) (TooLong x horizon) None (λ f g. f g) none-alone)))
 
 met-alone : (r : Read Project) (resource horizon : ℕ) (L : Lent) → Alone (Met r resource horizon L)
 met-alone (bad d) resource horizon L = λ a b p q. p ∙ sym q
 met-alone (good x rest) resource horizon L = tested-alone x resource horizon L
 
-pub refusal-one : (c : Call) (j k : ℕ) → Refusal c j → Refusal c k → j ≡ k
+pub refusal-one : (c : TextCall) (j k : ℕ) → Refusal c j → Refusal c k → j ≡ k
 refusal-one c =
     unless-alone 31 (c .horizon ≤ mostTime) (mostTime < c .horizon) (Met (c .text) (c .resource) (c .horizon) (c .lent)) (λ f g. omega arith)
     (met-alone (c .text) (c .resource) (c .horizon) (c .lent))
@@ -58,7 +67,7 @@ pub record Passed (x : Project) (resource horizon : ℕ) (L : Lent) : Type 0 whe
   pub chosen : resource < length (x .capacities)
   pub fits : Fits x L
   pub acyclic : Cycle (Order x) → ⊥
-  pub short : Longer (Order x) (length (x .rows)) (durationOf x) horizon → ⊥
+  pub short : TooLong x horizon → ⊥
 
 pub tested-none : (x : Project) (resource horizon : ℕ) (L : Lent) → Tested x resource horizon L 0 → Passed x resource horizon L
 tested-none x resource horizon L (inl p) = absurd (omega (arith, p .1))
@@ -70,14 +79,10 @@ tested-none x resource horizon L (inr (a, inr (b, inr (d, inr (e, p))))) = recor
 pub none-tested : (x : Project) (resource horizon : ℕ) (L : Lent) → Passed x resource horizon L → Tested x resource horizon L 0
 none-tested x resource horizon L p = inr (p .chosen, inr (p .fits, inr (p .acyclic, inr (p .short, refl))))
 
-module _ (c : Call) (x : Project) (rest : List Token) (e : c .text ≡ good x rest) where
+module _ (c : TextCall) (x : Project) (rest : List Token) (e : c .text ≡ good x rest) where
   -- in a call whose text says x, the tests are those of x
   pub refusal-of : (k : ℕ) → c .horizon ≤ mostTime → Tested x (c .resource) (c .horizon) (c .lent) k → Refusal c k
   refusal-of k near t = inr (near, subst (λ (r : Read Project). Met r (c .resource) (c .horizon) (c .lent) k) (sym e) t)
-
-  pub refusal-tested : (k : ℕ) → c .horizon ≤ mostTime → Refusal c k → Tested x (c .resource) (c .horizon) (c .lent) k
-  refusal-tested k near (inl p) = absurd (omega (arith, p .0))
-  refusal-tested k near (inr p) = subst (λ (r : Read Project). Met r (c .resource) (c .horizon) (c .lent) k) e (p .1)
 
   pub refusal-none : Refusal c 0 → (c .horizon ≤ mostTime) × Passed x (c .resource) (c .horizon) (c .lent)
   refusal-none (inl p) = absurd (omega (arith, p .1))

@@ -1,35 +1,35 @@
--- Each answer is given exactly when the table says so, in facts: of the contract alone, and for a text of the Patterson layout.
+-- Each answer is given exactly when the table says so, in facts, of the contract alone: the words of an answer by the number of the first test that
+-- fails, and each number by what specs/When.antt says of it. The text's own 30, 31 and 32 go on in `rows: Exactly` and `texts: Exactly`.
 use Prim.Native.Nat.{ℕ, zero, suc, _≤_, _<_}
 use native.Mathlib.Omega.{arith}
 use mathlib.Core.Path.{_≡_, refl, sym, ap, _∙_, subst}
-use mathlib.Core.List.{List, [], _∷_}
-use mathlib.Core.Logic.{inl, inr, _↔_}
-use lib.ListN.{length}
+use mathlib.Core.List.{[], _∷_}
+use mathlib.Core.Logic.{_⊎_, inl, inr, _↔_}
 use Rattle.lists.specs.Lists.{_!_}
 use Rattle.answers.specs.Said.{Word, Said, said}
 use Rattle.answers.proofs.Same.{not-said, said-apart}
 use Rattle.joblist.specs.Limits.{mostTime}
-use Rattle.chains.specs.Paths.{Cycle, Longer}
-use Rattle.texts.specs.Tokens.{Token}
 use Rattle.texts.specs.Readings.{Read, bad, good}
 use Rattle.rows.specs.Projects.{Project}
-use Rattle.rows.proofs.Takes.{OfText}
-use Rattle.layouts.specs.Table.{Call, After, Order, durationOf, Fits, Tested, Met, Refusal, Leaves, Answered}
-use Rattle.layouts.proofs.Tests.{refusal-one}
+use Rattle.layouts.specs.Calls.{TextCall, TextAfter}
+use Rattle.layouts.specs.Tests.{Tested, Met, Refusal}
+use Rattle.layouts.specs.Table.{Leaves, Answered}
+use Rattle.layouts.specs.When.{Meets, AboveLimit, Says, NoResource, NoRoom, Cyclic, ChainTooLong, Readable}
+use Rattle.layouts.proofs.Tests.{Passed, tested-none, refusal-one, refusal-of}
 
 -- ---- an answer and the number of the first test that fails
 
-module _ (c : Call) (a : After) (r : Answered c a) where
+module _ (c : TextCall) (a : TextAfter) (r : Answered c a) where
   numbered : (k : ℕ) → Refusal c k → Leaves c a k
   numbered k t = subst (Leaves c a) (refusal-one c (r .number) k (r .refusal) t) (r .leaves)
 
   pub refused-exactly : (k : ℕ) → (a .says ≡ said Word.refused (suc k ∷ [])) ↔ Refusal c (suc k)
-  refused-exactly k = (to (r .number) (r .refusal) (r .leaves), λ t. ap (λ (y : After). y .says) (numbered (suc k) t))
+  refused-exactly k = (to (r .number) (r .refusal) (r .leaves), λ t. ap (λ (y : TextAfter). y .says) (numbered (suc k) t))
     where
       to : (j : ℕ) → Refusal c j → Leaves c a j → a .says ≡ said Word.refused (suc k ∷ []) → Refusal c (suc k)
       to zero t l e = said-apart Word.read Word.refused _ _ (λ z. omega arith) (sym (l .says) ∙ e)
       to (suc j) t l e =
-          let q : suc j ≡ suc k = ap (λ (y : Said). y .numbers ! 0) (sym (ap (λ (y : After). y .says) l) ∙ e) in
+          let q : suc j ≡ suc k = ap (λ (y : Said). y .numbers ! 0) (sym (ap (λ (y : TextAfter). y .says) l) ∙ e) in
           subst (Refusal c) q t
 
   pub read-exactly : (a .says .word ≡ Word.read) ↔ Refusal c 0
@@ -37,93 +37,126 @@ module _ (c : Call) (a : After) (r : Answered c a) where
     where
       to : (j : ℕ) → Refusal c j → Leaves c a j → a .says .word ≡ Word.read → Refusal c 0
       to zero t l e = t
-      to (suc j) t l e = absurd (not-said Word.refused Word.read (λ z. omega arith) (sym (ap (λ (y : After). y .says .word) l) ∙ e))
+      to (suc j) t l e = absurd (not-said Word.refused Word.read (λ z. omega arith) (sym (ap (λ (y : TextAfter). y .says .word) l) ∙ e))
 
--- ---- the numbers in facts, where the text itself meets 30, 31 and 32 alone
+-- ---- the numbers in facts
 
--- the text says x, and the horizon is within its limit
-pub record Says (c : Call) : Type 0 where
-  pub near : c .horizon ≤ mostTime
-  pub x : Project
-  pub rest : List Token
-  pub text : c .text ≡ good x rest
-
-pub record No-resource (c : Call) : Type 0 where
-  pub says : Says c
-  pub none : length (says .x .capacities) ≤ c .resource
-
-pub record No-fit (c : Call) : Type 0 where
-  pub says : Says c
-  pub chosen : c .resource < length (says .x .capacities)
-  pub unfit : Fits (says .x) (c .lent) → ⊥
-
-pub record Cyclic (c : Call) : Type 0 where
-  pub says : Says c
-  pub chosen : c .resource < length (says .x .capacities)
-  pub fits : Fits (says .x) (c .lent)
-  pub cycle : Cycle (Order (says .x))
-
-pub record Too-long (c : Call) : Type 0 where
-  pub says : Says c
-  pub chosen : c .resource < length (says .x .capacities)
-  pub fits : Fits (says .x) (c .lent)
-  pub acyclic : Cycle (Order (says .x)) → ⊥
-  pub longer : Longer (Order (says .x)) (length (says .x .rows)) (durationOf (says .x)) (c .horizon)
-
-module _ (c : Call) (codes : (d : ℕ) → c .text ≡ bad d → OfText d) where
-  -- a refusal beyond the text's is a test of a project
-  behind : (k : ℕ) → (OfText k → ⊥) → Refusal c k → (s : Says c) × Tested (s .x) (c .resource) (c .horizon) (c .lent) k
-  behind k f (inl p) = absurd (f (inr (inl (p .1))))
-  behind k f (inr p) = go (c .text) refl (p .1)
+module _ (c : TextCall) where
+  -- a refusal is the horizon's, the text's, or a test of what the text says
+  parts : (k : ℕ) → Refusal c k → ((mostTime < c .horizon) × (k ≡ 31)) ⊎ (Meets c k ⊎ ((s : Says c) × Tested (s .x) (c .resource) (c .horizon) (c .lent) k))
+  parts k (inl p) = inl p
+  parts k (inr p) = inr (go (c .text) refl (p .1))
     where
-      go : (t : Read Project) → c .text ≡ t → Met t (c .resource) (c .horizon) (c .lent) k → (s : Says c) × Tested (s .x) (c .resource) (c .horizon) (c .lent) k
-      go (bad d) e q = absurd (f (subst OfText (sym q) (codes d e)))
-      go (good x rest) e q = (record { near = p .0; x = x; rest = rest; text = e }, q)
+      go : (t : Read Project) → c .text ≡ t → Met t (c .resource) (c .horizon) (c .lent) k → Meets c k ⊎ ((s : Says c) × Tested (s .x) (c .resource) (c .horizon) (c .lent) k)
+      go (bad d) e q = inl (record { near = p .0; text = rw q e })
+      go (good x rest) e q = inr (record { near = p .0; x = x; rest = rest; text = e }, q)
+
+  of-text : (k : ℕ) → Meets c k → Refusal c k
+  of-text k m = inr (m .near, subst (λ (y : Read Project). Met y (c .resource) (c .horizon) (c .lent) k) (sym (m .text)) refl)
 
   of-tested : (k : ℕ) (s : Says c) → Tested (s .x) (c .resource) (c .horizon) (c .lent) k → Refusal c k
-  of-tested k s t = inr (s .near, subst (λ (y : Read Project). Met y (c .resource) (c .horizon) (c .lent) k) (sym (s .text)) t)
+  of-tested k s t = refusal-of c (s .x) (s .rest) (s .text) k (s .near) t
 
-  not-text : (k : ℕ) → 32 < k → OfText k → ⊥
-  not-text k h (inl e) = omega arith
-  not-text k h (inr (inl e)) = omega arith
-  not-text k h (inr (inr e)) = omega arith
+  -- which test of a project gives k
+  by-test : (x : Project) (k : ℕ) → Tested x (c .resource) (c .horizon) (c .lent) k → (k ≡ 37) ⊎ ((k ≡ 38) ⊎ ((k ≡ 33) ⊎ ((k ≡ 34) ⊎ (k ≡ 0))))
+  by-test x k (inl p) = inl (p .1)
+  by-test x k (inr (u, inl p)) = inr (inl (p .1))
+  by-test x k (inr (u, inr (v, inl p))) = inr (inr (inl (p .1)))
+  by-test x k (inr (u, inr (v, inr (w, inl p)))) = inr (inr (inr (inl (p .1))))
+  by-test x k (inr (u, inr (v, inr (w, inr (y, p))))) = inr (inr (inr (inr p)))
 
-  pub when-37 : Refusal c 37 ↔ No-resource c
-  when-37 = (λ r. to (behind 37 (not-text 37 (omega arith)) r), λ n. of-tested 37 (n .says) (inl (n .none, refl)))
+  -- no test of a project gives 30, 31 or 32
+  no-test : (x : Project) (k : ℕ) → 30 ≤ k → k ≤ 32 → Tested x (c .resource) (c .horizon) (c .lent) k → ⊥
+  no-test x k a b t = go (by-test x k t)
     where
-      to : (s : Says c) × Tested (s .x) (c .resource) (c .horizon) (c .lent) 37 → No-resource c
-      to (s, inl p) = record { says = s; none = p .0 }
-      to (s, inr (u, inl p)) = absurd (omega (arith, p .1))
-      to (s, inr (u, inr (v, inl p))) = absurd (omega (arith, p .1))
-      to (s, inr (u, inr (v, inr (w, inl p)))) = absurd (omega (arith, p .1))
-      to (s, inr (u, inr (v, inr (w, inr (y, p))))) = absurd (omega (arith, p))
+      go : (k ≡ 37) ⊎ ((k ≡ 38) ⊎ ((k ≡ 33) ⊎ ((k ≡ 34) ⊎ (k ≡ 0)))) → ⊥
+      go (inl p) = omega arith
+      go (inr (inl p)) = omega arith
+      go (inr (inr (inl p))) = omega arith
+      go (inr (inr (inr (inl p)))) = omega arith
+      go (inr (inr (inr (inr p)))) = omega arith
 
-  pub when-38 : Refusal c 38 ↔ No-fit c
-  when-38 = (λ r. to (behind 38 (not-text 38 (omega arith)) r), λ n. of-tested 38 (n .says) (inr (n .chosen, inl (n .unfit, refl))))
+  -- 30 and 32 are the text's alone
+  pub when-text : (k : ℕ) → 30 ≤ k → k ≤ 32 → (k ≡ 31 → ⊥) → Refusal c k ↔ Meets c k
+  when-text k a b d = (λ r. to (parts k r), of-text k)
     where
-      to : (s : Says c) × Tested (s .x) (c .resource) (c .horizon) (c .lent) 38 → No-fit c
-      to (s, inl p) = absurd (omega (arith, p .1))
-      to (s, inr (u, inl p)) = record { says = s; chosen = u; unfit = p .0 }
-      to (s, inr (u, inr (v, inl p))) = absurd (omega (arith, p .1))
-      to (s, inr (u, inr (v, inr (w, inl p)))) = absurd (omega (arith, p .1))
-      to (s, inr (u, inr (v, inr (w, inr (y, p))))) = absurd (omega (arith, p))
+      to : ((mostTime < c .horizon) × (k ≡ 31)) ⊎ (Meets c k ⊎ ((s : Says c) × Tested (s .x) (c .resource) (c .horizon) (c .lent) k)) → Meets c k
+      to (inl p) = absurd (d (p .1))
+      to (inr (inl m)) = m
+      to (inr (inr (s, t))) = absurd (no-test (s .x) k a b t)
 
-  pub when-33 : Refusal c 33 ↔ Cyclic c
-  when-33 = (λ r. to (behind 33 (not-text 33 (omega arith)) r), λ n. of-tested 33 (n .says) (inr (n .chosen, inr (n .fits, inl (n .cycle, refl)))))
+  -- 31 is the horizon's too
+  pub when-31 : Refusal c 31 ↔ AboveLimit c
+  when-31 = (λ r. to (parts 31 r), from)
     where
-      to : (s : Says c) × Tested (s .x) (c .resource) (c .horizon) (c .lent) 33 → Cyclic c
-      to (s, inl p) = absurd (omega (arith, p .1))
-      to (s, inr (u, inl p)) = absurd (omega (arith, p .1))
-      to (s, inr (u, inr (v, inl p))) = record { says = s; chosen = u; fits = v; cycle = p .0 }
-      to (s, inr (u, inr (v, inr (w, inl p)))) = absurd (omega (arith, p .1))
-      to (s, inr (u, inr (v, inr (w, inr (y, p))))) = absurd (omega (arith, p))
+      to : ((mostTime < c .horizon) × (_≡_ {A = ℕ} 31 31)) ⊎ (Meets c 31 ⊎ ((s : Says c) × Tested (s .x) (c .resource) (c .horizon) (c .lent) 31)) → AboveLimit c
+      to (inl p) = inl (p .0)
+      to (inr (inl m)) = inr m
+      to (inr (inr (s, t))) = absurd (no-test (s .x) 31 (omega arith) (omega arith) t)
 
-  pub when-34 : Refusal c 34 ↔ Too-long c
-  when-34 = (λ r. to (behind 34 (not-text 34 (omega arith)) r), λ n. of-tested 34 (n .says) (inr (n .chosen, inr (n .fits, inr (n .acyclic, inl (n .longer, refl))))))
+      from : AboveLimit c → Refusal c 31
+      from (inl p) = inl (p, refl)
+      from (inr m) = of-text 31 m
+
+  module _ (k : ℕ) (beyond : 32 < k) (other : c .text ≡ bad k → ⊥) where
+    -- a refusal beyond 32 that the text does not meet is a test of a project
+    behind : Refusal c k → (s : Says c) × Tested (s .x) (c .resource) (c .horizon) (c .lent) k
+    behind r = go (parts k r)
+      where
+        go : ((mostTime < c .horizon) × (k ≡ 31)) ⊎ (Meets c k ⊎ ((s : Says c) × Tested (s .x) (c .resource) (c .horizon) (c .lent) k))
+            → (s : Says c) × Tested (s .x) (c .resource) (c .horizon) (c .lent) k
+        go (inl p) = absurd (omega (arith, p .1))
+        go (inr (inl m)) = absurd (other (m .text))
+        go (inr (inr t)) = t
+
+    pub when-37 : k ≡ 37 → Refusal c k ↔ NoResource c
+    when-37 e = (λ r. to (behind r), λ n. of-tested k (n .says) (inl (n .none, e)))
+      where
+        to : (s : Says c) × Tested (s .x) (c .resource) (c .horizon) (c .lent) k → NoResource c
+        to (s, inl p) = record { says = s; none = p .0 }
+        to (s, inr (u, inl p)) = absurd (omega (arith, p .1))
+        to (s, inr (u, inr (v, inl p))) = absurd (omega (arith, p .1))
+        to (s, inr (u, inr (v, inr (w, inl p)))) = absurd (omega (arith, p .1))
+        to (s, inr (u, inr (v, inr (w, inr (y, p))))) = absurd (omega (arith, p))
+
+    pub when-38 : k ≡ 38 → Refusal c k ↔ NoRoom c
+    when-38 e = (λ r. to (behind r), λ n. of-tested k (n .says) (inr (n .chosen, inl (n .unfit, e))))
+      where
+        to : (s : Says c) × Tested (s .x) (c .resource) (c .horizon) (c .lent) k → NoRoom c
+        to (s, inl p) = absurd (omega (arith, p .1))
+        to (s, inr (u, inl p)) = record { says = s; chosen = u; unfit = p .0 }
+        to (s, inr (u, inr (v, inl p))) = absurd (omega (arith, p .1))
+        to (s, inr (u, inr (v, inr (w, inl p)))) = absurd (omega (arith, p .1))
+        to (s, inr (u, inr (v, inr (w, inr (y, p))))) = absurd (omega (arith, p))
+
+    pub when-33 : k ≡ 33 → Refusal c k ↔ Cyclic c
+    when-33 e = (λ r. to (behind r), λ n. of-tested k (n .says) (inr (n .chosen, inr (n .fits, inl (n .cycle, e)))))
+      where
+        to : (s : Says c) × Tested (s .x) (c .resource) (c .horizon) (c .lent) k → Cyclic c
+        to (s, inl p) = absurd (omega (arith, p .1))
+        to (s, inr (u, inl p)) = absurd (omega (arith, p .1))
+        to (s, inr (u, inr (v, inl p))) = record { says = s; chosen = u; fits = v; cycle = p .0 }
+        to (s, inr (u, inr (v, inr (w, inl p)))) = absurd (omega (arith, p .1))
+        to (s, inr (u, inr (v, inr (w, inr (y, p))))) = absurd (omega (arith, p))
+
+    pub when-34 : k ≡ 34 → Refusal c k ↔ ChainTooLong c
+    when-34 e = (λ r. to (behind r), λ n. of-tested k (n .says) (inr (n .chosen, inr (n .fits, inr (n .acyclic, inl (n .long, e))))))
+      where
+        to : (s : Says c) × Tested (s .x) (c .resource) (c .horizon) (c .lent) k → ChainTooLong c
+        to (s, inl p) = absurd (omega (arith, p .1))
+        to (s, inr (u, inl p)) = absurd (omega (arith, p .1))
+        to (s, inr (u, inr (v, inl p))) = absurd (omega (arith, p .1))
+        to (s, inr (u, inr (v, inr (w, inl p)))) = record { says = s; chosen = u; fits = v; acyclic = w; long = p .0 }
+        to (s, inr (u, inr (v, inr (w, inr (y, p))))) = absurd (omega (arith, p))
+
+  -- nothing is refused: the text meets no 0, which is no refusal's number
+  pub when-read : (c .text ≡ bad 0 → ⊥) → Refusal c 0 ↔ Readable c
+  when-read other = (λ r. to (parts 0 r), λ n. of-tested 0 (n .says) (inr (n .chosen, inr (n .fits, inr (n .acyclic, inr (n .short, refl))))))
     where
-      to : (s : Says c) × Tested (s .x) (c .resource) (c .horizon) (c .lent) 34 → Too-long c
-      to (s, inl p) = absurd (omega (arith, p .1))
-      to (s, inr (u, inl p)) = absurd (omega (arith, p .1))
-      to (s, inr (u, inr (v, inl p))) = absurd (omega (arith, p .1))
-      to (s, inr (u, inr (v, inr (w, inl p)))) = record { says = s; chosen = u; fits = v; acyclic = w; longer = p .0 }
-      to (s, inr (u, inr (v, inr (w, inr (y, p))))) = absurd (omega (arith, p))
+      of : (s : Says c) → Passed (s .x) (c .resource) (c .horizon) (c .lent) → Readable c
+      of s p = record { says = s; chosen = p .chosen; fits = p .fits; acyclic = p .acyclic; short = p .short }
+
+      to : ((mostTime < c .horizon) × (_≡_ {A = ℕ} 0 31)) ⊎ (Meets c 0 ⊎ ((s : Says c) × Tested (s .x) (c .resource) (c .horizon) (c .lent) 0)) → Readable c
+      to (inl p) = absurd (omega (arith, p .1))
+      to (inr (inl m)) = absurd (other (m .text))
+      to (inr (inr (s, t))) = of s (tested-none (s .x) (c .resource) (c .horizon) (c .lent) t)

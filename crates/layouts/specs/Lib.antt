@@ -1,3 +1,6 @@
+pub mod Calls
+pub mod Tests
 pub mod Table
 pub mod Promise
+pub mod When
 pub mod Parts

@@ -11,6 +11,7 @@ use Rattle.texts.specs.Tokens.{Token}
 use Rattle.texts.specs.Readings.{Read, bad, good}
 use Rattle.rows.specs.Projects.{Project, pairsOf, durations, demandsOn}
 use Rattle.order.specs.Pairs.{comes, first}
+use Rattle.layouts.specs.Tests.{Fitting, Misfit}
 use Rattle.layouts.specs.declared.parts.Shape.{Shape}
 use Rattle.layouts.specs.declared.parts.Parsed.{Parsed}
 use Rattle.layouts.specs.declared.parts.Parsed.the-variants.{Whole, Broken}
@@ -27,22 +28,15 @@ pub record Parsing (s : List ℕ) (res : ℕ) (durs dems : List ℕ) (z : Shape)
   pub range : Below (z .n) (Precedes (pairsOf x))
   pub few : z .n ≤ mostJobs
 
+-- by the answer: the text says a project, or meets a refusal
 abbrev pub ParsedSays : Read Project → List ℕ → ℕ → List ℕ → List ℕ → Parsed → Type 0
 ParsedSays r s res durs dems (Whole z) = (x : Project) × (r ≡ good x []) × Parsing s res durs dems z x
 ParsedSays r s res durs dems (Broken c) = r ≡ bad c
 
--- the lengths of the six lists, for n jobs and m pairs
-pub record Roomy (e l d q j s n m : ℕ) : Type 0 where
-  pub est : e ≡ n
-  pub lct : l ≡ n
-  pub dur : d ≡ n
-  pub dem : q ≡ n
-  pub jobs : m ≤ j
-  pub successors : m ≤ s
-
+-- whether the lengths of the six lists fit n jobs and m pairs
 abbrev pub RoomSays : ℕ → ℕ → ℕ → ℕ → ℕ → ℕ → ℕ → ℕ → Bool → Type 0
-RoomSays e l d q j s n m true = Roomy e l d q j s n m
-RoomSays e l d q j s n m false = Roomy e l d q j s n m → ⊥
+RoomSays e l d q j s n m true = Fitting n m e l d q j s
+RoomSays e l d q j s n m false = Misfit n m e l d q j s
 
 -- the horizon less each number
 pub record Lessened (tails : List ℕ) (h : ℕ) (to to' : List ℕ) : Type 0 where

@@ -10,29 +10,37 @@ use Rattle.narrowing.specs.Windows.{Win, win}
 use Rattle.narrowing.specs.Schedules.{Schedule}
 use Rattle.joblist.specs.Limits.{fourLists, supply}
 use Rattle.joblist.specs.GoodList.{GoodList}
-use Rattle.layouts.specs.Table.{Lent, Call, After, Answered}
+use Rattle.chains.specs.Paths.{Listed, Below, Cycle}
+use Rattle.layouts.specs.Calls.{Lent, TextCall, TextAfter}
+use Rattle.layouts.specs.Table.{Answered}
 
 -- the windows in the lists
 abbrev pub windows : Lent → Win
 windows K = win (K .est) (K .lct)
 
+-- the precedences that are written there: the first `count` pairs
+abbrev pub Written : Lent → ℕ → ℕ → ℕ → Type 0
+Written K count = Listed (K .jobs) (K .successors) count
+
 -- start times s that respect the first `count` pairs in the lists and end by the horizon
 pub record Respects (K : Lent) (count horizon : ℕ) (s : List ℕ) : Type 0 where
-  pub pairs : (i : ℕ) → i < count → s ! (K .jobs ! i) + K .dur ! (K .jobs ! i) ≤ s ! (K .successors ! i)
+  pub pairs : (a b : ℕ) → Written K count a b → s ! a + K .dur ! a ≤ s ! b
   pub ends : (j : ℕ) → j < length (K .dur) → s ! j + K .dur ! j ≤ horizon
 
 -- the capacity and the pair count that are said
-abbrev pub capacity : After → ℕ
+abbrev pub capacity : TextAfter → ℕ
 capacity a = a .says .numbers ! 0
 
-abbrev pub count : After → ℕ
+abbrev pub count : TextAfter → ℕ
 count a = a .says .numbers ! 1
 
 -- the contract of a reader
-pub record Reads (c : Call) (a : After) : Type 0 where
+pub record Reads (c : TextCall) (a : TextAfter) : Type 0 where
   pub answered : Answered c a
   -- the lists pass tests 1 to 4 of document 01
   pub good : a .says .word ≡ Word.read → GoodList (windows (a .lent)) (a .lent .dur) (fourLists (windows (a .lent)) (a .lent .dur) (a .lent .dem)) (supply (capacity a))
+  -- the pairs that are written are of its jobs, and there is no cycle among them
+  pub ordered : a .says .word ≡ Word.read → Below (length (a .lent .dur)) (Written (a .lent) (count a)) × (Cycle (Written (a .lent) (count a)) → ⊥)
   -- all start times that respect the pairs and end by the horizon lie within the windows
   pub kept : a .says .word ≡ Word.read → (s : List ℕ) → Respects (a .lent) (count a) (c .horizon) s
       → Schedule (length (a .lent .dur)) (a .lent .dur) (Respects (a .lent) (count a) (c .horizon)) (windows (a .lent)) s

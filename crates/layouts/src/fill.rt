@@ -29,7 +29,7 @@ pub fn write_pairs(text: &[u8], n: u32, k: u32, at: usize, js: &mut [u32], ss: &
     let mut w = Walk {
         next: 0,
         left: 0,
-        at: at,
+        at,
     };
     let mut i: usize = 0;
     loop {

@@ -1,8 +1,7 @@
 // The reader of the Patterson layout (document 02, Item 1): a partner's text becomes a job list and its precedence pairs.
 //
-// Every refusal is decided before a lent word is written: durations, demands and chains go into local arrays first, and the pairs are written by
-// reading the text once more, in its order. A bit matrix would lose that order and the pairs that are named twice, and an array of all pairs that a
-// text may have would be far larger than the text.
+// Every refusal is decided before a lent word is written: durations, demands and chains go into local arrays first. The pairs are not stored: chains are
+// found, and pairs written, by reading the text again (docs/DECISIONS.md says why).
 mod fill;
 mod parts;
 
@@ -40,12 +39,7 @@ pub fn read_patterson(
     match parse(text, resource, &mut d, &mut q) {
         Parsed::Broken(c) => ReadAnswer::Refused(c),
         Parsed::Whole(z) => {
-            let n = z.n;
-            let k = z.k;
-            let cap = z.cap;
-            let pairs = z.pairs;
-            let at = z.at;
-            if k <= resource {
+            if z.k <= resource {
                 return ReadAnswer::Refused(37);
             }
             if !roomy(
@@ -55,14 +49,23 @@ pub fn read_patterson(
                 dem.len(),
                 jobs.len(),
                 successors.len(),
-                n,
-                pairs,
+                z.n,
+                z.pairs,
             ) {
                 return ReadAnswer::Refused(38);
             }
             let mut heads = [0u32; joblist::MOST];
             let mut tails = [0u32; joblist::MOST];
-            let c = order::longest_chains(text, n, k, at, &d, horizon, &mut heads, &mut tails);
+            let c = order::longest_chains(
+                text,
+                z.n,
+                z.k,
+                z.at,
+                &d,
+                horizon,
+                &mut heads,
+                &mut tails,
+            );
             if c != 0 {
                 return ReadAnswer::Refused(c);
             }
@@ -70,8 +73,8 @@ pub fn read_patterson(
             latest(&tails, horizon, lct);
             joblist::restore(&d, dur);
             joblist::restore(&q, dem);
-            write_pairs(text, n, k, at, jobs, successors);
-            ReadAnswer::Read(cap, pairs)
+            write_pairs(text, z.n, z.k, z.at, jobs, successors);
+            ReadAnswer::Read(z.cap, z.pairs)
         }
     }
 }

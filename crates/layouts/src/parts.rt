@@ -18,6 +18,7 @@ pub struct Shape {
     pub at: usize,
 }
 
+// A text read whole, or its refusal.
 pub enum Parsed {
     Whole(Shape),
     Broken(u32),
@@ -42,11 +43,11 @@ pub fn parse(
                     return Parsed::Broken(30);
                 }
                 Parsed::Whole(Shape {
-                    n: n,
-                    k: k,
-                    cap: cap,
-                    pairs: pairs,
-                    at: at,
+                    n,
+                    k,
+                    cap,
+                    pairs,
+                    at,
                 })
             }
         },

@@ -1,9 +1,10 @@
--- Lists by place: after a store, from a rule, added place by place, and equal where their places are.
-use Prim.Native.Nat.{ℕ, zero, suc, _+_, _<_}
+-- Lists by place: after a store, beyond the end, of one number, one before another, from a rule, added place by place, and equal where their places are.
+use Prim.Native.Nat.{ℕ, zero, suc, _+_, _≤_, _<_}
 use native.Mathlib.Omega.{arith}
+use native.Mathlib.Decide.{decLt}
 use mathlib.Core.Path.{_≡_, refl, sym, ap, _∙_}
-use mathlib.Core.List.{List, [], _∷_}
-use lib.ListN.{set, length}
+use mathlib.Core.List.{List, [], _∷_, _++_}
+use lib.ListN.{set, length, replicate, List·getD-eq-default}
 use lib.Seq.{ext-getD}
 use Rattle.lists.specs.Lists.{_!_}
 
@@ -14,6 +15,30 @@ set-any P (x ∷ xs) zero a zero new old = new refl
 set-any P (x ∷ xs) zero a (suc k) new old = old
 set-any P (x ∷ xs) (suc j) a zero new old = old
 set-any P (x ∷ xs) (suc j) a (suc k) new old = set-any P xs j a k (λ q. new (ap suc q)) old
+
+pub beyond : (xs : List ℕ) (k : ℕ) → length xs ≤ k → xs ! k ≡ 0
+beyond xs k h = List·getD-eq-default xs 0 h
+
+pub zeros-at : (m k : ℕ) → _≡_ {A = ℕ} (replicate m 0 ! k) 0
+zeros-at zero k = refl
+zeros-at (suc m) zero = refl
+zeros-at (suc m) (suc k) = zeros-at m k
+
+-- m times x, and 0 beyond
+pub replicate-low : (m x top j : ℕ) → x ≤ top → replicate m x ! j ≤ top
+replicate-low zero x top j h = omega arith
+replicate-low (suc m) x top zero h = h
+replicate-low (suc m) x top (suc j) h = replicate-low m x top j h
+
+-- a number limited below the length is limited everywhere
+pub everywhere : (xs : List ℕ) (n m : ℕ) → length xs ≡ n → ((j : ℕ) → j < n → xs ! j ≤ m) → (j : ℕ) → xs ! j ≤ m
+everywhere xs n m e f j = elim (decLt j n) [ yes h ↦ f j h | no h ↦ omega (arith, beyond xs j (omega arith)) ]
+
+-- in front of another list
+pub front-at : (xs ys : List ℕ) (i : ℕ) → i < length xs → (xs ++ ys) ! i ≡ xs ! i
+front-at [] ys i h = absurd (omega arith)
+front-at (x ∷ xs) ys zero h = refl
+front-at (x ∷ xs) ys (suc i) h = front-at xs ys i (omega arith)
 
 -- lists of n numbers that agree below n are one list
 pub same-list : (n : ℕ) (xs ys : List ℕ) → length xs ≡ n → length ys ≡ n → ((k : ℕ) → k < n → xs ! k ≡ ys ! k) → xs ≡ ys

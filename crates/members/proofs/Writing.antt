@@ -1,6 +1,6 @@
 -- A writer that looks at the numbers one after the other and puts each member in: its words are the set of the members below the number reached.
-use Prim.Native.Nat.{ℕ, zero, suc, _*_, _/_, _≤_, _<_, zero-le}
-use mathlib.Core.Path.{_≡_, refl, sym, _∙_}
+use Prim.Native.Nat.{ℕ, suc, _*_, _/_, _≤_, _<_, zero-le}
+use mathlib.Core.Path.{_≡_, sym, _∙_}
 use mathlib.Core.Bool.{Bool, true, false}
 use native.Mathlib.Omega.{arith}
 use native.Mathlib.Decide.{decLt, ℕ-discrete}
@@ -9,7 +9,7 @@ use borrow.Author.Tests.{lt-ltb, le-ltb}
 use lib.Dec.{ltb}
 use lib.ListN.{replicate, length-replicate}
 use lib.Pow.{pow-pos}
-use Rattle.lists.specs.Lists.{_!_}
+use Rattle.lists.proofs.Lists.{zeros-at}
 use Rattle.lists.specs.Tests.{both}
 use Rattle.members.specs.Members.{has, setOf, inserted, AreWords}
 use Rattle.members.proofs.Sets.{setOf-length, setOf-words, has-setOf, setOf-unique, setOf-cong, inserted-length, inserted-words, inserted-same, inserted-other}
@@ -33,11 +33,6 @@ below-same f k i h =
     ]
 
 -- ---- words that are all 0 have no member
-
-zeros-at : (w q : ℕ) → _≡_ {A = ℕ} (replicate w 0 ! q) 0
-zeros-at zero q = refl
-zeros-at (suc w) zero = refl
-zeros-at (suc w) (suc q) = zeros-at w q
 
 pub zeros-words : (w : ℕ) → AreWords (replicate w 0)
 zeros-words w q = rw (zeros-at w q) (pow-pos 32)

@@ -1,5 +1,5 @@
 -- From settled values to 33, 34 and the longest chains: steps counted in place of durations tell of cycles, durations of chains.
-use Prim.Native.Nat.{ℕ, zero, suc, _≤_, _<_}
+use Prim.Native.Nat.{ℕ, _≤_, _<_}
 use native.Mathlib.Omega.{arith}
 use mathlib.Core.Path.{_≡_, refl, ap, subst}
 use mathlib.Core.Bool.{true, false}
@@ -8,11 +8,12 @@ use mathlib.Core.Logic.{inl, inr}
 use lib.ListN.{replicate, getD-replicate}
 use Rattle.lists.specs.Lists.{_!_}
 use Rattle.joblist.specs.Limits.{mostJobs}
-use Rattle.chains.specs.Paths.{Pair, Precedes, Below, Cycle, Chain, Longest, Longer, Back}
-use Rattle.chains.proofs.Chains.{Stable, stable-most, stable-longest, stable-after, stable-acyclic, long-cycle, chain-map, chain-starts, chain-inside}
+use Rattle.chains.specs.Paths.{Pair, Precedes, Below, Cycle, Chain, Longest, Longer, Back, weight}
+use Rattle.chains.specs.Passes.{Chained, Stable}
+use Rattle.chains.proofs.Chains.{stable-most, stable-longest, stable-after, stable-acyclic, long-cycle, chain-map, chain-starts, chain-inside}
 use Rattle.texts.specs.Tokens.{Token}
 use Rattle.texts.specs.Readings.{Read, good}
-use Rattle.order.specs.Rounds.{turned, weight, TooLong, Settled, Overrun, ExceedsSays}
+use Rattle.order.specs.Rounds.{turned, TooLong, AtRest, Overrun, ExceedsSays}
 
 turned-false : (ps : List Pair) → turned false ps ≡ ps
 turned-false [] = refl
@@ -28,11 +29,6 @@ of-back [] a b r = r
 of-back (x ∷ ps) a b (inl e) = inl (e .1, e .0)
 of-back (x ∷ ps) a b (inr r) = inr (of-back ps a b r)
 
-pub replicate-low : (m x top j : ℕ) → x ≤ top → replicate m x ! j ≤ top
-replicate-low zero x top j h = omega arith
-replicate-low (suc m) x top zero h = h
-replicate-low (suc m) x top (suc j) h = replicate-low m x top j h
-
 module _ (r : Read (List Pair)) (n : ℕ) (few : n ≤ mostJobs) (ps : List Pair) (end : List Token) (e : r ≡ good ps end) (range : Below n (Precedes ps)) where
   -- ---- steps counted
 
@@ -45,7 +41,7 @@ module _ (r : Read (List Pair)) (n : ℕ) (few : n ≤ mostJobs) (ps : List Pair
       let c : Chain (Precedes ps) (λ i. 1) (u .at) (u .length) = chain-map (Precedes ps) (Precedes ps) (weight (replicate mostJobs 1)) (λ i. 1) (λ a b q. (q, one-each a b q)) (u .chain) in
       long-cycle (Precedes ps) n range (chain-inside (Precedes ps) n (λ i. 1) range (omega (arith, u .over)) c) (omega (arith, u .over)) c
 
-  pub no-33 : (v : List ℕ) → Settled r n (replicate mostJobs 1) false n v → Cycle (Precedes ps) → ⊥
+  pub no-33 : (v : List ℕ) → AtRest r n (replicate mostJobs 1) false n v → Cycle (Precedes ps) → ⊥
   no-33 v t c =
       let s : Stable (Precedes ps) (weight (replicate mostJobs 1)) v = subst (λ (l : List Pair). Stable (Precedes l) (weight (replicate mostJobs 1)) v) (turned-false ps) (t .stable ps end e range) in
       stable-acyclic (Precedes ps) (λ i. 1) v (λ a b q. omega (arith, s a b q, one-each a b q)) (λ i. omega arith) c
@@ -67,7 +63,7 @@ module _ (r : Read (List Pair)) (n : ℕ) (few : n ≤ mostJobs) (ps : List Pair
     backwards : {j L : ℕ} → Chain (Precedes (turned true ps)) (weight p) j L → Chain (Back (Precedes ps)) (weight p) j L
     backwards c = chain-map (Precedes (turned true ps)) (Back (Precedes ps)) (weight p) (weight p) (λ a b q. (back-of ps a b q, refl)) c
 
-    pub tail-longest : (tails : List ℕ) → Settled r n p true h tails → (j : ℕ) → Longest (Back (Precedes ps)) (weight p) j (tails ! j)
+    pub tail-longest : (tails : List ℕ) → AtRest r n p true h tails → (j : ℕ) → Longest (Back (Precedes ps)) (weight p) j (tails ! j)
     tail-longest tails t j = record {
       one = backwards (t .chains ps end e j);
       most = λ M c.
@@ -75,12 +71,12 @@ module _ (r : Read (List Pair)) (n : ℕ) (few : n ≤ mostJobs) (ps : List Pair
           (chain-map (Back (Precedes ps)) (Precedes (turned true ps)) (weight p) (weight p) (λ a b d. (of-back ps a b d, refl)) c);
     }
 
-    module _ (heads : List ℕ) (t : Settled r n p false h heads) where
+    module _ (heads : List ℕ) (t : AtRest r n p false h heads) where
       stable : Stable (Precedes ps) (weight p) heads
       stable = subst (λ (l : List Pair). Stable (Precedes l) (weight p) heads) (turned-false ps) (t .stable ps end e range)
 
       pub head-longest : (j : ℕ) → Longest (Precedes ps) (weight p) j (heads ! j)
-      head-longest = stable-longest (Precedes ps) (weight p) heads stable (subst (λ (l : List Pair). (j : ℕ) → Chain (Precedes l) (weight p) j (heads ! j)) (turned-false ps) (t .chains ps end e))
+      head-longest = stable-longest (Precedes ps) (weight p) heads stable (subst (λ (l : List Pair). Chained (Precedes l) (weight p) heads) (turned-false ps) (t .chains ps end e))
 
       pub over-34 : ExceedsSays heads p n h true → Longer (Precedes ps) n (weight p) h
       over-34 x = record { last = x .0; job = x .1; before = heads ! x .0; chain = head-longest (x .0) .one; over = x .2 }

@@ -1,4 +1,4 @@
--- The next pair of a walk; and the pairs do not hang on the resource that the walk looks at.
+-- The next pair of a walk; and the pairs do not depend on the resource that the walk looks at.
 use Prim.Native.Nat.{ℕ, _-_, _≤_}
 use native.Mathlib.Omega.{arith}
 use mathlib.Core.Path.{_≡_, refl, sym, ap, _∙_}
@@ -7,7 +7,7 @@ use lib.ListN.{length, drop}
 use Rattle.chains.specs.Paths.{Pair, pair}
 use Rattle.texts.specs.Tokens.{Token, tokens}
 use Rattle.texts.specs.Readings.{Read, bad, good, andThen, times}
-use Rattle.texts.proofs.Readings.{not-both}
+use Rattle.texts.proofs.Readings.{bad-not-good}
 use Rattle.rows.specs.declared.Walk.{Walk}
 use Rattle.rows.specs.declared.Step.the-variants as steps
 use Rattle.rows.specs.Projects.{Row, link, tagged, pairsFrom, durations, demandsOn}
@@ -38,7 +38,7 @@ only-row d q (good x ts) = refl
 
 only-pair : (p : Pair) (r : Read Seen) (ps : List Pair) (end : List Token) → onlyPairs (addPair p r) ≡ good ps end
     → (rest : List Pair) × (ps ≡ p ∷ rest) × (onlyPairs r ≡ good rest end)
-only-pair p (bad c) ps end e = not-both (bad c) c ps end refl e
+only-pair p (bad c) ps end e = bad-not-good (bad c) c ps end refl e
 only-pair p (good x ts) ps end e = let u : ts ≡ end = cc in (x .pairs, cc, rw u)
 
 -- from w₀ to w there were heads of rows alone
@@ -68,4 +68,4 @@ module _ (n k : ℕ) (s : List ℕ) (w₀ w : Walk) (g : Pulling n k s w₀ w) w
   pulling-done t ps end e = let q : good [] (tokens (drop (w .at) s)) ≡ good ps end = sym (ap onlyPairs (t .0)) ∙ sym (g .same) ∙ e in cc
 
   pub pulling-stop : (c : ℕ) → StepSays n k 0 s w (steps.Stop c) → PullSays n k s w₀ NoMore
-  pulling-stop c t ps end e = not-both (bad c) c ps end refl (sym (ap onlyPairs t) ∙ sym (g .same) ∙ e)
+  pulling-stop c t ps end e = bad-not-good (bad c) c ps end refl (sym (ap onlyPairs t) ∙ sym (g .same) ∙ e)

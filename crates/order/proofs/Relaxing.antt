@@ -12,8 +12,8 @@ use Rattle.lists.specs.Lists.{_!_}
 use Rattle.lists.proofs.Lists.{set-any}
 use Rattle.lists.proofs.Differences.{total-less}
 use Rattle.joblist.specs.Limits.{mostJobs}
-use Rattle.chains.specs.Paths.{Pair, pair, Precedes}
-use Rattle.chains.specs.Passes.{raise, pass}
+use Rattle.chains.specs.Paths.{Pair, pair, Precedes, weight}
+use Rattle.chains.specs.Passes.{Chained, raise, pass}
 use Rattle.chains.proofs.Chains.{chain-on}
 use Rattle.chains.proofs.Passes.{raise-kept, raise-rose, raise-chained}
 use Rattle.texts.specs.Tokens.{Token}
@@ -24,7 +24,7 @@ use Rattle.order.specs.declared.Pull.the-variants.{Next, NoMore}
 use Rattle.order.specs.declared.rounds.Rise.the-variants.{Kept, Rose, High}
 use Rattle.order.specs.declared.rounds.Round.the-variants.{Same, Changed, Over}
 use Rattle.order.specs.Pairs.{comes, first, PullSays}
-use Rattle.order.specs.Rounds.{RiseSays, turned, weight, sum, AllChains, RoundSays}
+use Rattle.order.specs.Rounds.{RiseSays, turned, sum, RoundSays}
 
 -- a value raised raises the sum
 sum-set : (v : List ℕ) (j x : ℕ) → length v ≡ mostJobs → j < mostJobs → v ! j < x → sum v < sum (set v j x)
@@ -55,7 +55,7 @@ pub record Following (p : List ℕ) (back : Bool) (v₀ v : List ℕ) (now : Rea
   pub ahead : now ≡ good rest end
   pub same : pass (weight p) (turned back ps) v₀ ≡ pass (weight p) (turned back rest) v
   pub part : (a b : ℕ) → Precedes (turned back rest) a b → Precedes (turned back ps) a b
-  pub chains : AllChains (turned back ps) p v₀ → AllChains (turned back ps) p v
+  pub chains : Chained (Precedes (turned back ps)) (weight p) v₀ → Chained (Precedes (turned back ps)) (weight p) v
 
 pub record Relaxing (n k : ℕ) (s : List ℕ) (at : ℕ) (p : List ℕ) (back : Bool) (top : ℕ) (v₀ v : List ℕ) (w : Walk) (changed : Bool) : Type 0 where
   pub fit : Fit n w

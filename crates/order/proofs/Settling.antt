@@ -8,16 +8,17 @@ use mathlib.Core.List.{List, [], _∷_}
 use mathlib.Core.Logic.{inl, inr}
 use lib.ListN.{length, replicate, length-replicate}
 use Rattle.lists.specs.Lists.{_!_}
+use Rattle.lists.proofs.Lists.{zeros-at}
 use Rattle.lists.specs.Sums.{total}
 use Rattle.joblist.specs.Limits.{mostJobs}
-use Rattle.chains.specs.Paths.{Pair, Precedes, Below}
+use Rattle.chains.specs.Paths.{Pair, Precedes, Below, weight}
+use Rattle.chains.specs.Passes.{Chained}
 use Rattle.chains.proofs.Chains.{chain-none}
-use Rattle.chains.proofs.Longest.{zeros-at}
 use Rattle.chains.proofs.Passes.{pass-chained, pass-meets}
 use Rattle.texts.specs.Tokens.{Token}
 use Rattle.texts.specs.Readings.{Read, good}
 use Rattle.order.specs.declared.rounds.Round.the-variants.{Same, Changed, Over}
-use Rattle.order.specs.Rounds.{turned, weight, sum, AllChains, RoundSays, Settled, Overrun}
+use Rattle.order.specs.Rounds.{turned, sum, RoundSays, AtRest, Overrun}
 
 sum-under : (f : ℕ → ℕ) (top m : ℕ) → ((j : ℕ) → f j ≤ top) → total f m ≤ m * top
 unfolding total
@@ -35,7 +36,7 @@ below-turned false (x ∷ ps) n f a b (inr r) = below-turned false ps n (λ c d 
 pub record Settling (r : Read (List Pair)) (p : List ℕ) (back : Bool) (top : ℕ) (v : List ℕ) : Type 0 where
   pub long : length v ≡ mostJobs
   pub low : (j : ℕ) → v ! j ≤ top
-  pub chains : (ps : List Pair) (end : List Token) → r ≡ good ps end → AllChains (turned back ps) p v
+  pub chains : (ps : List Pair) (end : List Token) → r ≡ good ps end → Chained (Precedes (turned back ps)) (weight p) v
 
 module _ (r : Read (List Pair)) (p : List ℕ) (back : Bool) (top : ℕ) where
   pub settling-start : (v : List ℕ) → v ≡ replicate mostJobs 0 → Settling r p back top v
@@ -58,7 +59,7 @@ module _ (r : Read (List Pair)) (p : List ℕ) (back : Bool) (top : ℕ) where
     pub settling-less : RoundSays r p back top v v' Changed → mostJobs * top - sum v' < mostJobs * top - sum v
     settling-less t = omega (arith, t .0, sum-under (λ j. v' ! j) top mostJobs (t .1))
 
-    pub settling-true : (n : ℕ) → n ≤ mostJobs → RoundSays r p back top v v' Same → Settled r n p back top v'
+    pub settling-true : (n : ℕ) → n ≤ mostJobs → RoundSays r p back top v v' Same → AtRest r n p back top v'
     settling-true n h t =
         rw (t .0) (record {
           low = g .low;

@@ -4,8 +4,7 @@ use mathlib.Core.Path.{_≡_}
 use mathlib.Core.List.{List}
 use mathlib.Core.Logic.{_⊎_}
 use Rattle.lists.specs.Lists.{_!_}
-use Rattle.chains.specs.Paths.{Pair, Precedes, Cycle, Longest, Longer, Back}
-use Rattle.order.specs.Rounds.{weight}
+use Rattle.chains.specs.Paths.{Pair, Precedes, weight, Cycle, Longest, Longer, Back}
 
 -- neither: `heads` are the longest chains before the jobs, `tails` those after them
 pub record Ordered (ps : List Pair) (n : ℕ) (p : List ℕ) (h : ℕ) (heads tails : List ℕ) : Type 0 where
@@ -15,6 +14,7 @@ pub record Ordered (ps : List Pair) (n : ℕ) (p : List ℕ) (h : ℕ) (heads ta
   pub after : (j : ℕ) → Longest (Back (Precedes ps)) (weight p) j (tails ! j)
   pub low : (j : ℕ) → (heads ! j ≤ h) × (tails ! j ≤ h)
 
+-- by the number
 abbrev pub OrderSays : List Pair → ℕ → List ℕ → ℕ → List ℕ → List ℕ → ℕ → Type 0
 OrderSays ps n p h heads tails zero = Ordered ps n p h heads tails
 OrderSays ps n p h heads tails (suc c) =

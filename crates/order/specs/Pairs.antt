@@ -10,11 +10,12 @@ use Rattle.rows.specs.Walk.{Seen, see, Fit, Further}
 use Rattle.order.specs.declared.Pull.{Pull}
 use Rattle.order.specs.declared.Pull.the-variants.{Next, NoMore}
 
+-- of what rows say, the pairs
 abbrev pub onlyPairs : Read Seen → Read (List Pair)
 onlyPairs (bad c) = bad c
 onlyPairs (good x ts) = good (x .pairs) ts
 
--- the pairs still to come at a place of the walk; the resource that the walk looks at is of no matter
+-- the pairs still to come at a place of the walk; the resource that the walk looks at makes no difference
 abbrev pub comes : ℕ → ℕ → List ℕ → Walk → Read (List Pair)
 comes n k s w = onlyPairs (see n k 0 s w)
 

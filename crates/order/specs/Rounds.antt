@@ -1,5 +1,5 @@
 -- Rounds over pairs, wherever they are read from: r is the reading of them. Each job has a value, a chain's length; a round raises each successor's
--- value to what its job asks, up to a limit. With `back` the pairs are taken the other way round, for chains after a job.
+-- value to its job's value plus duration, up to a limit. With `back` the pairs are taken the other way round, for chains after a job.
 use Prim.Native.Nat.{ℕ, _+_, _≤_, _<_}
 use mathlib.Core.Path.{_≡_}
 use mathlib.Core.Bool.{Bool, true, false}
@@ -8,8 +8,8 @@ use lib.ListN.{set}
 use Rattle.lists.specs.Lists.{_!_}
 use Rattle.lists.specs.Sums as sums
 use Rattle.joblist.specs.Limits.{mostJobs}
-use Rattle.chains.specs.Paths.{Pair, pair, Precedes, Below, Chain}
-use Rattle.chains.specs.Passes.{pass}
+use Rattle.chains.specs.Paths.{Pair, pair, Precedes, Below, weight, Chain}
+use Rattle.chains.specs.Passes.{Chained, Stable, pass}
 use Rattle.texts.specs.Tokens.{Token}
 use Rattle.texts.specs.Readings.{Read, good}
 use Rattle.order.specs.declared.rounds.Rise.{Rise}
@@ -17,7 +17,7 @@ use Rattle.order.specs.declared.rounds.Rise.the-variants.{Kept, Rose, Hi
 use Rattle.order.specs.declared.rounds.Round.{Round}
 use Rattle.order.specs.declared.rounds.Round.the-variants.{Same, Changed, Over}
 
--- b's value in v raised to a's and x, unless that is above `top`
+-- b's value in v raised to a's plus x, unless that is above `top`
 abbrev pub RiseSays : List ℕ → List ℕ → ℕ → ℕ → ℕ → ℕ → Rise → Type 0
 RiseSays v u a b x top Kept = (u ≡ v) × (v ! a + x ≤ v ! b)
 RiseSays v u a b x top Rose = (u ≡ set v b (v ! a + x)) × (v ! b < v ! a + x) × (v ! a + x ≤ top)
@@ -31,17 +31,9 @@ turn true p = pair (p .successor) (p .job)
 abbrev pub turned : Bool → List Pair → List Pair
 turned back ps = map (turn back) ps
 
--- durations by job
-abbrev pub weight : List ℕ → ℕ → ℕ
-weight p i = p ! i
-
 -- the sum of an array's numbers: it rises with every round that changes something
 abbrev pub sum : List ℕ → ℕ
 sum v = sums.total (λ i. v ! i) mostJobs
-
--- every value is a chain's length
-abbrev pub AllChains : List Pair → List ℕ → List ℕ → Type 0
-AllChains ps p v = (j : ℕ) → Chain (Precedes ps) (weight p) j (v ! j)
 
 -- some chain is longer than top
 pub record TooLong (ps : List Pair) (p : List ℕ) (top : ℕ) : Type 0 where
@@ -55,23 +47,24 @@ abbrev pub RoundSays : Read (List Pair) → List ℕ → Bool → ℕ → List �
 RoundSays r p back top v u Same = (u ≡ v) × ((ps : List Pair) (end : List Token) → r ≡ good ps end → pass (weight p) (turned back ps) v ≡ v)
 RoundSays r p back top v u Changed =
     (sum v < sum u) × ((j : ℕ) → u ! j ≤ top) × ((ps : List Pair) (end : List Token) → r ≡ good ps end → u ≡ pass (weight p) (turned back ps) v)
-RoundSays r p back top v u Over = (ps : List Pair) (end : List Token) → r ≡ good ps end → AllChains (turned back ps) p v → TooLong (turned back ps) p top
+RoundSays r p back top v u Over = (ps : List Pair) (end : List Token) → r ≡ good ps end → Chained (Precedes (turned back ps)) (weight p) v → TooLong (turned back ps) p top
 
 -- rounds until nothing changes: values that are chains' lengths and that no pair raises
-pub record Settled (r : Read (List Pair)) (n : ℕ) (p : List ℕ) (back : Bool) (top : ℕ) (v : List ℕ) : Type 0 where
+pub record AtRest (r : Read (List Pair)) (n : ℕ) (p : List ℕ) (back : Bool) (top : ℕ) (v : List ℕ) : Type 0 where
   pub low : (j : ℕ) → v ! j ≤ top
-  pub chains : (ps : List Pair) (end : List Token) → r ≡ good ps end → AllChains (turned back ps) p v
-  pub stable : (ps : List Pair) (end : List Token) → r ≡ good ps end → Below n (Precedes ps) → (a b : ℕ) → Precedes (turned back ps) a b → v ! a + p ! a ≤ v ! b
+  pub chains : (ps : List Pair) (end : List Token) → r ≡ good ps end → Chained (Precedes (turned back ps)) (weight p) v
+  pub stable : (ps : List Pair) (end : List Token) → r ≡ good ps end → Below n (Precedes ps) → Stable (Precedes (turned back ps)) (weight p) v
 
 -- or until some chain is longer than top
 pub record Overrun (r : Read (List Pair)) (p : List ℕ) (back : Bool) (top : ℕ) : Type 0 where
   pub long : (ps : List Pair) (end : List Token) → r ≡ good ps end → TooLong (turned back ps) p top
 
+-- by the answer: at rest, or overrun
 abbrev pub SettleSays : Read (List Pair) → ℕ → List ℕ → Bool → ℕ → List ℕ → Bool → Type 0
-SettleSays r n p back top v true = Settled r n p back top v
+SettleSays r n p back top v true = AtRest r n p back top v
 SettleSays r n p back top v false = Overrun r p back top
 
--- whether a value and its job's duration are above h together
+-- whether a value plus its job's duration is above h
 abbrev pub ExceedsSays : List ℕ → List ℕ → ℕ → ℕ → Bool → Type 0
 ExceedsSays v p n h true = (j : ℕ) × (j < n) × (h < v ! j + p ! j)
 ExceedsSays v p n h false = (j : ℕ) → j < n → v ! j + p ! j ≤ h

@@ -1,6 +1,5 @@
-// The order of a text's jobs: its pairs one by one, cycles, and the longest chains before and after each job (document 02, Item 1). The pairs are
-// not stored: each round reads the text again. They stand in text order there, which is the order they are written in later; and no array of all
-// pairs that a text may have has to be kept.
+// The order of a text's jobs: its pairs one by one, cycles, and the longest chains before and after each job (document 02, Item 1). Each round reads
+// the text again.
 mod rounds;
 
 use rounds::exceeds;

@@ -1,5 +1,5 @@
 // Rounds over the pairs of a text until no value changes. After m rounds every chain of m steps is met, so that there are no more rounds than the
-// longest chain has jobs, and one in which nothing changes.
+// longest chain has jobs, and one in which nothing changes; where there is a cycle, no more than there are jobs and one.
 use crate::Pull;
 use crate::next_pair;
 use rows::Walk;
@@ -26,7 +26,7 @@ pub enum Round {
     Over,
 }
 
-// Raises the value at b to the one at a and x, up to `top`.
+// Raises the value at b to the one at a plus x, up to `top`.
 fn lift(v: &mut [u32; joblist::MOST], a: u32, b: u32, x: u32, top: u32) -> Rise
     requires { ⌜ (a < mostJobs) × (b < mostJobs) × (length (now v) ≡ mostJobs) × (now v ! a ≤ mostTime) × (x ≤ mostTime) ⌝ }
     ensures { λ r. ⌜ RiseSays (now (v .entry)) (now (v .exit)) a b x top r × (length (now (v .exit)) ≡ mostJobs) ⌝ }
@@ -44,6 +44,7 @@ fn lift(v: &mut [u32; joblist::MOST], a: u32, b: u32, x: u32, top: u32) -> Rise
     Rise::Rose
 }
 
+// b where the pairs are taken the other way round, else a.
 fn select(back: bool, a: u32, b: u32) -> u32
     ensures { λ r. ⌜ r ≡ cond back b a ⌝ }
 {
@@ -71,7 +72,7 @@ fn relax(
     let mut w = Walk {
         next: 0,
         left: 0,
-        at: at,
+        at,
     };
     let mut changed = false;
     loop {
@@ -131,7 +132,7 @@ pub fn settle(
     }
 }
 
-// Whether some value and its job's duration are above h together.
+// Whether some value plus its job's duration is above h.
 pub fn exceeds(v: &[u32; joblist::MOST], p: &[u32; joblist::MOST], n: u32, h: u32) -> bool
     requires { ⌜ (n ≤ mostJobs) × (length (now v) ≡ mostJobs) × (length (now p) ≡ mostJobs) ⌝ }
     requires { ⌜ ((j : ℕ) → now v ! j ≤ mostTime) × ((j : ℕ) → now p ! j ≤ mostTime) ⌝ }

@@ -3,7 +3,7 @@ use Prim.Native.Nat.{ℕ, _+_, _-_, _*_, _≤_, _<_}
 use native.Mathlib.Omega.{arith}
 use native.Mathlib.Numerals.{add-one}
 use mathlib.Core.Path.{_≡_, refl, sym, ap, _∙_}
-use mathlib.Core.List.{List, [], _∷_, _++_, append-assoc}
+use mathlib.Core.List.{List, [], _∷_, _++_, append-assoc, append-nil}
 use mathlib.Core.Logic.{inl, inr}
 use lib.ListN.{length, drop, take, set, length-append, length-set}
 use lib.Seq.{take-suc-set}
@@ -13,7 +13,6 @@ use Rattle.joblist.specs.Limits.{mostTime, mostJobs}
 use Rattle.chains.specs.Paths.{Pair, pair, Precedes, Below}
 use Rattle.texts.specs.Tokens.{Token, tokens}
 use Rattle.texts.specs.Readings.{Read, bad, good}
-use Rattle.texts.proofs.Readings.{append-nil}
 use Rattle.rows.specs.Walk.{Seen, seeing, addPair, addRow, see, Fit, StepSays, FoundSays}
 use Rattle.rows.specs.declared.Walk.{Walk}
 use Rattle.rows.specs.declared.Step.the-variants.{Successor, Begun, Done, Stop}

@@ -5,4 +5,5 @@ pub mod Whole
 pub mod Steps
 pub mod Checking
 pub mod Limits
+pub mod Exactly
 pub mod Cases

@@ -6,12 +6,12 @@ use mathlib.Core.List.{List, [], _∷_, _++_}
 use mathlib.Core.Logic.{inl, inr}
 use lib.ListN.{length}
 use Rattle.lists.specs.Lists.{_!_, Every}
-use Rattle.joblist.specs.Limits.{mostTime, mostDemand, mostJobs}
+use Rattle.joblist.specs.Limits.{mostTime, mostDemand, mostJobs, mostResources}
 use Rattle.chains.specs.Paths.{Pair, Precedes, Below}
 use Rattle.texts.specs.Tokens.{Token, tokens}
 use Rattle.texts.specs.Readings.{bad, good, andThen, one, times, many, nothingMore}
-use Rattle.texts.proofs.Readings.{not-both, good-same, then-good, one-takes, one-codes, many-takes, many-codes, times-takes, times-codes, every-at}
-use Rattle.rows.specs.Projects.{mostResources, Row, Project, tagged, pairsFrom, pairsOf, durations, demandsOn}
+use Rattle.texts.proofs.Readings.{bad-not-good, good-same, then-good, one-takes, one-codes, many-takes, many-codes, times-takes, times-codes, each-within}
+use Rattle.rows.specs.Projects.{Row, Project, tagged, pairsFrom, pairsOf, durations, demandsOn}
 use Rattle.rows.specs.Patterson.{row, Opening, opening, project, patterson}
 use Rattle.rows.proofs.Takes.{OfText, low-code, then-codes, row-codes, Limited, row-takes}
 
@@ -30,7 +30,7 @@ durations-limited n (r ∷ rs) h (suc j) = durations-limited n rs (h .1) j
 
 demands-limited : (n resource : ℕ) (rs : List Row) → Every (Limited n) rs → (j : ℕ) → demandsOn resource rs ! j ≤ mostDemand
 demands-limited n resource [] h j = omega arith
-demands-limited n resource (r ∷ rs) h zero = every-at mostDemand (r .demands) (h .0 .demands) resource
+demands-limited n resource (r ∷ rs) h zero = each-within mostDemand (r .demands) (h .0 .demands) resource
 demands-limited n resource (r ∷ rs) h (suc j) = demands-limited n resource rs (h .1) j
 
 -- the pairs of rows numbered from j on: jobs among them, successors among the n jobs
@@ -58,17 +58,17 @@ opening-takes ts rest o e =
     let r = then-good (many mostDemand (t .0) (t .1)) (λ cs w. good (made (s .0) (t .0) cs) w) o rest (t .3) in
     let y = good-same (made (s .0) (t .0) (r .0)) o (r .1) rest (r .3) in
     let q = many-takes mostDemand (t .0) (t .1) (r .1) (r .0) (r .2) in
-    subst Opens (y .0) (record { few = one-takes mostJobs 31 (s .0) ts (s .1) (s .2) .1; resources = q .0; capacities = every-at mostDemand (r .0) (q .1) })
+    subst Opens (y .0) (record { few = one-takes mostJobs 31 (s .0) ts (s .1) (s .2) .1; resources = q .0; capacities = each-within mostDemand (r .0) (q .1) })
   where
     made : ℕ → ℕ → List ℕ → Opening
     made n k cs = record { jobs = n; resources = k; capacities = cs }
 
 over-good : {A : Type 0} (a b : A) (ts rest : List Token) → nothingMore a ts ≡ good b rest → (a ≡ b) × (rest ≡ [])
 over-good a b [] rest e = let q = good-same a b [] rest e in (q .0, sym (q .1))
-over-good a b (t ∷ ts) rest e = not-both (bad 30) 30 b rest refl e
+over-good a b (t ∷ ts) rest e = bad-not-good (bad 30) 30 b rest refl e
 
 over-codes : {A : Type 0} (a : A) (ts : List Token) (c : ℕ) → nothingMore a ts ≡ bad c → c ≡ 30
-over-codes a [] c e = not-both (good a []) c a [] e refl
+over-codes a [] c e = bad-not-good (good a []) c a [] e refl
 over-codes a (t ∷ ts) c e = cc
 
 -- nothing is left of a text that was read
@@ -107,7 +107,7 @@ unfolding opening
 opening-codes c ts =
     then-codes (one mostJobs 31 ts) _ c (λ q. low-code (one-codes mostJobs 31 c ts q)) (λ n u p.
     then-codes (one mostResources 31 u) _ c (λ q. low-code (one-codes mostResources 31 c u q)) (λ k v p'.
-    then-codes (many mostDemand k v) _ c (λ q. low-code (many-codes mostDemand k c v q)) (λ cs w p'' q. not-both _ c _ w q refl)))
+    then-codes (many mostDemand k v) _ c (λ q. low-code (many-codes mostDemand k c v q)) (λ cs w p'' q. bad-not-good _ c _ w q refl)))
 
 pub patterson-codes : (s : List ℕ) (c : ℕ) → patterson s ≡ bad c → OfText c
 unfolding patterson project

@@ -12,7 +12,7 @@ use Rattle.lists.specs.Lists.{Every}
 use Rattle.joblist.specs.Limits.{mostTime, mostDemand}
 use Rattle.texts.specs.Tokens.{Token}
 use Rattle.texts.specs.Readings.{Read, bad, good, andThen, one, times, many}
-use Rattle.texts.proofs.Readings.{not-both, good-same, then-good, then-bad, one-takes, one-codes, many-takes, many-codes, times-takes, times-codes}
+use Rattle.texts.proofs.Readings.{bad-not-good, good-same, then-good, then-bad, one-takes, one-codes, many-takes, many-codes, times-takes, times-codes}
 use Rattle.rows.specs.Projects.{Row, link}
 use Rattle.rows.specs.Patterson.{Head, head, row}
 
@@ -25,7 +25,7 @@ link-takes n v ts rest e =
     omega (arith, t .0, t .1, q .0, q .2, ap length (q .1))
   where
     go : (b : Bool) (x : ℕ) (u : List Token) → eqb x 0 ≡ b → cond b (bad 32) (good (x - 1) u) ≡ good v rest → (x - 1 ≡ v) × (u ≡ rest) × (0 < x)
-    go true x u d q = not-both (bad 32) 32 v rest refl q
+    go true x u d q = bad-not-good (bad 32) 32 v rest refl q
     go false x u d q = (cc, cc, omega (arith, eqb-false x 0 d))
 
 pub link-codes : (n c : ℕ) (ts : List Token) → link n ts ≡ bad c → (c ≡ 30) ⊎ (c ≡ 32)
@@ -34,7 +34,7 @@ link-codes n c ts e = go (then-bad (one n 32 ts) (λ x u. cond (eqb x 0) (bad 32
   where
     zero-go : (b : Bool) (x : ℕ) (u : List Token) → cond b (bad 32) (good (x - 1) u) ≡ bad c → c ≡ 32
     zero-go true x u q = cc
-    zero-go false x u q = not-both (good (x - 1) u) c (x - 1) u q refl
+    zero-go false x u q = bad-not-good (good (x - 1) u) c (x - 1) u q refl
 
     go : (one n 32 ts ≡ bad c) ⊎ ((x : ℕ) × (u : List Token) × (one n 32 ts ≡ good x u) × (cond (eqb x 0) (bad 32) (good (x - 1) u) ≡ bad c)) → (c ≡ 30) ⊎ (c ≡ 32)
     go (inl q) = one-codes n 32 c ts q
@@ -85,13 +85,13 @@ unfolding head
 head-codes n k c ts =
     then-codes (one mostTime 31 ts) _ c (λ q. low-code (one-codes mostTime 31 c ts q)) (λ d u p.
     then-codes (many mostDemand k u) _ c (λ q. low-code (many-codes mostDemand k c u q)) (λ qs v p'.
-    then-codes (one n 31 v) _ c (λ q. low-code (one-codes n 31 c v q)) (λ m w p'' q. not-both _ c _ w q refl)))
+    then-codes (one n 31 v) _ c (λ q. low-code (one-codes n 31 c v q)) (λ m w p'' q. bad-not-good _ c _ w q refl)))
 
 pub row-codes : (n k j c : ℕ) (ts : List Token) → row n k j ts ≡ bad c → OfText c
 unfolding row
 row-codes n k j c ts =
     then-codes (head n k ts) _ c (head-codes n k c ts) (λ h u p.
-    then-codes (times (λ i. link n) 0 (h .count) u) _ c (times-codes (λ i. link n) OfText (λ i d v q. high-code (link-codes n d v q)) 0 (h .count) c u) (λ ss w p' q. not-both _ c _ w q refl))
+    then-codes (times (λ i. link n) 0 (h .count) u) _ c (times-codes (λ i. link n) OfText (λ i d v q. high-code (link-codes n d v q)) 0 (h .count) c u) (λ ss w p' q. bad-not-good _ c _ w q refl))
 
 -- a row whose numbers are within their limits, for n jobs
 pub record Limited (n : ℕ) (r : Row) : Type 0 where

@@ -3,11 +3,11 @@ use Prim.Native.Nat.{ℕ, _-_}
 use native.Mathlib.Omega.{arith}
 use mathlib.Core.Path.{_≡_, refl, sym, ap, _∙_}
 use mathlib.Core.List.{List, [], _∷_}
-use Rattle.joblist.specs.Limits.{mostDemand, mostJobs}
+use Rattle.joblist.specs.Limits.{mostDemand, mostJobs, mostResources}
 use Rattle.texts.specs.Tokens.{Token}
 use Rattle.texts.specs.Readings.{Read, bad, good, andThen, one, times, many}
-use Rattle.texts.proofs.Readings.{not-both}
-use Rattle.rows.specs.Projects.{mostResources, Row, pairsFrom, durations, demandsOn}
+use Rattle.texts.proofs.Readings.{bad-not-good}
+use Rattle.rows.specs.Projects.{Row, pairsFrom, durations, demandsOn}
 use Rattle.rows.specs.Patterson.{row, Opening, opening, project}
 use Rattle.rows.specs.Walk.{Seen, seeing}
 
@@ -46,7 +46,7 @@ pub rows-good : (n k res : ℕ) (ts rest : List Token) (x : Seen) → seeing n k
 rows-good n k res ts rest x e = go (times (row n k) 0 n ts) (sym (seeing-all n k res ts) ∙ e)
   where
     go : (r : Read (List Row)) → andThen r (λ rs u. good (viewed res rs) u) ≡ good x rest → (rs : List Row) × (r ≡ good rs rest) × (x ≡ viewed res rs)
-    go (bad c) q = not-both (bad c) c x rest refl q
+    go (bad c) q = bad-not-good (bad c) c x rest refl q
     go (good rs u) q = (rs, let y : u ≡ rest = cc in rw y, cc)
 
 pub rows-bad : (n k res : ℕ) (ts : List Token) (c : ℕ) → seeing n k res 0 0 ts ≡ bad c → times (row n k) 0 n ts ≡ bad c
@@ -54,7 +54,7 @@ rows-bad n k res ts c e = go (times (row n k) 0 n ts) (sym (seeing-all n k res t
   where
     go : (r : Read (List Row)) → andThen r (λ rs u. good (viewed res rs) u) ≡ bad c → r ≡ bad c
     go (bad d) q = cc
-    go (good rs u) q = not-both (good (viewed res rs) u) c (viewed res rs) u q refl
+    go (good rs u) q = bad-not-good (good (viewed res rs) u) c (viewed res rs) u q refl
 
 -- ---- the project
 

@@ -2,10 +2,10 @@
 -- is missing or is left over; 31 for a number above its limit; 32 for a successor out of range.
 use Prim.Native.Nat.{ℕ}
 use mathlib.Core.List.{List}
-use Rattle.joblist.specs.Limits.{mostTime, mostDemand, mostJobs}
+use Rattle.joblist.specs.Limits.{mostTime, mostDemand, mostJobs, mostResources}
 use Rattle.texts.specs.Tokens.{Token, tokens}
 use Rattle.texts.specs.Readings.{Read, good, andThen, one, times, many, nothingMore}
-use Rattle.rows.specs.Projects.{mostResources, Row, Project, link}
+use Rattle.rows.specs.Projects.{Row, Project, link}
 
 -- a job's row up to its successors: duration, a demand for each of k resources, how many successors (no more than the n jobs)
 pub record Head : Type 0 where
@@ -21,7 +21,7 @@ head n k ts =
     andThen (one n 31 t₂) (λ c t₃.
     good (record { duration = d; demands = qs; count = c }) t₃)))
 
--- and its successors
+-- a whole row: the head, then so many successors. Its number j is for layouts that write it
 unfoldable pub row : ℕ → ℕ → ℕ → List Token → Read Row
 unfolding head times link
 row n k j ts =

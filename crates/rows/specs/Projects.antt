@@ -9,16 +9,13 @@ use Rattle.chains.specs.Paths.{Pair, pair}
 use Rattle.texts.specs.Tokens.{Token}
 use Rattle.texts.specs.Readings.{Read, bad, good, andThen, one}
 
--- the most resources that a text may name
-abbrev pub mostResources : ℕ
-mostResources = 8
-
 -- a job: a demand for each resource, its successors numbered from 0
 pub record Row : Type 0 where
   pub duration : ℕ
   pub demands : List ℕ
   pub successors : List ℕ
 
+-- a capacity for each resource, a row for each job
 pub record Project : Type 0 where
   pub capacities : List ℕ
   pub rows : List Row

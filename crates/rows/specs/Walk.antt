@@ -66,7 +66,7 @@ addRow d q (good x ts) = good (record { durs = d ∷ x .durs; dems = q ∷ x .de
 abbrev pub see : ℕ → ℕ → ℕ → List ℕ → Walk → Read Seen
 see n k res s w = seeing n k res (w .next) (w .left) (tokens (drop (w .at) s))
 
--- successors are left only of a row that was begun
+-- successors are left only of rows that were begun, at most mostJobs of each
 pub record Fit (n : ℕ) (w : Walk) : Type 0 where
   pub begun : w .next ≤ n
   pub owned : w .left ≤ mostJobs * w .next
@@ -75,6 +75,7 @@ pub record Fit (n : ℕ) (w : Walk) : Type 0 where
 abbrev pub Further : List ℕ → Walk → Walk → Type 0
 Further s w u = length (tokens (drop (u .at) s)) < length (tokens (drop (w .at) s))
 
+-- a step's answer: what is left before it, by what is left behind it
 abbrev pub StepSays : ℕ → ℕ → ℕ → List ℕ → Walk → Step → Type 0
 StepSays n k res s w (Successor v u) =
     (see n k res s w ≡ addPair (pair (w .next - 1) v) (see n k res s u)) × Fit n u × Further s w u × (v < n) × (u .next ≡ w .next) × (w .left ≡ u .left + 1)

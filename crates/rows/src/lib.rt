@@ -1,5 +1,5 @@
 // The rows of a text in the Patterson layout (document 01, 'Library layouts'; refusals of document 02, Item 1): its counts, one step along its
-// rows, and all of its rows checked. Nothing is stored but durations and demands: whoever wants the pairs walks the text again.
+// rows, and all of its rows checked.
 mod parts;
 
 use parts::HeadGot;
@@ -15,9 +15,6 @@ ghost use Rattle.joblist.specs.Limits.{mostTime, mostJobs};
 ghost use Rattle.texts.specs.Tokens.{tokens};
 ghost use Rattle.rows.specs.Patterson.{opening};
 ghost use Rattle.rows.specs.Walk.{OpenSays, Fit, StepSays, FoundSays, seeing};
-
-// The most resources that a text may name.
-const RESOURCES: u32 = 8;
 
 // Job count, resource count, the chosen capacity (0 where there is no such resource) and the place of the rows; or a refusal.
 pub enum Opened {
@@ -52,7 +49,7 @@ pub fn open_text(text: &[u8], res: u32) -> Opened
 {
     match texts::next_up_to(text, 0, joblist::MOST as u32, 31) {
         Got::Bad(c) => Opened::Closed(c),
-        Got::Good(n, a) => match texts::next_up_to(text, a, RESOURCES, 31) {
+        Got::Good(n, a) => match texts::next_up_to(text, a, joblist::RESOURCES, 31) {
             Got::Bad(c) => Opened::Closed(c),
             Got::Good(k, b) => match read_many(text, b, k, joblist::DRAW, res) {
                 Got::Bad(c) => Opened::Closed(c),
@@ -76,7 +73,7 @@ pub fn advance(text: &[u8], n: u32, k: u32, res: u32, w: Walk) -> Step
                 return Step::Successor(
                     v,
                     Walk {
-                        next: next,
+                        next,
                         left: left - 1,
                         at: to,
                     },
@@ -120,7 +117,7 @@ pub fn validate(
     let mut w = Walk {
         next: 0,
         left: 0,
-        at: at,
+        at,
     };
     let mut pairs: usize = 0;
     loop {

@@ -3,7 +3,7 @@ use Prim.Native.Nat.{ℕ, zero, suc, _+_, _-_, _≤_, _<_}
 use native.Mathlib.Omega.{arith}
 use mathlib.Core.Path.{_≡_, refl, ap, subst}
 use mathlib.Core.Bool.{Bool, true, false, cond}
-use mathlib.Core.List.{List, [], _∷_, _++_, append-assoc}
+use mathlib.Core.List.{List, [], _∷_, _++_, append-assoc, append-nil}
 use mathlib.Core.Logic.{_⊎_, inl, inr}
 use lib.Dec.{leb}
 use lib.ListN.{length}
@@ -13,8 +13,8 @@ use Rattle.texts.specs.Tokens.{Token, number, other}
 use Rattle.texts.specs.Readings.{Read, bad, good, andThen, one, times, many}
 
 -- a refusal is no reading
-pub not-both : {A B : Type 0} (r : Read A) (c : ℕ) (a : A) (rest : List Token) → r ≡ bad c → r ≡ good a rest → B
-not-both r c a rest p q = let z : _≡_ {A = ℕ} 0 1 = cc in absurd (omega arith)
+pub bad-not-good : {A B : Type 0} (r : Read A) (c : ℕ) (a : A) (rest : List Token) → r ≡ bad c → r ≡ good a rest → B
+bad-not-good r c a rest p q = let z : _≡_ {A = ℕ} 0 1 = cc in absurd (omega arith)
 
 -- a reading is one reading
 pub good-one : {A : Type 0} (r : Read A) (a b : A) (u v : List Token) → r ≡ good a u → r ≡ good b v → (a ≡ b) × (u ≡ v)
@@ -23,13 +23,10 @@ good-one r a b u v p q = (cc, cc)
 pub good-same : {A : Type 0} (a b : A) (u v : List Token) → good a u ≡ good b v → (a ≡ b) × (u ≡ v)
 good-same a b u v e = (cc, cc)
 
-pub bad-one : {A : Type 0} (r : Read A) (c d : ℕ) → r ≡ bad c → r ≡ bad d → c ≡ d
-bad-one r c d p q = cc
-
 -- what the first of two readings was, where both were good
 pub then-good : {A B : Type 0} (r : Read A) (f : A → List Token → Read B) (b : B) (end : List Token) → andThen r f ≡ good b end
     → (a : A) × (rest : List Token) × (r ≡ good a rest) × (f a rest ≡ good b end)
-then-good (bad c) f b end e = not-both (bad c) c b end refl e
+then-good (bad c) f b end e = bad-not-good (bad c) c b end refl e
 then-good (good a rest) f b end e = (a, rest, refl, e)
 
 -- and which of them was refused
@@ -48,10 +45,6 @@ ahead ys (good xs ts) = good (ys ++ xs) ts
 pub ahead-nil : {A : Type 0} (r : Read (List A)) → ahead [] r ≡ r
 ahead-nil (bad c) = refl
 ahead-nil (good xs ts) = refl
-
-pub append-nil : {A : Type 0} (xs : List A) → xs ++ [] ≡ xs
-append-nil [] = refl
-append-nil (x ∷ xs) = ap (λ l. x ∷ l) (append-nil xs)
 
 -- readings that do not look at their number
 pub times-any : {A : Type 0} (f : List Token → Read A) (i j m : ℕ) (ts : List Token) → times (λ k. f) i m ts ≡ times (λ k. f) j m ts
@@ -86,13 +79,13 @@ module _ {A : Type 0} (f : List Token → Read A) (ys : List A) (m : ℕ) (ts : 
 
 pub one-takes : (top code v : ℕ) (ts rest : List Token) → one top code ts ≡ good v rest → (length rest < length ts) × (v ≤ top)
 unfolding one
-one-takes top code v [] rest e = not-both (bad 30) 30 v rest refl e
-one-takes top code v (other ∷ ts) rest e = not-both (bad 30) 30 v rest refl e
+one-takes top code v [] rest e = bad-not-good (bad 30) 30 v rest refl e
+one-takes top code v (other ∷ ts) rest e = bad-not-good (bad 30) 30 v rest refl e
 one-takes top code v (number x ∷ ts) rest e = go (leb x top) refl e
   where
     go : (t : Bool) → leb x top ≡ t → cond t (good x ts) (bad code) ≡ good v rest → (length rest < suc (length ts)) × (v ≤ top)
     go true d q = let y : x ≡ v = cc in let u : ts ≡ rest = cc in rw (← u, ← y) (omega (arith, leb-true x top d))
-    go false d q = not-both (bad code) code v rest refl q
+    go false d q = bad-not-good (bad code) code v rest refl q
 
 pub one-codes : (top code c : ℕ) (ts : List Token) → one top code ts ≡ bad c → (c ≡ 30) ⊎ (c ≡ code)
 unfolding one
@@ -101,7 +94,7 @@ one-codes top code c (other ∷ ts) e = inl cc
 one-codes top code c (number x ∷ ts) e = go (leb x top) e
   where
     go : (t : Bool) → cond t (good x ts) (bad code) ≡ bad c → (c ≡ 30) ⊎ (c ≡ code)
-    go true q = not-both (good x ts) c x ts q refl
+    go true q = bad-not-good (good x ts) c x ts q refl
     go false q = inr cc
 
 module _ {A : Type 0} (f : ℕ → List Token → Read A) where
@@ -121,7 +114,7 @@ module _ {A : Type 0} (f : ℕ → List Token → Read A) where
   -- what every refusal of a reading is, every refusal of several is
   pub times-codes : (P : ℕ → Type 0) → ((j c : ℕ) (ts : List Token) → f j ts ≡ bad c → P c) → (j m c : ℕ) (ts : List Token) → times f j m ts ≡ bad c → P c
   unfolding times
-  times-codes P h j zero c ts e = not-both (good [] ts) c [] ts e refl
+  times-codes P h j zero c ts e = bad-not-good (good [] ts) c [] ts e refl
   times-codes P h j (suc m) c ts e = go (then-bad (f j ts) (λ a u. andThen (times f (suc j) m u) (λ ys end. good (a ∷ ys) end)) c e) (λ u q. times-codes P h (suc j) m c u q)
     where
       go : (f j ts ≡ bad c) ⊎ ((a : A) × (u : List Token) × (f j ts ≡ good a u) × (andThen (times f (suc j) m u) (λ ys end. good (a ∷ ys) end) ≡ bad c))
@@ -131,7 +124,7 @@ module _ {A : Type 0} (f : ℕ → List Token → Read A) where
         where
           rest : (times f (suc j) m (q .1) ≡ bad c) ⊎ ((ys : List A) × (u : List Token) × (times f (suc j) m (q .1) ≡ good ys u) × (good (q .0 ∷ ys) u ≡ bad c)) → P c
           rest (inl z) = k (q .1) z
-          rest (inr z) = not-both (good (q .0 ∷ z .0) (z .1)) c (q .0 ∷ z .0) (z .1) (z .3) refl
+          rest (inr z) = bad-not-good (good (q .0 ∷ z .0) (z .1)) c (q .0 ∷ z .0) (z .1) (z .3) refl
 
 pub many-takes : (top m : ℕ) (ts rest : List Token) (xs : List ℕ) → many top m ts ≡ good xs rest → (length xs ≡ m) × Every (λ x. x ≤ top) xs × (length rest ≤ length ts)
 unfolding many
@@ -143,7 +136,7 @@ unfolding many
 many-codes top m c ts e = times-codes (λ j. one top 31) (λ d. (d ≡ 30) ⊎ (d ≡ 31)) (λ j d u q. one-codes top 31 d u q) 0 m c ts e
 
 -- a number of a list of which each is within the limit
-pub every-at : (top : ℕ) (xs : List ℕ) → Every (λ x. x ≤ top) xs → (k : ℕ) → xs ! k ≤ top
-every-at top [] h k = omega arith
-every-at top (x ∷ xs) h zero = h .0
-every-at top (x ∷ xs) h (suc k) = every-at top xs (h .1) k
+pub each-within : (top : ℕ) (xs : List ℕ) → Every (λ x. x ≤ top) xs → (k : ℕ) → xs ! k ≤ top
+each-within top [] h k = omega arith
+each-within top (x ∷ xs) h zero = h .0
+each-within top (x ∷ xs) h (suc k) = each-within top xs (h .1) k

@@ -6,6 +6,7 @@ use mathlib.Core.List.{List, [], _∷_}
 use lib.Dec.{leb}
 use Rattle.texts.specs.Tokens.{Token, number, other}
 
+-- a refusal's number, or what was read and the tokens behind it
 pub data Read (A : Type 0) : Type 0 where
   bad : ℕ → Read A
   good : A → List Token → Read A

@@ -23,7 +23,7 @@ pub record Skipped (s : List ℕ) (at to : ℕ) : Type 0 where
   pub same : tokens (drop at s) ≡ tokens (drop to s)
   pub stops : to < length s → blank (s ! to) ≡ false
 
--- the most that code holds of a number: 2 to the power 32, one more than any limit can be
+-- the most that code holds of a number, 2 to the power 32: one more than any limit of 32 bits, so that no limit is met by a number that wrapped
 abbrev pub held : ℕ
 held = 4294967296
 

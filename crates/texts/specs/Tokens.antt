@@ -40,6 +40,7 @@ abbrev pub more : Token → ℕ → Token
 more other b = other
 more (number v) b = cond (digit b) (number (v * 10 + (b - 48))) other
 
+-- with all bytes of a run more
 unfoldable pub tokenFrom : Token → List ℕ → Token
 unfolding digit
 tokenFrom w [] = w
@@ -50,6 +51,7 @@ unfoldable pub token : List ℕ → Token
 unfolding tokenFrom
 token t = tokenFrom (number 0) t
 
+-- all of a text's
 unfoldable pub tokens : List ℕ → List Token
 unfolding runs token
 tokens s = map token (runs s)

@@ -1,5 +1,4 @@
-// The tokens of a text, one number at a time (document 01, 'Library layouts'). A number may have any length: what is held of it stops at 2 to the
-// power 32, which no limit reaches, so that none wraps.
+// The tokens of a text, one number at a time (document 01, 'Library layouts'). A number may have any length.
 mod scan;
 
 use scan::Next;

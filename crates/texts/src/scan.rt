@@ -6,7 +6,7 @@ ghost use lib.ListN.{drop};
 ghost use Rattle.texts.specs.Tokens.{blank, digit, number, tokens};
 ghost use Rattle.texts.specs.Scan.{Skipped, held, Capped, Heads, within};
 
-// What is held of a number at most.
+// What is held of a number at most; `held` in specs/ says why.
 const HELD: u64 = 4294967296;
 
 // The next token: a number with the place behind it, any other one, or none.
@@ -16,6 +16,7 @@ pub enum Next {
     End,
 }
 
+// Space, tab, carriage return, line feed.
 fn is_blank(b: u8) -> bool
     ensures { λ r. ⌜ r ≡ blank b ⌝ }
 {
@@ -31,6 +32,7 @@ fn is_blank(b: u8) -> bool
     b == b'\n'
 }
 
+// 0 to 9.
 fn is_digit(b: u8) -> bool
     ensures { λ r. ⌜ r ≡ digit b ⌝ }
 {

@@ -6,7 +6,8 @@ use native.Mathlib.Omega.{arith}
 use borrow.Author.Needs.{needs}
 use borrow.Author.Tests.{not-true, not-false}
 use Rattle.joblist.specs.Limits.{mostJobs}
-use Rattle.order.proofs.Orders.{replicate-low, says-33, no-33, head-34, tail-34, head-longest, over-34, no-34, tail-longest}
+use Rattle.lists.proofs.Lists.{replicate-low}
+use Rattle.order.proofs.Orders.{says-33, no-33, head-34, tail-34, head-longest, over-34, no-34, tail-longest}
 use Rattle.order.proofs.longest_chains.Statement.{statement}
 use Rattle.order.proofs.longest_chains.Tie as tie
 
