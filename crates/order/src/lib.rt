@@ -37,13 +37,13 @@ pub fn next_pair(text: &[u8], n: u32, k: u32, start: Walk) -> Pull
                 let next = w.next;
                 return Pull::Next(next - 1, v, u);
             }
-            Step::Begun(d, q, u) => {
+            Step::Begun(_, _, u) => {
                 w = u;
             }
             Step::Done => {
                 return Pull::NoMore;
             }
-            Step::Stop(c) => {
+            Step::Stop(_) => {
                 return Pull::NoMore;
             }
         }

@@ -122,7 +122,7 @@ pub fn validate(
     let mut pairs: usize = 0;
     loop {
         match advance(text, n, k, res, w) {
-            Step::Successor(v, u) => {
+            Step::Successor(_, u) => {
                 pairs += 1;
                 w = u;
             }

@@ -24,8 +24,8 @@ advance-requires c κs = (c .loop .inv .fit, c .before .before .pre .1)
 enum-known-v : tie.Need-enum-known-v Inv-loop μ-loop
 enum-known-v c = search needs
 
-sub-t14 : tie.Need-sub-t14 Inv-loop μ-loop
-sub-t14 c =
+sub-t11 : tie.Need-sub-t11 Inv-loop μ-loop
+sub-t11 c =
     let t = rw (c .before .v .given .1) at (c .before .before .before .advance .ensures) in
     omega (arith, c .before .before .before .before .loop .inv .fit .owned, t .5)
 
@@ -34,17 +34,17 @@ returns c =
     let t = rw (c .before .v .given .1) at (c .before .before .before .advance .ensures) in
     pulling-pair _ _ _ _ _ (c .before .before .before .before .loop .inv) _ _ t
 
-enum-known-d : tie.Need-enum-known-d Inv-loop μ-loop
-enum-known-d c = search needs
+enum-known-u : tie.Need-enum-known-u Inv-loop μ-loop
+enum-known-u c = search needs
 
 loop-less : tie.Need-loop-less Inv-loop μ-loop
 loop-less c =
-    let t = rw (c .before .d .given .1) at (c .before .before .before .advance .ensures) in
+    let t = rw (c .before .u .given .1) at (c .before .before .before .advance .ensures) in
     t .2
 
 loop-again : tie.Need-loop-again Inv-loop μ-loop
 loop-again c =
-    let t = rw (c .before .d .given .1) at (c .before .before .before .advance .ensures) in
+    let t = rw (c .before .u .given .1) at (c .before .before .before .advance .ensures) in
     pulling-row _ _ _ _ _ (c .before .before .before .before .loop .inv) _ _ _ t
 
 enum-told : tie.Need-enum-told Inv-loop μ-loop
@@ -55,13 +55,13 @@ returns-2 c =
     let t = rw (c .enum-told .given .1) at (c .before .before .advance .ensures) in
     pulling-done _ _ _ _ _ (c .before .before .before .loop .inv) t
 
-enum-known-c : tie.Need-enum-known-c Inv-loop μ-loop
-enum-known-c c = search needs
+enum-told-2 : tie.Need-enum-told-2 Inv-loop μ-loop
+enum-told-2 c = search needs
 
 returns-3 : tie.Need-returns-3 Inv-loop μ-loop
 returns-3 c =
-    let t = rw (c .before .c .given .1) at (c .before .before .before .advance .ensures) in
-    pulling-stop _ _ _ _ _ (c .before .before .before .before .loop .inv) _ t
+    let t = rw (c .enum-told2 .given .1) at (c .before .before .advance .ensures) in
+    pulling-stop _ _ _ _ _ (c .before .before .before .loop .inv) _ t
 
 pub next-pair-spec : {M : Type 1} → statement M
 next-pair-spec =
@@ -72,12 +72,12 @@ next-pair-spec =
     loop-holds
     advance-requires
     enum-known-v
-    sub-t14
+    sub-t11
     returns
-    enum-known-d
+    enum-known-u
     loop-less
     loop-again
     enum-told
     returns-2
-    enum-known-c
+    enum-told-2
     returns-3)

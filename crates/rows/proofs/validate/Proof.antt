@@ -20,8 +20,8 @@ loop-holds c = checking-start _ _ _ _ _ _ _ (c .before .pre .1) (c .before .pre 
 advance-requires : tie.Need-advance-requires Inv-loop μ-loop
 advance-requires c κs = (c .loop .inv .fit, c .before .before .pre .0)
 
-enum-known-v : tie.Need-enum-known-v Inv-loop μ-loop
-enum-known-v c = search needs
+enum-known-u : tie.Need-enum-known-u Inv-loop μ-loop
+enum-known-u c = search needs
 
 add-pairs : tie.Need-add-pairs Inv-loop μ-loop
 add-pairs c =
@@ -30,12 +30,12 @@ add-pairs c =
 
 loop-less : tie.Need-loop-less Inv-loop μ-loop
 loop-less c =
-    let t = rw (c .before .v .given .1) at (c .before .before .before .advance .ensures) in
+    let t = rw (c .before .u .given .1) at (c .before .before .before .advance .ensures) in
     t .2
 
 loop-again : tie.Need-loop-again Inv-loop μ-loop
 loop-again c =
-    let t = rw (c .before .v .given .1) at (c .before .before .before .advance .ensures) in
+    let t = rw (c .before .u .given .1) at (c .before .before .before .advance .ensures) in
     checking-successor _ _ _ _ _ _ _ _ _ (c .before .before .before .before .loop .inv) _ _ t
 
 enum-known-d : tie.Need-enum-known-d Inv-loop μ-loop
@@ -96,7 +96,7 @@ validate-spec =
     μ-loop
     loop-holds
     advance-requires
-    enum-known-v
+    enum-known-u
     add-pairs
     loop-less
     loop-again
