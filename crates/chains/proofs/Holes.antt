@@ -1,44 +1,14 @@
--- Of n + 1 numbers below n two are equal: take the last one's place out, and n numbers are left below n - 1.
-use Prim.Native.Nat.{ℕ, zero, suc, _+_, _-_, _≤_, _<_}
+-- Of n + 1 numbers below n two are equal: either a pair of equal ones is found, or the first n are all numbers below n (`lists: Orders onto`), the last
+-- one among them.
+use Prim.Native.Nat.{ℕ, suc, _≤_, _<_}
 use native.Mathlib.Omega.{arith}
-use native.Mathlib.Decide.{ℕ-discrete}
-use mathlib.Core.Path.{_≡_, refl, sym, ap, _∙_}
-use mathlib.Core.Bool.{Bool, true, false, cond}
-use mathlib.Core.Logic.{_⊎_, inl, inr, ⊎-elim}
-use lib.Dec.{ltb}
-use borrow.Author.Tests.{ltb-true, ltb-false}
-
--- whether one of the first n is x
-pub look : (f : ℕ → ℕ) (x n : ℕ) → ((i : ℕ) × (i < n) × (f i ≡ x)) ⊎ ((i : ℕ) → i < n → f i ≡ x → ⊥)
-look f x zero = inr (λ i h e. omega arith)
-look f x (suc n) = go (look f x n) (ℕ-discrete (f n) x)
-  where
-    go : ((i : ℕ) × (i < n) × (f i ≡ x)) ⊎ ((i : ℕ) → i < n → f i ≡ x → ⊥) → Dec (f n ≡ x) → ((i : ℕ) × (i < suc n) × (f i ≡ x)) ⊎ ((i : ℕ) → i < suc n → f i ≡ x → ⊥)
-    go (inl q) d = inl (q .0, omega (arith, q .1), q .2)
-    go (inr q) (yes e) = inl (n, omega arith, e)
-    go (inr q) (no d) = inr (λ i h e. elim (ℕ-discrete i n) [ yes k ↦ d (ap f (sym k) ∙ e) | no k ↦ q i (omega arith) e ])
-
--- y with the place x taken out
-unfoldable pub without : ℕ → ℕ → ℕ
-without x y = cond (ltb x y) (y - 1) y
-
-without-is : (x y : ℕ) → ((x < y) × (without x y ≡ y - 1)) ⊎ ((y ≤ x) × (without x y ≡ y))
-unfolding without
-without-is x y = go (ltb x y) refl
-  where
-    go : (b : Bool) → ltb x y ≡ b → ((x < y) × (cond b (y - 1) y ≡ y - 1)) ⊎ ((y ≤ x) × (cond b (y - 1) y ≡ y))
-    go true e = inl (ltb-true x y e, refl)
-    go false e = inr (ltb-false x y e, refl)
-
-without-below : (x y n : ℕ) → x < suc n → y < suc n → (y ≡ x → ⊥) → without x y < n
-without-below x y n a b d = ⊎-elim (λ w. omega (arith, w .0, w .1)) (λ w. omega (arith, w .0, w .1)) (without-is x y)
-
-without-same : (x y z : ℕ) → (y ≡ x → ⊥) → (z ≡ x → ⊥) → without x y ≡ without x z → y ≡ z
-without-same x y z a b e =
-    ⊎-elim
-    (λ u. ⊎-elim (λ w. omega (arith, u .0, u .1, w .0, w .1)) (λ w. omega (arith, u .0, u .1, w .0, w .1)) (without-is x z))
-    (λ u. ⊎-elim (λ w. omega (arith, u .0, u .1, w .0, w .1)) (λ w. omega (arith, u .0, u .1, w .0, w .1)) (without-is x z))
-    (without-is x y)
+use native.Mathlib.Decide.{ℕ-discrete, decLt}
+use mathlib.Core.Path.{_≡_, refl, sym}
+use mathlib.Core.Bool.{Bool, true, false, not}
+use lib.Dec.{eqb}
+use Rattle.lists.specs.Tests.{every}
+use Rattle.lists.proofs.Judged.{Judged, judged-every, judged-eqb, judged-not}
+use Rattle.lists.proofs.Orders.{onto}
 
 pub record Twice (f : ℕ → ℕ) (n : ℕ) : Type 0 where
   pub lo : ℕ
@@ -47,19 +17,32 @@ pub record Twice (f : ℕ → ℕ) (n : ℕ) : Type 0 where
   pub within : hi ≤ n
   pub same : f lo ≡ f hi
 
-pub holes : (n : ℕ) (f : ℕ → ℕ) → ((i : ℕ) → i ≤ n → f i < n) → Twice f n
-holes zero f h = absurd (omega (arith, h 0 (omega arith)))
-holes (suc n) f h = go (look f (f (suc n)) (suc n)) (λ g. holes n g)
-  where
-    go : ((i : ℕ) × (i < suc n) × (f i ≡ f (suc n))) ⊎ ((i : ℕ) → i < suc n → f i ≡ f (suc n) → ⊥)
-        → ((g : ℕ → ℕ) → ((i : ℕ) → i ≤ n → g i < n) → Twice g n) → Twice f (suc n)
-    go (inl q) rec = record { lo = q .0; hi = suc n; less = q .1; within = omega arith; same = q .2 }
-    go (inr q) rec =
-        let t = rec (λ i. without (f (suc n)) (f i)) (λ i k. without-below (f (suc n)) (f i) n (h (suc n) (omega arith)) (h i (omega arith)) (q i (omega arith))) in
-        record {
-          lo = t .lo;
-          hi = t .hi;
-          less = t .less;
-          within = omega (arith, t .within);
-          same = without-same (f (suc n)) (f (t .lo)) (f (t .hi)) (q (t .lo) (omega (arith, t .less, t .within))) (q (t .hi) (omega (arith, t .within))) (t .same);
-        }
+module _ (n : ℕ) (f : ℕ → ℕ) (into : (i : ℕ) → i ≤ n → f i < n) where
+  -- no two of them are equal
+  apart? : Bool
+  apart? = every (λ j. every (λ i. not (eqb (f i) (f j))) j) (suc n)
+
+  judged-apart : Judged ((j : ℕ) → j < suc n → (i : ℕ) → i < j → f i ≡ f j → ⊥) ((j : ℕ) × (j < suc n) × ((i : ℕ) × (i < j) × (f i ≡ f j))) apart?
+  unfolding apart?
+  judged-apart =
+      judged-every (λ j. (i : ℕ) → i < j → f i ≡ f j → ⊥) (λ j. (i : ℕ) × (i < j) × (f i ≡ f j)) (λ j. every (λ i. not (eqb (f i) (f j))) j)
+      (λ j. judged-every (λ i. f i ≡ f j → ⊥) (λ i. f i ≡ f j) (λ i. not (eqb (f i) (f j))) (λ i. judged-not (judged-eqb (f i) (f j))) j) (suc n)
+
+  none-apart : ((j : ℕ) → j < suc n → (i : ℕ) → i < j → f i ≡ f j → ⊥) → ⊥
+  none-apart p =
+      let t = onto n f (λ j b. into j (omega arith)) one (f n) (into n (omega arith)) in
+      p n (omega arith) (t .0) (t .1) (t .2)
+    where
+      one : (i j : ℕ) → i < n → j < n → f i ≡ f j → i ≡ j
+      one i j a b e =
+          elim (ℕ-discrete i j) [
+            | yes q ↦ q
+            | no q ↦ elim (decLt i j) [ yes l ↦ absurd (p j (omega arith) i l e) | no l ↦ absurd (p i (omega arith) j (omega arith) (sym e)) ]
+          ]
+
+  pub holes : Twice f n
+  holes = go apart? refl
+    where
+      go : (b : Bool) → apart? ≡ b → Twice f n
+      go true h = absurd (none-apart (judged-apart .passed h))
+      go false h = let x = judged-apart .failed h in record { lo = x .2 .0; hi = x .0; less = x .2 .1; within = omega (arith, x .1); same = x .2 .2 }
