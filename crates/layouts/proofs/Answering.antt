@@ -118,7 +118,7 @@ module _ (s : List ℕ) (res h : ℕ) (L : Lent) where
           taken K c c₀ oc long ke kl kd kq w =
               let o = rw c₀ at oc in
               let y = fits-of r in
-              let v = w .are (pairsOf x) [] (p .come) (y .jobs) (y .successors) in
+              let v = w .are (pairsOf x) [] (p .come) in
               let ne : length (L .est) ≡ z .n = r .est in
               record {
                 number = 0;

@@ -1,5 +1,5 @@
 -- The pairs written one by one, and a list made place by place.
-use Prim.Native.Nat.{ℕ, suc, _+_, _≤_, _<_}
+use Prim.Native.Nat.{ℕ, suc, _+_, _<_}
 use native.Mathlib.Omega.{arith}
 use native.Mathlib.Numerals.{add-one}
 use native.Mathlib.Decide.{ℕ-discrete}
@@ -56,7 +56,7 @@ module _ (n k : ℕ) (s : List ℕ) (at : ℕ) (js₀ ss₀ : List ℕ) where
   module _ (js ss : List ℕ) (w : Walk) (i : ℕ) (g : Writing n k s at js₀ ss₀ js ss w i) where
     pub writing-end : PullSays n k s w NoMore → Wrote (comes n k s (first at)) js₀ ss₀ js ss
     writing-end t = record {
-      are = λ ps end e h₁ h₂.
+      are = λ ps end e.
           let m = g .mid ps end e in
           let z : ps ≡ m .done = m .all ∙ ap (λ (l : List Pair). m .done ++ l) (t (m .rest) end (m .ahead)) ∙ append-nil (m .done) in
           let y : length ps ≡ i = ap length z ∙ m .long in
@@ -83,18 +83,12 @@ module _ (n k : ℕ) (s : List ℕ) (at : ℕ) (js₀ ss₀ : List ℕ) where
             };
       }
 
-      -- more pairs than have been written
-      more-left : (ps : List Pair) (end : List Token) → comes n k s (first at) ≡ good ps end → i < length ps
+      -- there are more pairs than have been written
+      pub more-left : (ps : List Pair) (end : List Token) → comes n k s (first at) ≡ good ps end → i < length ps
       more-left ps end e =
           let m = g .mid ps end e in
           let d = t .0 (m .rest) end (m .ahead) in
           omega (arith, m .long, ap length (m .all), length-append (m .done) (m .rest), ap length (d .1))
-
-      pub writing-full : length js ≤ i → Wrote (comes n k s (first at)) js₀ ss₀ js ss
-      writing-full h = record { are = λ ps end e h₁ h₂. absurd (omega (arith, more-left ps end e, g .long-js)) }
-
-      pub writing-full₂ : length ss ≤ i → Wrote (comes n k s (first at)) js₀ ss₀ js ss
-      writing-full₂ h = record { are = λ ps end e h₁ h₂. absurd (omega (arith, more-left ps end e, g .long-ss)) }
 
 -- place by place
 pub each-step : (tails l : List ℕ) (h i x : ℕ) → i < length l → x + tails ! i ≡ h → ((j : ℕ) → j < i → l ! j + tails ! j ≡ h)

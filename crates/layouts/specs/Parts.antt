@@ -43,7 +43,14 @@ pub record Lessened (tails : List ℕ) (h : ℕ) (to to' : List ℕ) : Type 0 wh
   pub long : length to' ≡ length to
   pub each : (j : ℕ) → j < length to → to' ! j + tails ! j ≡ h
 
+-- the pairs can be read, and both lists have room for them
+pub record Roomy (r : Read (List Pair)) (js ss : List ℕ) : Type 0 where
+  pub ps : List Pair
+  pub end : List Token
+  pub come : r ≡ good ps end
+  pub jobs : length ps ≤ length js
+  pub successors : length ps ≤ length ss
+
 -- the pairs in front, the rest as it was
 pub record Wrote (r : Read (List Pair)) (js ss js' ss' : List ℕ) : Type 0 where
-  pub are : (ps : List Pair) (end : List Token) → r ≡ good ps end → length ps ≤ length js → length ps ≤ length ss
-      → (js' ≡ map (λ (p : Pair). p .job) ps ++ drop (length ps) js) × (ss' ≡ map (λ (p : Pair). p .successor) ps ++ drop (length ps) ss)
+  pub are : (ps : List Pair) (end : List Token) → r ≡ good ps end → (js' ≡ map (λ (p : Pair). p .job) ps ++ drop (length ps) js) × (ss' ≡ map (λ (p : Pair). p .successor) ps ++ drop (length ps) ss)

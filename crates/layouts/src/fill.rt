@@ -7,7 +7,7 @@ ghost use lib.ListN.{length};
 ghost use Rattle.lists.specs.Lists.{_!_};
 ghost use Rattle.joblist.specs.Limits.{mostJobs};
 ghost use Rattle.order.specs.Pairs.{comes, first};
-ghost use Rattle.layouts.specs.Parts.{Lessened, Wrote};
+ghost use Rattle.layouts.specs.Parts.{Lessened, Roomy, Wrote};
 
 // The horizon less each chain.
 pub fn latest(tails: &[u32; joblist::MOST], h: u32, to: &mut [u32])
@@ -21,9 +21,9 @@ pub fn latest(tails: &[u32; joblist::MOST], h: u32, to: &mut [u32])
     }
 }
 
-// The pairs of the text, in its order. Each turn takes a token.
+// The pairs of the text, in its order, where there is room for them. Each turn takes a token.
 pub fn write_pairs(text: &[u8], n: u32, k: u32, at: usize, js: &mut [u32], ss: &mut [u32])
-    requires { ⌜ n ≤ mostJobs ⌝ }
+    requires { ⌜ (n ≤ mostJobs) × Roomy (comes n k (now text) (first at)) (now js) (now ss) ⌝ }
     ensures { λ _. ⌜ Wrote (comes n k (now (text .entry)) (first at)) (now (js .entry)) (now (ss .entry)) (now (js .exit)) (now (ss .exit)) ⌝ }
 {
     let mut w = Walk {
@@ -38,12 +38,6 @@ pub fn write_pairs(text: &[u8], n: u32, k: u32, at: usize, js: &mut [u32], ss: &
                 return;
             }
             Pull::Next(a, b, u) => {
-                if js.len() <= i {
-                    return;
-                }
-                if ss.len() <= i {
-                    return;
-                }
                 js[i] = a;
                 ss[i] = b;
                 i += 1;

@@ -11,6 +11,7 @@ use lib.Seq.{getD-set-same}
 use Rattle.lists.specs.Lists.{_!_}
 use Rattle.lists.proofs.Lists.{set-any}
 use Rattle.lists.proofs.Differences.{total-less}
+use Rattle.lists.proofs.Sets.{clash}
 use Rattle.joblist.specs.Limits.{mostJobs}
 use Rattle.chains.specs.Paths.{Pair, pair, Precedes, weight}
 use Rattle.chains.specs.Passes.{Chained, raise, pass}
@@ -66,9 +67,6 @@ pub record Relaxing (n k : ℕ) (s : List ℕ) (at : ℕ) (p : List ℕ) (back :
   pub least : sum v₀ ≤ sum v
   pub follow : (ps : List Pair) (end : List Token) → comes n k s (first at) ≡ good ps end → Following p back v₀ v (comes n k s w) ps end
 
-never : {A : Type 0} → true ≡ false → A
-never e = let z : _≡_ {A = ℕ} 0 1 = cc in absurd (omega arith)
-
 module _ (n k : ℕ) (s : List ℕ) (at : ℕ) (p : List ℕ) (back : Bool) (top : ℕ) where
   pub relaxing-start : (v : List ℕ) → length v ≡ mostJobs → ((j : ℕ) → v ! j ≤ top) → Relaxing n k s at p back top v v (first at) false
   relaxing-start v l low = record {
@@ -76,7 +74,7 @@ module _ (n k : ℕ) (s : List ℕ) (at : ℕ) (p : List ℕ) (back : Bool) (top
     long = l;
     low = low;
     still = λ e. refl;
-    more = λ e. never (sym e);
+    more = λ e. clash true refl (sym e);
     least = omega arith;
     follow = λ ps end e. record { rest = ps; ahead = e; same = refl; part = λ a b r. r; chains = λ q. q };
   }
@@ -127,7 +125,7 @@ module _ (n k : ℕ) (s : List ℕ) (at : ℕ) (p : List ℕ) (back : Bool) (top
               fit = t .1;
               long = rw (h .0) (length-set v j (v ! i + p ! i) ∙ g .long);
               low = λ x. rw (h .0) (set-any (λ (z : ℕ). z ≤ top) v j (v ! i + p ! i) x (λ e. h .2) (g .low x));
-              still = λ e. never e;
+              still = λ e. clash true refl e;
               more = λ e. omega (arith, g .least, more);
               least = omega (arith, g .least, more);
               follow = followed v' (h .0 ∙ sym (raise-rose (weight p) i j v (h .1)));

@@ -65,7 +65,10 @@ restore-requires-3 c κs =
     (omega (arith, m .dem, s .1 .2 .few), s .3)
 
 write-pairs-requires : tie.Need-write-pairs-requires
-write-pairs-requires c κs = c .before .before .before .before .before .before .before .before .before .before .before .before .before .before .before .before .before .before .before .before .before .before .before .before .before .before .before .before .before .before .before .before .before .before .before .pre .1 .2 .few
+write-pairs-requires c κs =
+    let p = c .before .before .before .before .before .before .before .before .before .before .before .before .before .before .before .before .before .before .before .before .before .before .before .before .before .before .before .before .before .before .before .before .before .before .before .pre .1 .2 in
+    let m = rw (not-false (c .before .before .before .before .before .before .before .before .before .before .before .before .before .before .before .before .before .before .before .before .before .before .before .before .before .roomy .result) (c .before .before .before .before .before .before .before .before .before .before .before .before .before .before .before .before .before .before .before .before .before .before .before .before .if2 .left)) at (c .before .before .before .before .before .before .before .before .before .before .before .before .before .before .before .before .before .before .before .before .before .before .before .before .before .roomy .ensures) in
+    (p .few, record { ps = _; end = _; come = p .come; jobs = omega (arith, m .jobs, p .count); successors = omega (arith, m .successors, p .count) })
 
 same-length : tie.Need-same-length
 same-length c = search needs

@@ -1,10 +1,10 @@
--- `layouts::write_pairs` meets its contract: i pairs are written, in text order, and the others still come.
-use Prim.Native.Nat.{_-_}
+-- `layouts::write_pairs` meets its contract: i pairs are written, in text order, and the others still come; so there is room for each that comes.
+use Prim.Native.Nat.{_<_}
 use native.Mathlib.Omega.{arith}
 use borrow.Author.Needs.{needs}
 use lib.ListN.{length, drop}
 use Rattle.texts.specs.Tokens.{tokens}
-use Rattle.layouts.proofs.Filling.{Writing, writing-start, writing-step, writing-end, writing-full, writing-full₂}
+use Rattle.layouts.proofs.Filling.{Writing, writing-start, writing-step, writing-end, more-left}
 use Rattle.layouts.proofs.fill.write_pairs.Statement.{statement}
 use Rattle.layouts.proofs.fill.write_pairs.Tie as tie
 
@@ -18,7 +18,7 @@ loop-holds : tie.Need-loop-holds Inv-loop μ-loop
 loop-holds c = writing-start _ _ _ _ _ _
 
 next-pair-requires : tie.Need-next-pair-requires Inv-loop μ-loop
-next-pair-requires c κs = (c .loop .inv .fit, c .before .before .before .before .pre)
+next-pair-requires c κs = (c .loop .inv .fit, c .before .before .before .before .pre .0)
 
 enum-told : tie.Need-enum-told Inv-loop μ-loop
 enum-told c = search needs
@@ -37,52 +37,56 @@ returns c =
 enum-known-a : tie.Need-enum-known-a Inv-loop μ-loop
 enum-known-a c = search needs
 
-same-length-3 : tie.Need-same-length-3 Inv-loop μ-loop
-same-length-3 c = omega (arith, c .before .before .before .before .before .loop .inv .long-js)
-
-same-length-4 : tie.Need-same-length-4 Inv-loop μ-loop
-same-length-4 c = omega (arith, c .before .before .before .before .before .loop .inv .long-ss)
-
-returns-2 : tie.Need-returns-2 Inv-loop μ-loop
-returns-2 c =
-    let t = rw (c .before .before .a .given .1) at (c .before .before .before .before .next-pair .ensures) in
-    writing-full _ _ _ _ _ _ _ _ _ _ (c .before .before .before .before .before .loop .inv) _ _ _ t (c .if1 .taken)
-
-same-length-5 : tie.Need-same-length-5 Inv-loop μ-loop
-same-length-5 c = omega (arith, c .before .before .before .before .before .before .loop .inv .long-js)
-
-same-length-6 : tie.Need-same-length-6 Inv-loop μ-loop
-same-length-6 c = omega (arith, c .before .before .before .before .before .before .loop .inv .long-ss)
-
-returns-3 : tie.Need-returns-3 Inv-loop μ-loop
-returns-3 c =
-    let t = rw (c .before .before .before .a .given .1) at (c .before .before .before .before .before .next-pair .ensures) in
-    writing-full₂ _ _ _ _ _ _ _ _ _ _ (c .before .before .before .before .before .before .loop .inv) _ _ _ t (c .if2 .taken)
-
 mul-js : tie.Need-mul-js Inv-loop μ-loop
-mul-js c = search needs
+mul-js c =
+    let t = rw (c .before .a .given .1) at (c .before .before .before .next-pair .ensures) in
+    let g = c .before .before .before .before .loop .inv in
+    let r = c .before .before .before .before .before .before .before .before .pre .1 in
+    let h : c .before .before .before .before .loop .i < length (c .before .before .before .before .loop .js) = omega (arith, more-left _ _ _ _ _ _ _ _ _ _ g _ _ _ t (r .ps) (r .end) (r .come), r .jobs, g .long-js) in
+    search needs
 
 slice-write-js : tie.Need-slice-write-js Inv-loop μ-loop
-slice-write-js c = search needs
+slice-write-js c =
+    let t = rw (c .before .a .given .1) at (c .before .before .before .next-pair .ensures) in
+    let g = c .before .before .before .before .loop .inv in
+    let r = c .before .before .before .before .before .before .before .before .pre .1 in
+    omega (arith, more-left _ _ _ _ _ _ _ _ _ _ g _ _ _ t (r .ps) (r .end) (r .come), r .jobs, g .long-js)
 
 mul-ss : tie.Need-mul-ss Inv-loop μ-loop
-mul-ss c = search needs
+mul-ss c =
+    let t = rw (c .before .a .given .1) at (c .before .before .before .next-pair .ensures) in
+    let g = c .before .before .before .before .loop .inv in
+    let r = c .before .before .before .before .before .before .before .before .pre .1 in
+    let h : c .before .before .before .before .loop .i < length (c .before .before .before .before .loop .ss) = omega (arith, more-left _ _ _ _ _ _ _ _ _ _ g _ _ _ t (r .ps) (r .end) (r .come), r .successors, g .long-ss) in
+    search needs
 
 slice-write-ss : tie.Need-slice-write-ss Inv-loop μ-loop
-slice-write-ss c = search needs
+slice-write-ss c =
+    let t = rw (c .before .a .given .1) at (c .before .before .before .next-pair .ensures) in
+    let g = c .before .before .before .before .loop .inv in
+    let r = c .before .before .before .before .before .before .before .before .pre .1 in
+    omega (arith, more-left _ _ _ _ _ _ _ _ _ _ g _ _ _ t (r .ps) (r .end) (r .come), r .successors, g .long-ss)
 
 add-i : tie.Need-add-i Inv-loop μ-loop
-add-i c = search needs
+add-i c =
+    let t = rw (c .before .a .given .1) at (c .before .before .before .next-pair .ensures) in
+    let g = c .before .before .before .before .loop .inv in
+    let r = c .before .before .before .before .before .before .before .before .pre .1 in
+    let h : c .before .before .before .before .loop .i < length (c .before .before .before .before .loop .js) = omega (arith, more-left _ _ _ _ _ _ _ _ _ _ g _ _ _ t (r .ps) (r .end) (r .come), r .jobs, g .long-js) in
+    search needs
 
 loop-less : tie.Need-loop-less Inv-loop μ-loop
 loop-less c =
-    let t = rw (c .before .before .before .a .given .1) at (c .before .before .before .before .before .next-pair .ensures) in
+    let t = rw (c .before .a .given .1) at (c .before .before .before .next-pair .ensures) in
     t .2
 
 loop-again : tie.Need-loop-again Inv-loop μ-loop
 loop-again c =
-    let t = rw (c .before .before .before .a .given .1) at (c .before .before .before .before .before .next-pair .ensures) in
-    writing-step _ _ _ _ _ _ _ _ _ _ (c .before .before .before .before .before .before .loop .inv) _ _ _ t (c .before .if1 .left) (c .if2 .left)
+    let t = rw (c .before .a .given .1) at (c .before .before .before .next-pair .ensures) in
+    let g = c .before .before .before .before .loop .inv in
+    let r = c .before .before .before .before .before .before .before .before .pre .1 in
+    let m = more-left _ _ _ _ _ _ _ _ _ _ g _ _ _ t (r .ps) (r .end) (r .come) in
+    writing-step _ _ _ _ _ _ _ _ _ _ g _ _ _ t (omega (arith, m, r .jobs, g .long-js)) (omega (arith, m, r .successors, g .long-ss))
 
 pub write-pairs-spec : {M : Type 1} → statement M
 write-pairs-spec =
@@ -97,12 +101,6 @@ write-pairs-spec =
     same-length-2
     returns
     enum-known-a
-    same-length-3
-    same-length-4
-    returns-2
-    same-length-5
-    same-length-6
-    returns-3
     mul-js
     slice-write-js
     mul-ss
