@@ -1,4 +1,5 @@
 pub mod Refusals
+pub mod Short
 pub mod Tests
 pub mod Copies
 pub mod Renumbered

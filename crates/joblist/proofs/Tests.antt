@@ -3,21 +3,18 @@ use Prim.Native.Nat.{ℕ, suc, _+_, _≤_, _<_}
 use native.Mathlib.Omega.{arith}
 use native.Mathlib.Decide.{decLe}
 use native.Mathlib.Numerals.{add-one}
-use mathlib.Core.Path.{_≡_, refl, ap, _∙_}
+use mathlib.Core.Path.{_≡_, refl, sym, ap, _∙_}
 use mathlib.Core.Bool.{Bool, true, false, not}
 use mathlib.Core.List.{List, [], _∷_, _++_}
 use lib.ListN.{length, drop, drop-of-length-le}
 use lib.Seq.{drop-cons}
 use lib.Dec.{eqb, leb, ltb}
 use borrow.Author.Tests.{le-leb, lt-leb, lt-ltb, le-ltb, eq-eqb, ne-eqb}
-use Rattle.lists.specs.Lists.{_!_, Every}
+use Rattle.lists.specs.Lists.{_!_}
 use Rattle.lists.specs.Tests.{both, pick, unless}
-use Rattle.lists.proofs.Tests.{unless-none}
 use Rattle.narrowing.specs.Windows.{Win}
 use Rattle.joblist.specs.Limits.{Column, demands, jobs, mostJobs, mostTime, mostDemand, threeLists, fourLists, supply}
-use Rattle.joblist.specs.GoodList.{Sized, sized, atMost, within, long, refusal}
-use Rattle.joblist.specs.Halves.{sizesOf, spansOf}
-use Rattle.joblist.proofs.Refusals.{sized-judged}
+use Rattle.joblist.specs.GoodList.{sized, atMost, within, refusal}
 
 -- ---- the largest number so far is `top`, the numbers from i on are left
 
@@ -61,7 +58,7 @@ most-end m xs t i h = rw (drop-of-length-le xs h) (both-end (leb t m))
 pub above-not : (m t : ℕ) → ltb m t ≡ not (leb t m)
 above-not m t = elim (decLe t m) [ yes h ↦ rw (le-leb t m h, le-ltb m t h) | no h ↦ rw (lt-leb t m (omega arith), lt-ltb m t (omega arith)) ]
 
--- ---- the halves of the tests
+-- ---- the tests of three and of four lists
 
 -- one column at the end is tested first
 sized-last : (n : ℕ) (cs : List Column) (c : Column) → sized n (cs ++ c ∷ []) ≡ both (eqb (length (c .list)) n) (sized n cs)
@@ -89,65 +86,68 @@ pub within-three : (W : Win) (p : List ℕ) → within (threeLists W p) ≡ both
 unfolding within
 within-three W p = ap (λ (b : Bool). both (atMost mostTime (W .e)) (both (atMost mostTime (W .l)) b)) (both-end (atMost mostTime p))
 
--- tests 1 and 2 passed
-pub sizes-passed : (W : Win) (p : List ℕ) → sizesOf W p ≡ 0 → Every (Sized (jobs W)) (threeLists W p)
-unfolding sizesOf
-sizes-passed W p h = sized-judged (jobs W) (threeLists W p) .passed (unless-none (sized (jobs W) (threeLists W p)) 0 _ h .0)
-
--- a chain of two tests before others
-first-failed : (s f : Bool) (x : ℕ) → (unless s 1 (unless f 2 0) ≡ 0 → ⊥) → unless s 1 (unless f 2 x) ≡ unless s 1 (unless f 2 0)
-first-failed true true x h = absurd (h refl)
-first-failed true false x h = refl
-first-failed false f x h = refl
-
-none-failed : (s f : Bool) (x : ℕ) → unless s 1 (unless f 2 0) ≡ 0 → unless s 1 (unless f 2 x) ≡ x
-none-failed true true x h = refl
-none-failed true false x h = absurd (omega arith)
-none-failed false f x h = absurd (omega arith)
-
 -- the three lists
-of-three : (W : Win) (p : List ℕ) → refusal W p (threeLists W p) [] ≡ unless (sized (jobs W) (threeLists W p)) 1 (unless (leb (jobs W) mostJobs) 2 (spansOf W p))
-unfolding refusal spansOf
-of-three W p = rw (both-end (within (threeLists W p)))
+pub of-three : (W : Win) (p : List ℕ) → refusal (jobs W) (threeLists W p) []
+    ≡ unless (both (eqb (length (W .l)) (jobs W)) (eqb (length p) (jobs W))) 1 (unless (leb (jobs W) mostJobs) 2 (unless (within (threeLists W p)) 3 0))
+unfolding refusal
+of-three W p = rw (sized-three W p, both-end (within (threeLists W p)))
 
-pub three-sizes : (W : Win) (p : List ℕ) → (sizesOf W p ≡ 0 → ⊥) → refusal W p (threeLists W p) [] ≡ sizesOf W p
-unfolding sizesOf
-three-sizes W p h = of-three W p ∙ first-failed (sized (jobs W) (threeLists W p)) (leb (jobs W) mostJobs) (spansOf W p) h
+-- tests 1 to 3 of the three lists, s, f and w, and with them those of the demands, d, and of the capacity, c: the first number where there is one
+first-of-three : (s f w d c : Bool) → (unless s 1 (unless f 2 (unless w 3 0)) ≡ 0 → ⊥)
+    → unless s 1 (unless f 2 (unless (both (both d w) c) 3 0)) ≡ unless s 1 (unless f 2 (unless w 3 0))
+first-of-three false f w d c h = refl
+first-of-three true false w d c h = refl
+first-of-three true true false true c h = refl
+first-of-three true true false false c h = refl
+first-of-three true true true d c h = absurd (h refl)
 
-pub three-spans : (W : Win) (p : List ℕ) → sizesOf W p ≡ 0 → refusal W p (threeLists W p) [] ≡ spansOf W p
-unfolding sizesOf
-three-spans W p h = of-three W p ∙ none-failed (sized (jobs W) (threeLists W p)) (leb (jobs W) mostJobs) (spansOf W p) h
+-- else the last two tests
+rest-of-three : (s f w d c : Bool) → unless s 1 (unless f 2 (unless w 3 0)) ≡ 0 → unless s 1 (unless f 2 (unless (both (both d w) c) 3 0)) ≡ unless (both d c) 3 0
+rest-of-three false f w d c h = absurd (omega arith)
+rest-of-three true false w d c h = absurd (omega arith)
+rest-of-three true true false d c h = absurd (omega arith)
+rest-of-three true true true true c h = refl
+rest-of-three true true true false c h = refl
 
 -- the four lists with the capacity
 module _ (W : Win) (p r : List ℕ) (cap : ℕ) where
-  of-four : refusal W p (fourLists W p r) (supply cap)
+  abbrev three : ℕ
+  three = refusal (jobs W) (threeLists W p) []
+
+  abbrev four : ℕ
+  four = refusal (jobs W) (fourLists W p r) (supply cap)
+
+  three-is : three ≡ unless (sized (jobs W) (threeLists W p)) 1 (unless (leb (jobs W) mostJobs) 2 (unless (within (threeLists W p)) 3 0))
+  unfolding refusal
+  three-is = rw (both-end (within (threeLists W p)))
+
+  of-four : four
       ≡ unless (both (eqb (length r) (jobs W)) (sized (jobs W) (threeLists W p))) 1
       (unless (leb (jobs W) mostJobs) 2
-      (unless (both (both (atMost mostDemand r) (within (threeLists W p))) (leb cap mostDemand)) 3 (unless (long W p) 4 0)))
+      (unless (both (both (atMost mostDemand r) (within (threeLists W p))) (leb cap mostDemand)) 3 0))
   unfolding refusal
   of-four = rw (sized-last (jobs W) (threeLists W p) (demands r), within-last (threeLists W p) (demands r), within-supply cap)
 
   -- the demands are not as many as the jobs
-  pub four-unequal : (length r ≡ jobs W → ⊥) → refusal W p (fourLists W p r) (supply cap) ≡ 1
+  pub four-unequal : (length r ≡ jobs W → ⊥) → four ≡ 1
   four-unequal h = rw (of-four, ne-eqb (length r) (jobs W) h)
 
-  pub four-sizes : length r ≡ jobs W → (sizesOf W p ≡ 0 → ⊥) → refusal W p (fourLists W p r) (supply cap) ≡ sizesOf W p
-  unfolding sizesOf
-  four-sizes h k = rw (of-four, eq-eqb (length r) (jobs W) h) (first-failed (sized (jobs W) (threeLists W p)) (leb (jobs W) mostJobs) _ k)
+  -- the three lists are refused
+  pub four-three : length r ≡ jobs W → (three ≡ 0 → ⊥) → four ≡ three
+  four-three h k =
+      rw (of-four, eq-eqb (length r) (jobs W) h, three-is)
+      (first-of-three (sized (jobs W) (threeLists W p)) (leb (jobs W) mostJobs) (within (threeLists W p)) (atMost mostDemand r) (leb cap mostDemand) (λ z. k (three-is ∙ z)))
 
-  -- tests 1 and 2 passed
-  four-rest : length r ≡ jobs W → sizesOf W p ≡ 0 → refusal W p (fourLists W p r) (supply cap)
-      ≡ unless (both (both (atMost mostDemand r) (within (threeLists W p))) (leb cap mostDemand)) 3 (unless (long W p) 4 0)
-  unfolding sizesOf
-  four-rest h k = rw (of-four, eq-eqb (length r) (jobs W) h) (none-failed (sized (jobs W) (threeLists W p)) (leb (jobs W) mostJobs) _ k)
+  four-rest : length r ≡ jobs W → three ≡ 0 → four ≡ unless (both (atMost mostDemand r) (leb cap mostDemand)) 3 0
+  four-rest h k =
+      rw (of-four, eq-eqb (length r) (jobs W) h)
+      (rest-of-three (sized (jobs W) (threeLists W p)) (leb (jobs W) mostJobs) (within (threeLists W p)) (atMost mostDemand r) (leb cap mostDemand) (sym three-is ∙ k))
 
-  pub four-demand : length r ≡ jobs W → sizesOf W p ≡ 0 → atMost mostDemand r ≡ false → refusal W p (fourLists W p r) (supply cap) ≡ 3
+  pub four-demand : length r ≡ jobs W → three ≡ 0 → atMost mostDemand r ≡ false → four ≡ 3
   four-demand h k d = four-rest h k ∙ rw d
 
-  pub four-supply : length r ≡ jobs W → sizesOf W p ≡ 0 → mostDemand < cap → refusal W p (fourLists W p r) (supply cap) ≡ 3
-  four-supply h k c = four-rest h k ∙ rw (lt-leb cap mostDemand c, both-never (both (atMost mostDemand r) (within (threeLists W p))))
+  pub four-supply : length r ≡ jobs W → three ≡ 0 → mostDemand < cap → four ≡ 3
+  four-supply h k c = four-rest h k ∙ rw (lt-leb cap mostDemand c, both-never (atMost mostDemand r))
 
-  pub four-spans : length r ≡ jobs W → sizesOf W p ≡ 0 → atMost mostDemand r ≡ true → cap ≤ mostDemand
-      → refusal W p (fourLists W p r) (supply cap) ≡ spansOf W p
-  unfolding spansOf
-  four-spans h k d c = four-rest h k ∙ rw (d, le-leb cap mostDemand c, both-end (within (threeLists W p)))
+  pub four-good : length r ≡ jobs W → three ≡ 0 → atMost mostDemand r ≡ true → cap ≤ mostDemand → four ≡ 0
+  four-good h k d c = four-rest h k ∙ rw (d, le-leb cap mostDemand c)

@@ -1,15 +1,15 @@
--- Good lists and refusals 1 to 4 (document 01, 'Answer table'), over any columns: as facts, and as tests in the order of their numbers.
-use Prim.Native.Nat.{ℕ, zero, suc, _+_, _≤_, _<_}
+-- Good lists and refusals 1 to 3 (document 01, 'Answer table'; document 02, Item 3), over any columns: as facts, and as tests in the order of
+-- their numbers.
+use Prim.Native.Nat.{ℕ, zero, suc, _≤_, _<_}
 use mathlib.Core.Path.{_≡_}
-use mathlib.Core.Bool.{Bool, true, not}
+use mathlib.Core.Bool.{Bool, true}
 use mathlib.Core.List.{List, [], _∷_, _++_}
 use mathlib.Core.Logic.{_⊎_}
 use lib.ListN.{length}
 use lib.Dec.{eqb, leb}
 use Rattle.lists.specs.Lists.{_!_, Every}
-use Rattle.lists.specs.Tests.{both, unless, every}
-use Rattle.narrowing.specs.Windows.{Win, Long, closes}
-use Rattle.joblist.specs.Limits.{Column, jobs, mostJobs}
+use Rattle.lists.specs.Tests.{both, unless}
+use Rattle.joblist.specs.Limits.{Column, mostJobs}
 
 -- ---- facts
 
@@ -21,13 +21,12 @@ Sized n c = length (c .list) ≡ n
 abbrev pub Within : Column → Type 0
 Within c = (k : ℕ) → c .list ! k ≤ c .most
 
--- a good list: `columns` are the lists of the call, `alone` the numbers that stand beside them
-pub record GoodList (W : Win) (p : List ℕ) (columns alone : List Column) : Type 0 where
-  pub sized : Every (Sized (jobs W)) columns
-  pub few : jobs W ≤ mostJobs
+-- a good list of n jobs: `columns` are the lists of the call, `alone` the numbers that stand beside them
+pub record GoodList (n : ℕ) (columns alone : List Column) : Type 0 where
+  pub sized : Every (Sized n) columns
+  pub few : n ≤ mostJobs
   pub within : Every Within columns
   pub beside : Every Within alone
-  pub long : Long (jobs W) p W
 
 -- one of them
 abbrev pub Any : (Column → Type 0) → List Column → Type 0
@@ -38,22 +37,17 @@ Any P (c ∷ cs) = P c ⊎ Any P cs
 abbrev pub Above : Column → Type 0
 Above c = (k : ℕ) × (c .most < c .list ! k)
 
--- some window is too short for its job: e + p > l
-abbrev pub TooShort : Win → List ℕ → Type 0
-TooShort W p = (k : ℕ) × (k < jobs W) × (W .l ! k < W .e ! k + p ! k)
-
 -- the lists differ in length
-abbrev pub Unequal : Win → List Column → Type 0
-Unequal W columns = Any (λ c. Sized (jobs W) c → ⊥) columns
+abbrev pub Unequal : ℕ → List Column → Type 0
+Unequal n columns = Any (λ c. Sized n c → ⊥) columns
 
 -- when the answer table gives refusal number k and none before it; number 0 stands for a good list
-abbrev pub Given : ℕ → Win → List ℕ → List Column → List Column → Type 0
-Given zero W p columns alone = GoodList W p columns alone
-Given (suc zero) W p columns alone = Unequal W columns
-Given (suc (suc zero)) W p columns alone = Every (Sized (jobs W)) columns × (mostJobs < jobs W)
-Given (suc (suc (suc zero))) W p columns alone = Every (Sized (jobs W)) columns × (jobs W ≤ mostJobs) × Any Above (columns ++ alone)
-Given (suc (suc (suc (suc zero)))) W p columns alone = Every (Sized (jobs W)) columns × (jobs W ≤ mostJobs) × Every Within columns × Every Within alone × TooShort W p
-Given (suc (suc (suc (suc (suc k))))) W p columns alone = ⊥
+abbrev pub Given : ℕ → ℕ → List Column → List Column → Type 0
+Given zero n columns alone = GoodList n columns alone
+Given (suc zero) n columns alone = Unequal n columns
+Given (suc (suc zero)) n columns alone = Every (Sized n) columns × (mostJobs < n)
+Given (suc (suc (suc zero))) n columns alone = Every (Sized n) columns × (n ≤ mostJobs) × Any Above (columns ++ alone)
+Given (suc (suc (suc (suc k)))) n columns alone = ⊥
 
 -- ---- tests
 
@@ -71,16 +65,10 @@ unfolding atMost
 within [] = true
 within (c ∷ cs) = both (atMost (c .most) (c .list)) (within cs)
 
--- every window is long enough
-unfoldable pub long : Win → List ℕ → Bool
-unfolding every
-long W p = every (λ k. not (closes p W k)) (jobs W)
-
 -- the number of the first test that fails, and 0 where none does
-unfoldable pub refusal : Win → List ℕ → List Column → List Column → ℕ
-unfolding sized within long
-refusal W p columns alone =
-    unless (sized (jobs W) columns) 1
-    (unless (leb (jobs W) mostJobs) 2
-    (unless (both (within columns) (within alone)) 3
-    (unless (long W p) 4 0)))
+unfoldable pub refusal : ℕ → List Column → List Column → ℕ
+unfolding sized within
+refusal n columns alone =
+    unless (sized n columns) 1
+    (unless (leb n mostJobs) 2
+    (unless (both (within columns) (within alone)) 3 0))

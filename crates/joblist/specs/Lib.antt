@@ -1,4 +1,3 @@
 pub mod Limits
 pub mod GoodList
-pub mod Halves
 pub mod Renumbered

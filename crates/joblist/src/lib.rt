@@ -1,16 +1,16 @@
-// Job lists (document 01, 'Job lists' and 'Answer table'): the limits, the tests 1 to 4 in the order of their numbers, and copies of windows.
+// Job lists (document 01, 'Job lists' and 'Answer table'): the limits, the tests 1 to 3 in the order of their numbers, windows that are too short
+// (document 02, Item 3), and copies of windows.
 ghost use mathlib.Core.Path.{_≡_};
-ghost use Prim.Native.Nat.{ℕ, _≤_};
+ghost use Prim.Native.Nat.{ℕ, _≤_, _<_};
 ghost use mathlib.Core.Bool.{Bool, not};
 ghost use mathlib.Core.List.{List, [], _++_};
 ghost use lib.Dec.{leb};
 ghost use lib.ListN.{length, take, drop};
-ghost use Rattle.lists.specs.Lists.{Every};
 ghost use Rattle.lists.specs.Tests.{pick};
-ghost use Rattle.narrowing.specs.Windows.{win};
+ghost use Rattle.lists.specs.Searches.{foundOr};
+ghost use Rattle.narrowing.specs.Windows.{win, closes, lowestShort};
 ghost use Rattle.joblist.specs.Limits.{mostJobs, fourLists, threeLists, supply};
-ghost use Rattle.joblist.specs.GoodList.{Sized, Within, atMost, within, long, refusal};
-ghost use Rattle.joblist.specs.Halves.{sizesOf, spansOf};
+ghost use Rattle.joblist.specs.GoodList.{atMost, within, refusal};
 
 // The most jobs that a list may have.
 pub const MOST: usize = 256;
@@ -46,23 +46,7 @@ fn above(list: &[u32], most: u32) -> bool
     most < top
 }
 
-// Tests 1 and 2 of the three lists that every call has: the number of the first that fails, and 0 where none does.
-fn sizes(est: &[u32], lct: &[u32], dur: &[u32]) -> u32
-    ensures { λ r. ⌜ r ≡ sizesOf (win (now (est .entry)) (now (lct .entry))) (now (dur .entry)) ⌝ }
-{
-    if lct.len() != est.len() {
-        return 1;
-    }
-    if dur.len() != est.len() {
-        return 1;
-    }
-    if MOST < est.len() {
-        return 2;
-    }
-    0
-}
-
-// Test 3 of them.
+// Test 3 of the three lists that every call has.
 fn too_late(est: &[u32], lct: &[u32], dur: &[u32]) -> bool
     ensures { λ r. ⌜ r ≡ not (within (threeLists (win (now (est .entry)) (now (lct .entry))) (now (dur .entry)))) ⌝ }
 {
@@ -75,45 +59,35 @@ fn too_late(est: &[u32], lct: &[u32], dur: &[u32]) -> bool
     above(dur, TIME)
 }
 
-// Test 4. It comes after test 3, so that no sum wraps.
-fn too_short(est: &[u32], lct: &[u32], dur: &[u32]) -> bool
-    requires { ⌜ Every (Sized (length (now est))) (threeLists (win (now est) (now lct)) (now dur)) × Every Within (threeLists (win (now est) (now lct)) (now dur)) ⌝ }
-    ensures { λ r. ⌜ r ≡ not (long (win (now (est .entry)) (now (lct .entry))) (now (dur .entry))) ⌝ }
+// The number of the first test that a list of windows and durations fails, and 0 where it is good.
+pub fn refusal_of_three(est: &[u32], lct: &[u32], dur: &[u32]) -> u32
+    ensures { λ r. ⌜ r ≡ refusal (length (now (est .entry))) (threeLists (win (now (est .entry)) (now (lct .entry))) (now (dur .entry))) [] ⌝ }
 {
-    let mut i = 0;
-    while i < est.len() {
-        if lct[i] < est[i] + dur[i] {
-            return true;
-        }
-        i += 1;
+    if lct.len() != est.len() {
+        return 1;
     }
-    false
-}
-
-// Tests 3 and 4 of the three lists.
-fn spans(est: &[u32], lct: &[u32], dur: &[u32]) -> u32
-    requires { ⌜ Every (Sized (length (now est))) (threeLists (win (now est) (now lct)) (now dur)) ⌝ }
-    ensures { λ r. ⌜ r ≡ spansOf (win (now (est .entry)) (now (lct .entry))) (now (dur .entry)) ⌝ }
-{
+    if dur.len() != est.len() {
+        return 1;
+    }
+    if MOST < est.len() {
+        return 2;
+    }
     if too_late(est, lct, dur) {
         return 3;
-    }
-    if too_short(est, lct, dur) {
-        return 4;
     }
     0
 }
 
-// The number of the first test that a list with demands and a capacity fails, and 0 where it is good.
+// The same of a list with demands and a capacity.
 pub fn refusal(est: &[u32], lct: &[u32], dur: &[u32], dem: &[u32], cap: u32) -> u32
-    ensures { λ r. ⌜ r ≡ refusal (win (now (est .entry)) (now (lct .entry))) (now (dur .entry)) (fourLists (win (now (est .entry)) (now (lct .entry))) (now (dur .entry)) (now (dem .entry))) (supply cap) ⌝ }
+    ensures { λ r. ⌜ r ≡ refusal (length (now (est .entry))) (fourLists (win (now (est .entry)) (now (lct .entry))) (now (dur .entry)) (now (dem .entry))) (supply cap) ⌝ }
 {
     if dem.len() != est.len() {
         return 1;
     }
-    let size = sizes(est, lct, dur);
-    if size != 0 {
-        return size;
+    let number = refusal_of_three(est, lct, dur);
+    if number != 0 {
+        return number;
     }
     if above(dem, DRAW) {
         return 3;
@@ -121,18 +95,36 @@ pub fn refusal(est: &[u32], lct: &[u32], dur: &[u32], dem: &[u32], cap: u32) -> 
     if DRAW < cap {
         return 3;
     }
-    spans(est, lct, dur)
+    0
 }
 
-// The same of a list with neither.
-pub fn refusal_of_three(est: &[u32], lct: &[u32], dur: &[u32]) -> u32
-    ensures { λ r. ⌜ r ≡ refusal (win (now (est .entry)) (now (lct .entry))) (now (dur .entry)) (threeLists (win (now (est .entry)) (now (lct .entry))) (now (dur .entry))) [] ⌝ }
+// Whether the job's window is too short for the job. It makes no sum, so no number is too large for it.
+pub fn closed(est: &[u32], lct: &[u32], dur: &[u32], job: usize) -> bool
+    requires { ⌜ (job < length (now est)) × (job < length (now lct)) × (job < length (now dur)) ⌝ }
+    ensures { λ r. ⌜ r ≡ closes (now (dur .entry)) (win (now (est .entry)) (now (lct .entry))) job ⌝ }
 {
-    let size = sizes(est, lct, dur);
-    if size != 0 {
-        return size;
+    let e = est[job];
+    let l = lct[job];
+    let p = dur[job];
+    if l < e {
+        return true;
     }
-    spans(est, lct, dur)
+    l - e < p
+}
+
+// The lowest job whose window is too short for it, and the number of jobs where there is none.
+pub fn lowest_short(est: &[u32], lct: &[u32], dur: &[u32]) -> usize
+    requires { ⌜ (length (now lct) ≡ length (now est)) × (length (now dur) ≡ length (now est)) ⌝ }
+    ensures { λ r. ⌜ r ≡ foundOr (length (now (est .entry))) (lowestShort (length (now (est .entry))) (now (dur .entry)) (win (now (est .entry)) (now (lct .entry)))) ⌝ }
+{
+    let mut i = 0;
+    while i < est.len() {
+        if closed(est, lct, dur, i) {
+            return i;
+        }
+        i += 1;
+    }
+    i
 }
 
 // Copies `from` over the front of `to`, as far as both go.

@@ -13,7 +13,7 @@ use Rattle.answers.specs.Said.{Word, Said}
 use Rattle.answers.proofs.Same.{not-said}
 use Rattle.narrowing.specs.Windows.{Long}
 use Rattle.narrowing.specs.Schedules.{Schedule}
-use Rattle.joblist.specs.Limits.{mostTime, mostDemand, fourLists, supply}
+use Rattle.joblist.specs.Limits.{jobs, mostTime, mostDemand, fourLists, supply}
 use Rattle.joblist.specs.GoodList.{GoodList}
 use Rattle.chains.specs.Paths.{Pair, Precedes, Below, Cycle, Back}
 use Rattle.chains.specs.Passes.{Stable}
@@ -79,8 +79,11 @@ module _ (x : Project) (resource horizon : ℕ) (L K : Lent) (limits : Within x)
   dem-at : (j : ℕ) → K .dem ! j ≡ demandsOn resource (x .rows) ! j
   dem-at j = ap (λ (l : List ℕ). l ! j) (f .dem)
 
-  pub filled-good : GoodList (windows K) (K .dur) (fourLists (windows K) (K .dur) (K .dem)) (supply (x .capacities ! resource))
+  pub filled-long : Long (jobs (windows K)) (K .dur) (windows K)
   unfolding Long
+  filled-long j b = omega (arith, after-ends (K .est) est-stable est-ends j (omega (arith, f .est-long)), dur-at j)
+
+  pub filled-good : GoodList (jobs (windows K)) (fourLists (windows K) (K .dur) (K .dem)) (supply (x .capacities ! resource))
   filled-good = record {
     sized = (refl, (f .lct-long ∙ sym (f .est-long), (dur-long ∙ sym (f .est-long), (dem-long ∙ sym (f .est-long), tt))));
     few = omega (arith, f .est-long, limits .few);
@@ -92,7 +95,6 @@ module _ (x : Project) (resource horizon : ℕ) (L K : Lent) (limits : Within x)
       ),
     );
     beside = (capped, tt);
-    long = λ j b. omega (arith, after-ends (K .est) est-stable est-ends j (omega (arith, f .est-long)), dur-at j);
   }
     where
       capped : (k : ℕ) → (x .capacities ! resource ∷ []) ! k ≤ mostDemand
@@ -151,9 +153,14 @@ module _ (c : TextCall) (limits : (x : Project) (rest : List Token) → c .text 
         let t = read-taken r e in
         let y = t .0 in
         let n = refusal-none c (y .x) (y .rest) (y .text) (t .1) in
-        subst (λ (m : ℕ). GoodList (windows (a .lent)) (a .lent .dur) (fourLists (windows (a .lent)) (a .lent .dur) (a .lent .dem)) (supply m))
+        subst (λ (m : ℕ). GoodList (jobs (windows (a .lent))) (fourLists (windows (a .lent)) (a .lent .dur) (a .lent .dem)) (supply m))
         (sym (ap (λ (z : Said). z .numbers ! 0) (y .says)))
         (filled-good (y .x) (c .resource) (c .horizon) (c .lent) (a .lent) (limits (y .x) (y .rest) (y .text)) (n .0) (n .1) (y .filled));
+    long = λ e.
+        let t = read-taken r e in
+        let y = t .0 in
+        let n = refusal-none c (y .x) (y .rest) (y .text) (t .1) in
+        filled-long (y .x) (c .resource) (c .horizon) (c .lent) (a .lent) (limits (y .x) (y .rest) (y .text)) (n .0) (n .1) (y .filled);
     ordered = λ e.
         let t = read-taken r e in
         let y = t .0 in

@@ -6,9 +6,9 @@ use mathlib.Core.List.{List}
 use lib.ListN.{length}
 use Rattle.lists.specs.Lists.{_!_}
 use Rattle.answers.specs.Said.{Word}
-use Rattle.narrowing.specs.Windows.{Win, win}
+use Rattle.narrowing.specs.Windows.{Win, win, Long}
 use Rattle.narrowing.specs.Schedules.{Schedule}
-use Rattle.joblist.specs.Limits.{fourLists, supply}
+use Rattle.joblist.specs.Limits.{jobs, fourLists, supply}
 use Rattle.joblist.specs.GoodList.{GoodList}
 use Rattle.chains.specs.Paths.{Listed, Below, Cycle}
 use Rattle.layouts.specs.Calls.{Lent, TextCall, TextAfter}
@@ -37,8 +37,10 @@ count a = a .says .numbers ! 1
 -- the contract of a reader
 pub record Reads (c : TextCall) (a : TextAfter) : Type 0 where
   pub answered : Answered c a
-  -- the lists pass tests 1 to 4 of document 01
-  pub good : a .says .word ≡ Word.read → GoodList (windows (a .lent)) (a .lent .dur) (fourLists (windows (a .lent)) (a .lent .dur) (a .lent .dem)) (supply (capacity a))
+  -- the lists pass tests 1 to 3 of document 01
+  pub good : a .says .word ≡ Word.read → GoodList (jobs (windows (a .lent))) (fourLists (windows (a .lent)) (a .lent .dur) (a .lent .dem)) (supply (capacity a))
+  -- every window is long enough for its job
+  pub long : a .says .word ≡ Word.read → Long (jobs (windows (a .lent))) (a .lent .dur) (windows (a .lent))
   -- the pairs that are written are of its jobs, and there is no cycle among them
   pub ordered : a .says .word ≡ Word.read → Below (length (a .lent .dur)) (Written (a .lent) (count a)) × (Cycle (Written (a .lent) (count a)) → ⊥)
   -- all start times that respect the pairs and end by the horizon lie within the windows

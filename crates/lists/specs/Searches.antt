@@ -19,6 +19,11 @@ unfoldable pub least : (ℕ → Bool) → ℕ → ℕ → Option ℕ
 least f a zero = none
 least f a (suc k) = let rest = least f (suc a) k in orElse (f a) a rest
 
+-- the number found, else m
+abbrev pub foundOr : ℕ → Option ℕ → ℕ
+foundOr m none = m
+foundOr m (some t) = t
+
 -- t lies in the stretch of k numbers from a, and has P
 pub record In (P : ℕ → Type 0) (a k t : ℕ) : Type 0 where
   pub from : a ≤ t

@@ -5,6 +5,7 @@ pub mod Schedules
 pub mod Renumbered
 pub mod Firm
 pub mod Next
+pub mod Short
 pub mod Runs
 pub mod Room
 pub mod Walk

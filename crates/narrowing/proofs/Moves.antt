@@ -37,6 +37,11 @@ move-keeps n U W j early b i h =
 move-keeps n U W j late b i h =
     record { early = i .early; late = λ k c. set-any (λ (x : ℕ). U .l ! k ≤ x) (W .l) j b k (λ q. rw q h) (i .late k c) }
 
+-- windows around ones that are long enough are long enough
+pub long-around : (n : ℕ) (p : List ℕ) (U W : Win) → Inside n U W → Long n p U → Long n p W
+unfolding Long
+long-around n p U W i L k b = omega (arith, i .early k b, i .late k b, L k b)
+
 -- a closed window leaves no windows inside that hold their jobs
 pub closed-none : (n : ℕ) (p : List ℕ) (U W : Win) → Inside n U W → Long n p U → (j : ℕ) → j < n → closes p W j ≡ true → ⊥
 unfolding Long

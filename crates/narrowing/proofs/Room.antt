@@ -5,10 +5,11 @@ use native.Mathlib.Decide.{decLt}
 use mathlib.Core.Path.{_≡_, refl, ap, _∙_}
 use mathlib.Core.Bool.{Bool, true, false}
 use mathlib.Core.List.{List, [], _∷_}
-use Rattle.narrowing.specs.Windows.{Win, Side, early, late, Long, closes, slack}
+use mathlib.Core.Option.{Option, none, some}
+use Rattle.narrowing.specs.Windows.{Win, Side, early, late, closes, slack, lowestShort}
 use Rattle.narrowing.specs.Rules.{Family, Lawful}
 use Rattle.narrowing.specs.Search.{Search, Searches, Move, move, after}
-use Rattle.narrowing.specs.Run.{Next, rests, moves, nextMove, Out, settled, clash, short, push, follow, ends, work, run, count, needed}
+use Rattle.narrowing.specs.Run.{Next, rests, moves, nextMove, Out, settled, clash, short, push, follow, ends, orClash, work, run, count, needed}
 use Rattle.narrowing.proofs.Moves.{Whole}
 use Rattle.narrowing.proofs.Runs.{never-short}
 
@@ -78,13 +79,20 @@ work-fits R (suc a) (suc room) W j s e =
     h)
     e
 
-module _ (R : Search) (G : Family) (search : Searches R G) (law : Lawful (R .n) G) (W : Win) (L : Long (R .n) (R .p) W) (h : Whole (R .n) W) where
+fits-clash : (room : ℕ) (x : Option ℕ) (o u : Out) → (Ended o → Fits room o u) → Ended (orClash x o) → Fits room (orClash x o) (orClash x u)
+fits-clash room none o u h e = h e
+fits-clash room (some j) o u h e = (λ b. refl, λ b. absurd (omega arith))
+
+run-fits : (R : Search) (a room : ℕ) (W : Win) → Ended (run R a W) → Fits room (run R a W) (run R room W)
+unfolding run
+run-fits R a room W e = fits-clash room (lowestShort (R .n) (R .p) W) _ _ (work-fits R a room W 0 early) e
+
+module _ (R : Search) (G : Family) (search : Searches R G) (law : Lawful (R .n) G) (W : Win) (h : Whole (R .n) W) where
   enough : Ended (run R (suc (slack (R .p) W (R .n))) W)
-  enough = not-ended (run R (suc (slack (R .p) W (R .n))) W) (never-short R G search law (suc (slack (R .p) W (R .n))) W L h (omega arith))
+  enough = not-ended (run R (suc (slack (R .p) W (R .n))) W) (never-short R G search law (suc (slack (R .p) W (R .n))) W h (omega arith))
 
   all-fits : (room : ℕ) → Fits room (run R (suc (slack (R .p) W (R .n))) W) (run R room W)
-  unfolding run
-  all-fits room = work-fits R (suc (slack (R .p) W (R .n))) room W 0 early enough
+  all-fits room = run-fits R (suc (slack (R .p) W (R .n))) room W enough
 
   -- short of room exactly where the room is below the number
   pub short-below : (room : ℕ) → run R room W ≡ short → room < needed R W
@@ -110,5 +118,4 @@ module _ (R : Search) (G : Family) (search : Searches R G) (law : Lawful (R .n) 
 
 -- more room changes no end but "short of room"
 pub more-room : (R : Search) (room more : ℕ) (W : Win) → Ended (run R room W) → count (run R room W) ≤ more → run R more W ≡ run R room W
-unfolding run
-more-room R room more W e b = work-fits R room more W 0 early e .0 b
+more-room R room more W e b = run-fits R room more W e .0 b

@@ -1,11 +1,12 @@
--- The defined run over lawful rules: "settled" is the largest candidate, "clash" says that there is none, the slack bounds the moves, and
--- each move is the search's own choice.
+-- The defined run over lawful rules, on any windows: "settled" is the largest candidate, "clash" says that there is none, the slack bounds the
+-- moves, and each move is the search's own choice.
 use Prim.Native.Nat.{ℕ, zero, suc, _+_, _-_, _≤_, _<_}
 use native.Mathlib.Omega.{arith}
 use mathlib.Core.Path.{_≡_, refl, subst}
 use mathlib.Core.Bool.{Bool, true, false}
 use mathlib.Core.List.{List, [], _∷_}
 use lib.ListN.{length}
+use borrow.Author.Tests.{lt-ltb}
 use Rattle.narrowing.specs.Windows.{Win, Side, early, late, Long, moved, closes, slack}
 use Rattle.narrowing.specs.Rules.{Family, Stable, Lawful, Largest, NoCandidate, Step, Steps, here, next}
 use Rattle.narrowing.specs.Search.{Search, Searches, Move, move, after}
@@ -14,6 +15,7 @@ use Rattle.narrowing.specs.Rounds.{Choice, Chosen}
 use Rattle.narrowing.proofs.Moves.{long-after, Whole, whole-after, slack-less}
 use Rattle.narrowing.proofs.Steps.{step-move, any-settled, any-clash}
 use Rattle.narrowing.proofs.Next.{Place, place-of, Ahead, next-is}
+use Rattle.narrowing.proofs.Short.{run-by}
 
 -- what an end says of the windows W that the work began on
 abbrev pub Good : ℕ → List ℕ → Family → Win → Out → Type 0
@@ -73,9 +75,8 @@ module _ (R : Search) (G : Family) (search : Searches R G) where
       (λ room W j s i v c L a e. (a, tt))
       (λ room W j s i v c o L a e g. push-chosen W j s (move W i v c) o a g)
 
-  pub run-chosen : (room : ℕ) (W : Win) → Long (R .n) (R .p) W → Chosen R G W 0 early (movesOf (run R room W))
-  unfolding run
-  run-chosen room W L = work-chosen room W 0 early L (omega arith)
+  pub run-chosen : (room : ℕ) (W : Win) → Chosen R G W 0 early (movesOf (run R room W))
+  run-chosen room W = run-by R room W (λ o. Chosen R G W 0 early (movesOf o)) (λ L. work-chosen room W 0 early L (omega arith)) (λ j s. tt)
 
   module _ (law : Lawful (R .n) G) where
     -- ---- the run is one of the ways of Steps: moves of rules to where none applies, or to a closed window
@@ -101,17 +102,16 @@ module _ (R : Search) (G : Family) (search : Searches R G) where
         (λ room W j s i v c L a e. (after R W i v c, next (by-choice W j s i v c a) here, a .listed, e))
         (λ room W j s i v c o L a e g. push-way W (after R W i v c) (move W i v c) (by-choice W j s i v c a) o g)
 
-    pub run-way : (room : ℕ) (W : Win) → Long (R .n) (R .p) W → Way W (run R room W)
-    unfolding run
-    run-way room W L = work-way room W 0 early L (omega arith)
+    pub run-way : (room : ℕ) (W : Win) → Way W (run R room W)
+    run-way room W = run-by R room W (Way W) (λ L. work-way room W 0 early L (omega arith)) (λ j s. (W, here, s .listed, lt-ltb _ _ (s .short)))
 
     way-good : (W : Win) (o : Out) → Way W o → Good (R .n) (R .p) G W o
     way-good W (settled U ms) g = any-settled (R .n) (R .p) G (g .0) (g .1) (g .2)
     way-good W (clash j ms) g = any-clash (R .n) (R .p) G (g .1) j (g .2) (g .3)
     way-good W short g = tt
 
-    pub run-good : (room : ℕ) (W : Win) → Long (R .n) (R .p) W → Good (R .n) (R .p) G W (run R room W)
-    run-good room W L = way-good W (run R room W) (run-way room W L)
+    pub run-good : (room : ℕ) (W : Win) → Good (R .n) (R .p) G W (run R room W)
+    run-good room W = way-good W (run R room W) (run-way room W)
 
     -- ---- how many moves
 
@@ -133,11 +133,10 @@ module _ (R : Search) (G : Family) (search : Searches R G) where
         (g (whole-after (R .n) W i v (R .bound v c) h)))
 
     -- at most the slack, and one more in a clash; short of room only where the room is at most the slack
-    pub run-bounded : (room : ℕ) (W : Win) → Long (R .n) (R .p) W → Whole (R .n) W → Bounded R room W (run R room W)
-    unfolding run
-    run-bounded room W L h = work-bounded room W 0 early L (omega arith) h
+    pub run-bounded : (room : ℕ) (W : Win) → Whole (R .n) W → Bounded R room W (run R room W)
+    run-bounded room W h = run-by R room W (Bounded R room W) (λ L. work-bounded room W 0 early L (omega arith) h) (λ j s. omega arith)
 
-    pub never-short : (room : ℕ) (W : Win) → Long (R .n) (R .p) W → Whole (R .n) W → slack (R .p) W (R .n) < room → run R room W ≡ short → ⊥
-    never-short room W L h d e =
-        let q : room ≤ slack (R .p) W (R .n) = subst (Bounded R room W) e (run-bounded room W L h) in
+    pub never-short : (room : ℕ) (W : Win) → Whole (R .n) W → slack (R .p) W (R .n) < room → run R room W ≡ short → ⊥
+    never-short room W h d e =
+        let q : room ≤ slack (R .p) W (R .n) = subst (Bounded R room W) e (run-bounded room W h) in
         omega arith

@@ -2,9 +2,11 @@
 use Prim.Native.Nat.{ℕ, zero, suc, _+_, _-_, _≤_, _<_}
 use mathlib.Core.Bool.{Bool}
 use mathlib.Core.List.{List}
+use mathlib.Core.Option.{Option}
 use lib.ListN.{set}
 use lib.Dec.{ltb}
 use Rattle.lists.specs.Lists.{_!_}
+use Rattle.lists.specs.Searches.{least}
 
 -- earliest starts and latest ends
 pub record Win : Type 0 where
@@ -36,6 +38,17 @@ Long n p W = (k : ℕ) → k < n → W .e ! k + p ! k ≤ W .l ! k
 -- job j's window is shorter than the job
 abbrev pub closes : List ℕ → Win → ℕ → Bool
 closes p W j = ltb (W .l ! j) (W .e ! j + p ! j)
+
+-- job j is the lowest of the n whose window is too short for its job: e + p > l
+pub record LowestShort (n : ℕ) (p : List ℕ) (W : Win) (j : ℕ) : Type 0 where
+  pub listed : j < n
+  pub short : W .l ! j < W .e ! j + p ! j
+  pub before : Long j p W
+
+-- that job, if there is one
+unfoldable pub lowestShort : ℕ → List ℕ → Win → Option ℕ
+unfolding least
+lowestShort n p W = least (closes p W) 0 n
 
 -- the windows U lie inside the windows W
 pub record Inside (n : ℕ) (U W : Win) : Type 0 where

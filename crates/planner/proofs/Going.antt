@@ -10,9 +10,10 @@ use lib.ListN.{length, length-append}
 use lib.Dec.{ltb, eqb}
 use borrow.Author.Tests.{ltb-true, ltb-false}
 use Rattle.lists.specs.Tests.{only}
-use Rattle.narrowing.specs.Windows.{Win, Side, early, late, closes, sideOf}
+use Rattle.narrowing.specs.Windows.{Win, Side, early, late, Long, closes, sideOf}
 use Rattle.narrowing.specs.Search.{Search, Move, move, after}
 use Rattle.narrowing.specs.Run.{first, resume, Out, settled, clash, short, push, ends, work, run}
+use Rattle.narrowing.proofs.Short.{run-long}
 use Rattle.narrowing.proofs.Walk.{made, resume-early, resume-late, resume-end, resume-start, walk-early, walk-late, walk-round, walk-end, walk-move-early, walk-move-late, written, written-push, written-settled, written-clash, written-more}
 use Rattle.planner.specs.declared.rounds.Place.{Place}
 use Rattle.planner.specs.Places.{place, pickPlace, firstPlace, onwardOf}
@@ -29,15 +30,15 @@ pub record Going (R : Search) (room : ℕ) (W₀ W : Win) (at : Place) (ms : Lis
   pub over : at .job ≡ R .n → (at .changed ≡ false) × (at .side ≡ 0)
 
 module _ (R : Search) (room : ℕ) (W₀ : Win) where
-  pub going-start : Going R room W₀ W₀ firstPlace []
-  unfolding written run
-  going-start =
+  pub going-start : Long (R .n) (R .p) W₀ → Going R room W₀ W₀ firstPlace []
+  unfolding written
+  going-start L =
       let z : room - 0 ≡ room = omega arith in
       record {
         within = omega arith;
         one-side = omega arith;
         quota = omega arith;
-        same = rw z;
+        same = rw z (sym (run-long R room W₀ L));
         quiet = λ q. sym (resume-start R room W₀);
         over = λ q. (refl, refl);
       }

@@ -15,8 +15,9 @@ use Rattle.journal.specs.Journal.{roomOf, logged, rewritten}
 use Rattle.journal.proofs.Records.{room-length, logged-none, rewritten-length}
 use Rattle.timetable.specs.Time.{Jobs, bound}
 use Rattle.timetable.specs.Search.{best, search, entry}
-use Rattle.timetable.specs.Table.{Call, call, jobsOf, Good}
-use Rattle.tabling.proofs.Moves.{best-applies, good-after}
+use Rattle.timetable.specs.Table.{Call, call, jobsOf}
+use Rattle.tabling.specs.Search.{Workable}
+use Rattle.tabling.proofs.Moves.{best-applies, workable-after}
 use Rattle.planner.specs.declared.rounds.Place.{Place}
 use Rattle.planner.specs.declared.rounds.Turn.{Turn}
 use Rattle.planner.specs.Places.{place, firstPlace, onwardOf}
@@ -30,7 +31,7 @@ abbrev pub on : Call → Win → List ℕ → Call
 on c W log = call W (c .p) (c .r) (c .cap) log
 
 pub record Reached (c : Call) (W : Win) (log : List ℕ) (at : Place) (count : ℕ) : Type 0 where
-  pub good : Good (on c W log)
+  pub workable : Workable (on c W log)
   pub size : jobs W ≡ jobs (c .win)
   pub log-size : length log ≡ length (c .log)
   pub ms : List Move
@@ -38,15 +39,16 @@ pub record Reached (c : Call) (W : Win) (log : List ℕ) (at : Place) (count : �
   pub going : Going (search (jobsOf c)) (roomOf (c .log)) (c .win) W at ms
   pub log-is : log ≡ logged (map (entry (jobsOf c)) ms) (c .log)
 
-pub reached-start : (c : Call) → Good c → Reached c (c .win) (c .log) firstPlace 0
-reached-start c g =
+pub reached-start : (c : Call) → Workable c → Reached c (c .win) (c .log) firstPlace 0
+unfolding search
+reached-start c w =
     record {
-      good = g;
+      workable = w;
       size = refl;
       log-size = refl;
       ms = [];
       counted = refl;
-      going = going-start (search (jobsOf c)) (roomOf (c .log)) (c .win);
+      going = going-start (search (jobsOf c)) (roomOf (c .log)) (c .win) (w .long);
       log-is = sym (logged-none (c .log));
     }
 
@@ -81,7 +83,7 @@ module _ (c : Call) (W : Win) (log : List ℕ) (at : Place) (count : ℕ) (S : R
     reached-rest h =
         rw (h .1, h .2)
         record {
-          good = S .good;
+          workable = S .workable;
           size = S .size;
           log-size = S .log-size;
           ms = S .ms;
@@ -137,10 +139,10 @@ module _ (c : Call) (W : Win) (log : List ℕ) (at : Place) (count : ℕ) (S : R
       pub reached-moved : closes (c .p) W′ (at .job) ≡ false → Reached c W′ log′ (place (at .job) (at .side) true) (count + 1)
       unfolding search
       reached-moved e =
-          let a = best-applies (on c W log) (S .good) (at .job) (sideOf (at .side)) (omega (arith, S .size)) t (m .found) in
+          let a = best-applies (on c W log) (S .workable) (at .job) (sideOf (at .side)) (omega (arith, S .size)) t (m .found) in
           record {
-            good = subst (λ (U : Win). Good (on c U log′)) (sym (m .windows))
-                (good-after W (c .p) (c .r) (c .cap) log (S .good) (at .job) (sideOf (at .side)) t (omega (arith, S .size)) a (closes-same false e) log′);
+            workable = subst (λ (U : Win). Workable (on c U log′)) (sym (m .windows))
+                (workable-after W (c .p) (c .r) (c .cap) log (S .workable) (at .job) (sideOf (at .side)) t (omega (arith, S .size)) a (closes-same false e) log′);
             size = ap (λ (U : Win). jobs U) (m .windows) ∙ moved-size W (at .job) (sideOf (at .side)) (bound (sideOf (at .side)) t) ∙ S .size;
             log-size = ap length (m .record-is) ∙ rewritten-length log count (entry (jobsOf (on c W log)) one) (m .room) (entry-length (jobsOf (on c W log)) one) ∙ S .log-size;
             ms = S .ms ++ one ∷ [];

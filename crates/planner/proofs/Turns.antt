@@ -9,10 +9,10 @@ use Rattle.narrowing.specs.Search.{move}
 use Rattle.joblist.specs.Limits.{mostTime, jobs}
 use Rattle.journal.specs.Journal.{roomOf, rewritten}
 use Rattle.timetable.specs.Time.{bound}
-use Rattle.timetable.specs.Table.{Call, call, Good}
+use Rattle.timetable.specs.Table.{Call, call}
 use Rattle.tabling.specs.declared.Found.{Found}
 use Rattle.tabling.specs.Found.{found}
-use Rattle.tabling.specs.Search.{asked}
+use Rattle.tabling.specs.Search.{asked, Workable}
 use Rattle.tabling.proofs.Moves.{found-some, best-applies, time-small}
 use Rattle.planner.specs.declared.rounds.Place.{Place}
 use Rattle.planner.specs.Work.{recordOf, timeAt, Moves}
@@ -26,10 +26,10 @@ module _ (e l p r : List ℕ) (cap : ℕ) (log : List ℕ) (at : Place) (t : ℕ
     found-time : timeAt here at ≡ some t
     found-time = found-some (timeAt here at) t (sym h ∙ f)
 
-    pub turn-time : Good here → at .job < jobs (here .win) → t ≤ mostTime
-    turn-time g b =
-        let a = best-applies here g (at .job) (sideOf (at .side)) b t found-time in
-        omega (arith, time-small (win e l) p r cap log g (at .job) (sideOf (at .side)) t b a)
+    pub turn-time : Workable here → at .job < jobs (here .win) → t ≤ mostTime
+    turn-time w b =
+        let a = best-applies here w (at .job) (sideOf (at .side)) b t found-time in
+        omega (arith, time-small (win e l) p r cap log w (at .job) (sideOf (at .side)) t b a)
 
     pub turn-moves : (count : ℕ) (W : Win) (after : List ℕ) → count < roomOf log
         → W ≡ moved (win e l) (at .job) (sideOf (at .side)) (bound (sideOf (at .side)) t)

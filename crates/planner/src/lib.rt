@@ -1,4 +1,4 @@
-// Narrowing (document 01, 'Answer table'): the call, on copies of the windows. `rounds` does the work, `reason` writes its records.
+// Narrowing (document 01, 'Answer table'; document 02, Item 3): the call, on copies of the windows. `rounds` does the work, `reason` writes its records.
 mod reason;
 mod rounds;
 
@@ -6,10 +6,11 @@ use answers::Answer;
 ghost use mathlib.Core.Path.{_≡_};
 ghost use Rattle.narrowing.specs.Windows.{win};
 ghost use Rattle.answers.specs.Said.{says};
-ghost use Rattle.timetable.specs.Table.{call, Good, leaves};
+ghost use Rattle.timetable.specs.Table.{call, leaves};
 ghost use Rattle.timetable.specs.Promise.{Narrows};
+ghost use Rattle.tabling.specs.Search.{Workable};
 
-// Narrowing of a good list. The work is done on copies of the windows, and the caller's are written only where it settles.
+// Narrowing of a good list whose windows are long enough. The work is done on copies of the windows, and the caller's are written only where it settles.
 fn narrow_good(
     est: &mut [u32],
     lct: &mut [u32],
@@ -20,7 +21,7 @@ fn narrow_good(
     cap: u32,
     log: &mut [u32],
 ) -> Answer
-    requires { ⌜ Good (call (win (now est) (now lct)) (now dur) (now dem) cap (now log)) × (now e ≡ now est) × (now l ≡ now lct) ⌝ }
+    requires { ⌜ Workable (call (win (now est) (now lct)) (now dur) (now dem) cap (now log)) × (now e ≡ now est) × (now l ≡ now lct) ⌝ }
     ensures { λ r. ⌜ Narrows (call (win (now (est .entry)) (now (lct .entry))) (now (dur .entry)) (now (dem .entry)) cap (now (log .entry))) (leaves (says r) (win (now (est .exit)) (now (lct .exit))) (now (log .exit))) ⌝ }
 {
     let end = rounds::work(e, l, dur, dem, cap, log);
@@ -52,6 +53,10 @@ pub fn narrow(
     let number = joblist::refusal(est, lct, dur, dem, cap);
     if number != 0 {
         return Answer::Refused(number);
+    }
+    let short = joblist::lowest_short(est, lct, dur);
+    if short < est.len() {
+        return Answer::Clash(0, short);
     }
     let n = est.len();
     let mut e = [0u32; joblist::MOST];

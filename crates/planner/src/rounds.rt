@@ -5,7 +5,8 @@ ghost use mathlib.Core.Path.{_≡_};
 ghost use Prim.Native.Nat.{ℕ, _<_, _≤_};
 ghost use lib.ListN.{length};
 ghost use Rattle.narrowing.specs.Windows.{win};
-ghost use Rattle.timetable.specs.Table.{call, Good};
+ghost use Rattle.timetable.specs.Table.{call};
+ghost use Rattle.tabling.specs.Search.{Workable};
 ghost use Rattle.planner.specs.Places.{onwardOf};
 ghost use Rattle.planner.specs.Work.{TurnSays, Works};
 
@@ -73,7 +74,7 @@ fn take_turn(
     at: Place,
     count: usize,
 ) -> Turn
-    requires { ⌜ Good (call (win (now est) (now lct)) (now dur) (now dem) cap (now log)) × (at .job < length (now est)) × (at .side ≤ 1) ⌝ }
+    requires { ⌜ Workable (call (win (now est) (now lct)) (now dur) (now dem) cap (now log)) × (at .job < length (now est)) × (at .side ≤ 1) ⌝ }
     ensures { λ r. ⌜ TurnSays (call (win (now (est .entry)) (now (lct .entry))) (now (dur .entry)) (now (dem .entry)) cap (now (log .entry))) at count (win (now (est .exit)) (now (lct .exit))) (now (log .exit)) r ⌝ }
 {
     let job = at.job;
@@ -87,7 +88,7 @@ fn take_turn(
             }
             reason::note(est, lct, dur, dem, job, side, t, log, count);
             tabling::shift(est, lct, job, side, t);
-            if tabling::closed(est, lct, dur, job) {
+            if joblist::closed(est, lct, dur, job) {
                 return Turn::Closed;
             }
             Turn::Moved
@@ -95,7 +96,7 @@ fn take_turn(
     }
 }
 
-// The work of a good list: turns until a round has changed nothing, a move closes a window, or there is no room. What falls with each turn is the
+// The work of a good list whose windows are long enough: turns until a round has changed nothing, a move closes a window, or there is no room. What falls with each turn is the
 // room left, then whether another round is to follow, then what is left of this one.
 pub fn work(
     est: &mut [u32],
@@ -105,7 +106,7 @@ pub fn work(
     cap: u32,
     log: &mut [u32],
 ) -> Answer
-    requires { ⌜ Good (call (win (now est) (now lct)) (now dur) (now dem) cap (now log)) ⌝ }
+    requires { ⌜ Workable (call (win (now est) (now lct)) (now dur) (now dem) cap (now log)) ⌝ }
     ensures { λ r. ⌜ Works (call (win (now (est .entry)) (now (lct .entry))) (now (dur .entry)) (now (dem .entry)) cap (now (log .entry))) r (win (now (est .exit)) (now (lct .exit))) (now (log .exit)) ⌝ }
 {
     let n = est.len();

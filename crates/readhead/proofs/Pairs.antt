@@ -1,16 +1,18 @@
--- Overload over all sets and by pairs are one thing; on a good list a pair has a < b; the computed finding is 01's, and the only one.
+-- Overload over all sets and by pairs are one thing; a job whose window is too short is such a set, and where none is a pair has a < b; the computed
+-- finding is 01's, and the only one.
 use Prim.Native.Nat.{ℕ, _+_, _≤_, _<_}
 use native.Mathlib.Omega.{arith}
 use mathlib.Core.Path.{_≡_, refl, sym, subst}
 use mathlib.Core.Bool.{Bool, true, false}
 use mathlib.Core.List.{List}
 use mathlib.Core.Logic.{_⊎_, inl, inr}
-use lib.Dec.{leb, ltb}
-use borrow.Author.Tests.{leb-true, le-leb, ltb-true, lt-ltb}
+use lib.Dec.{leb, ltb, eqb}
+use borrow.Author.Tests.{leb-true, le-leb, ltb-true, lt-ltb, eq-eqb, eqb-true}
 use Rattle.lists.specs.Lists.{_!_}
-use Rattle.lists.specs.Tests.{some?}
+use Rattle.lists.specs.Tests.{some?, only}
 use Rattle.lists.specs.Sets.{Set, Sub, totalOf, most, fewest}
 use Rattle.lists.proofs.Tests.{both-true, true-both, by-contra}
+use Rattle.lists.proofs.Sums.{total-at}
 use Rattle.lists.proofs.Sets.{clash, totalOf-sub, totalOf-none, least-of, greatest-of, most-is, most-le, fewest-is, fewest-le, some-at, at-some}
 use Rattle.narrowing.specs.Windows.{Win, Long}
 use Rattle.readhead.specs.Overload.{Overloaded, NoneOverloaded, window, Pair, FirstPair, pair?, stops, starts, Found, nothing, found, overload, Finds}
@@ -55,6 +57,29 @@ module _ (n : ℕ) (p : List ℕ) (W : Win) where
 
   pub none-sets : ((a b : ℕ) → Pair n p W a b → ⊥) → NoneOverloaded n p W
   none-sets f T o = f (o .from) (o .upto) (overloaded-pair T o)
+
+  -- the first pair is the bounds of the jobs between them
+  pub first-bounds : (a b : ℕ) → FirstPair n p W a b → (T : Set) × (o : Overloaded n p W T) × (o .from ≡ a) × (o .upto ≡ b)
+  first-bounds a b f =
+      let o = pair-overloaded a b (f .pair) in
+      let q = overloaded-pair (window W a b) o in
+      let l = window-in a b (o .least .at) (o .least .member) in
+      let g = window-in a b (o .greatest .at) (o .greatest .member) in
+      let up : o .upto ≡ b = omega (arith, o .greatest .is, f .least (o .from) (o .upto) q) in
+      let low : o .from ≡ a = omega (arith, o .least .is, f .greatest (o .from) (subst (Pair n p W (o .from)) up q)) in
+      (window W a b, o, low, up)
+
+  -- a job whose window is too short is overloaded by itself
+  pub alone-overloaded : (j : ℕ) → j < n → W .l ! j < W .e ! j + p ! j → Overloaded n p W (λ k. eqb k j)
+  unfolding totalOf
+  alone-overloaded j b s =
+      record {
+        from = W .e ! j;
+        least = record { at = j; below = b; member = eq-eqb j j refl; is = refl; least = λ k h t. rw (eqb-true k j t) (omega arith) };
+        upto = W .l ! j;
+        greatest = record { at = j; below = b; member = eq-eqb j j refl; is = refl; greatest = λ k h t. rw (eqb-true k j t) (omega arith) };
+        over = let q : only (eqb j j) (p ! j) ≡ p ! j = rw (eq-eqb j j refl) in omega (arith, total-at (λ k. only (eqb k j) (p ! k)) n j b);
+      }
 
   -- where every window holds its job, such a pair has a < b
   pub pair-apart : Long n p W → (a b : ℕ) → Pair n p W a b → a < b

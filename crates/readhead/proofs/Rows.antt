@@ -5,6 +5,7 @@ use native.Mathlib.Omega.{arith}
 use mathlib.Core.Path.{_≡_, refl, sym, ap, subst, _∙_}
 use mathlib.Core.List.{List, [], _∷_}
 use mathlib.Core.Logic.{_⊎_, inl, inr, _↔_}
+use lib.Dec.{eqb}
 use Rattle.answers.specs.declared.OverloadAnswer.{OverloadAnswer}
 use Rattle.answers.specs.Said.{Word, Said, said, saysOverload}
 use Rattle.answers.proofs.Same.{overload-same, said-apart}
@@ -12,10 +13,10 @@ use Rattle.joblist.specs.GoodList.{Given, refusal}
 use Rattle.joblist.specs.Limits.{jobs, threeLists}
 use Rattle.joblist.proofs.Refusals.{refusal-exactly, good, refused-none}
 use Rattle.lists.specs.Lists.{_!_}
-use Rattle.narrowing.specs.Windows.{Win}
+use Rattle.narrowing.specs.Windows.{Win, LowestShort}
 use Rattle.readhead.specs.Overload.{NoneOverloaded, FirstPair, Found, nothing, overload, foundSaid, Finds}
 use Rattle.readhead.specs.Promise.{Good, refusalOf, tabled, checked, Overloads}
-use Rattle.readhead.proofs.Pairs.{overload-finds, overload-is, none-sets, none-pairs, pair-apart}
+use Rattle.readhead.proofs.Pairs.{overload-finds, overload-is, none-sets, none-pairs, first-bounds, alone-overloaded, pair-apart}
 
 same-pair : (a b x y : ℕ) → said Word.overload (a ∷ b ∷ []) ≡ said Word.overload (x ∷ y ∷ []) → (a ≡ x) × (b ≡ y)
 same-pair a b x y e = (ap (λ (s : Said). s .numbers ! 0) e, ap (λ (s : Said). s .numbers ! 1) e)
@@ -23,11 +24,11 @@ same-pair a b x y e = (ap (λ (s : Said). s .numbers ! 0) e, ap (λ (s : Said). 
 module _ (W : Win) (p : List ℕ) where
   is-good : refusalOf W p ≡ 0 → Good W p
   unfolding refusalOf
-  is-good h = good W p (threeLists W p) [] h
+  is-good h = good (jobs W) (threeLists W p) [] h
 
   good-is : Good W p → refusalOf W p ≡ 0
   unfolding refusalOf
-  good-is g = refused-none W p (threeLists W p) [] g
+  good-is g = refused-none (jobs W) (threeLists W p) [] g
 
   -- the answer is a refusal's, or what is found
   abbrev Case : Said → Type 0
@@ -82,11 +83,12 @@ module _ (W : Win) (p : List ℕ) where
         answered = refl;
         none = (none-row, row-none);
         pair = λ x y. (pair-row x y, row-pair x y);
-        rising = λ x y e. let r = pair-row x y e in pair-apart (jobs W) p W (r .0 .long) x y (r .1 .pair);
+        bounds = λ x y e. first-bounds (jobs W) p W x y (pair-row x y e .1);
+        rising = λ L x y e. pair-apart (jobs W) p W L x y (pair-row x y e .1 .pair);
       }
 
   -- and so do a refusal's number, and the finding of a good list
-  pub refused-meets : (k : ℕ) → k ≡ refusal W p (threeLists W p) [] → (k ≡ 0 → ⊥) → Overloads W p (said Word.refused (k ∷ []))
+  pub refused-meets : (k : ℕ) → k ≡ refusal (jobs W) (threeLists W p) [] → (k ≡ 0 → ⊥) → Overloads W p (said Word.refused (k ∷ []))
   unfolding checked tabled refusalOf
   refused-meets zero e d = absurd (d refl)
   refused-meets (suc k) e d = subst (Overloads W p) (ap (tabled W p) (sym e)) overloads
@@ -96,22 +98,22 @@ module _ (W : Win) (p : List ℕ) where
 
   module _ (a : Said) (h : Overloads W p a) where
     -- refusal k is given exactly when its row says so and no row before it does
-    pub refused-exactly : (k : ℕ) → (a ≡ said Word.refused (k ∷ [])) ↔ ((1 ≤ k) × Given k W p (threeLists W p) [])
+    pub refused-exactly : (k : ℕ) → (a ≡ said Word.refused (k ∷ [])) ↔ ((1 ≤ k) × Given k (jobs W) (threeLists W p) [])
     unfolding refusalOf
     refused-exactly k = (λ e. to e case-of, from)
       where
-        to : a ≡ said Word.refused (k ∷ []) → Case (checked W p) → (1 ≤ k) × Given k W p (threeLists W p) []
+        to : a ≡ said Word.refused (k ∷ []) → Case (checked W p) → (1 ≤ k) × Given k (jobs W) (threeLists W p) []
         to e (inl (i, d, q)) =
             let z : k ≡ suc i = ap (λ (s : Said). s .numbers ! 0) (sym e ∙ h .answered ∙ q) in
-            (omega arith, refusal-exactly W p (threeLists W p) [] k .0 (d ∙ sym z))
+            (omega arith, refusal-exactly (jobs W) (threeLists W p) [] k .0 (d ∙ sym z))
         to e (inr (g, (nothing, f, q))) = said-apart Word.refused Word.none (k ∷ []) [] (λ z. omega arith) (sym e ∙ h .answered ∙ q)
         to e (inr (g, (Found.pair x y, f, q))) = said-apart Word.refused Word.overload (k ∷ []) (x ∷ y ∷ []) (λ z. omega arith) (sym e ∙ h .answered ∙ q)
 
-        from : (1 ≤ k) × Given k W p (threeLists W p) [] → a ≡ said Word.refused (k ∷ [])
+        from : (1 ≤ k) × Given k (jobs W) (threeLists W p) [] → a ≡ said Word.refused (k ∷ [])
         from (b, t) = h .answered ∙ by case-of
           where
-            r : refusal W p (threeLists W p) [] ≡ k
-            r = refusal-exactly W p (threeLists W p) [] k .1 t
+            r : refusal (jobs W) (threeLists W p) [] ≡ k
+            r = refusal-exactly (jobs W) (threeLists W p) [] k .1 t
 
             by : Case (checked W p) → checked W p ≡ said Word.refused (k ∷ [])
             by (inl (i, d, q)) = q ∙ ap (λ (m : ℕ). said Word.refused (m ∷ [])) (sym d ∙ r)
@@ -124,6 +126,14 @@ module _ (W : Win) (p : List ℕ) where
         go : (z : Found) → overload (jobs W) p W ≡ z → (a ≡ said Word.none []) ⊎ ((x : ℕ) × (y : ℕ) × (a ≡ said Word.overload (x ∷ y ∷ [])))
         go nothing e = inl (h .answered ∙ found g ∙ ap foundSaid e)
         go (Found.pair x y) e = inr (x, y, h .answered ∙ found g ∙ ap foundSaid e)
+
+    -- a good list with a window that is too short gets a pair
+    pub short-found : Good W p → (j : ℕ) → LowestShort (jobs W) p W j → (x : ℕ) × (y : ℕ) × (a ≡ said Word.overload (x ∷ y ∷ []))
+    short-found g j s = go (decided g)
+      where
+        go : (a ≡ said Word.none []) ⊎ ((x : ℕ) × (y : ℕ) × (a ≡ said Word.overload (x ∷ y ∷ []))) → (x : ℕ) × (y : ℕ) × (a ≡ said Word.overload (x ∷ y ∷ []))
+        go (inl e) = absurd (h .none .0 e .1 (λ k. eqb k j) (alone-overloaded (jobs W) p W j (s .listed) (s .short)))
+        go (inr z) = z
 
     -- a pair is the earliest start of a job and the latest end of a job
     pub pair-jobs : (x y : ℕ) → a ≡ said Word.overload (x ∷ y ∷ []) → ((i : ℕ) × (i < jobs W) × (W .e ! i ≡ x)) × ((i : ℕ) × (i < jobs W) × (W .l ! i ≡ y))

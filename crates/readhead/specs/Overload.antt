@@ -1,4 +1,5 @@
--- One job at a time (01): when a set of jobs is overloaded, and the pair a, b that the overload check answers.
+-- One job at a time (01; 02, Item 3): when a set of jobs is overloaded, and the pair a, b that the overload check answers. A job whose window is too
+-- short is an overloaded set by itself; then a may exceed b.
 -- Job k of the n jobs has earliest start `W .e ! k`, latest end `W .l ! k` and duration `p ! k`.
 use Prim.Native.Nat.{ℕ, _+_, _≤_, _<_}
 use mathlib.Core.Path.{_≡_}

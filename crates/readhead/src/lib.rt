@@ -1,4 +1,4 @@
-// One job at a time (01): the overload check by 001's Theta-tree.
+// One job at a time (01; 02, Item 3): the overload check by 001's Theta-tree.
 mod order; // order.rt: places of the jobs in a rising order
 mod theta; // theta.rt: the tree, and the descent in it
 mod sweep; // sweep.rt: the jobs put in by rising latest end
@@ -38,7 +38,7 @@ fn find(est: &[u32], lct: &[u32], dur: &[u32]) -> OverloadAnswer
     sweep(est, lct, dur, &place, &starts, &stops)
 }
 
-// The overload check: none, the pair a, b, or refusal 1 to 4.
+// The overload check: none, the pair a, b, or refusal 1 to 3.
 pub fn overload(est: &[u32], lct: &[u32], dur: &[u32]) -> OverloadAnswer
     ensures { λ r. ⌜ Overloads (win (now (est .entry)) (now (lct .entry))) (now (dur .entry)) (saysOverload r) ⌝ }
 {

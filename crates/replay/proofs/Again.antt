@@ -10,7 +10,7 @@ use Rattle.lists.specs.Lists.{_!_}
 use Rattle.narrowing.specs.Windows.{Win, Side, early, late, number, sideOf, Inside, Respects}
 use Rattle.narrowing.specs.Search.{Move, move}
 use Rattle.narrowing.specs.Rounds.{Choice, Chosen}
-use Rattle.narrowing.proofs.Moves.{side-number}
+use Rattle.narrowing.proofs.Moves.{side-number, long-around}
 use Rattle.narrowing.proofs.Steps.{stable-respects}
 use Rattle.answers.specs.Said.{Word, Said, said}
 use Rattle.journal.specs.Journal.{roomOf, recordAt, logged}
@@ -22,7 +22,7 @@ use Rattle.timetable.specs.Promise.{Narrows}
 use Rattle.timetable.proofs.Entries.{entries-are, entries-count}
 use Rattle.timetable.proofs.Law.{lawful}
 use Rattle.timetable.proofs.Rows.{settled-row}
-use Rattle.timetable.proofs.Again.{same-jobs, good-again, word}
+use Rattle.timetable.proofs.Again.{same-jobs, good-again, long-again, word}
 use Rattle.replay.specs.Codes.{Coded}
 use Rattle.replay.specs.Facts.{jobOf, side, timeOf, OwnTrue, StatedTrue, Idles, GoodRecord}
 use Rattle.replay.specs.Replay.{rejected, Checked, finds, judged}
@@ -70,13 +70,14 @@ module _ (c : Call) (a : After) (h : Narrows c a) (n : ℕ) (e : a .says ≡ sai
       let r = settled-row c a h (suc n) e in
       let g = r .0 in
       let big = h .largest g .settled (word c a h (suc n) e (a .log)) in
+      let long = long-around (J .n) (J .p) (a .win) (c .win) (big .one .inside) (big .one .long) in
       let ch = x .0 in
       let first : nth again 0 ≡ entry J y =
       ap (λ (w : List ℕ). recordAt w 0) l ∙ logged-record (map (entry J) (y ∷ ys)) (c .log) (entries-are J (y ∷ ys)) (omega (arith, entries-count J ys, r .1, r .2)) 0 (omega arith) in
       let made : y ≡ move (c .win) (y .job) (y .side) (y .choice) = ap (λ (w : Win). record { job = y .job; side = y .side; choice = y .choice; before = w }) (ch .before) in
       let good : GoodRecord J (c .win) (entry J y) =
       subst (λ (z : Move). GoodRecord J (c .win) (entry J z)) (sym made)
-      (entry-good J (c .win) (omega (arith, g .few)) (g .long) (y .job) (y .side) (y .choice) (ch .listed) (g .within .1 .0 (y .job)) (ch .applies)) in
+      (entry-good J (c .win) (omega (arith, g .few)) long (y .job) (y .side) (y .choice) (ch .listed) (g .within .1 .0 (y .job)) (ch .applies)) in
       let kept : Respects (a .win) (y .job) (y .side) (bound (y .side) (y .choice)) =
       stable-respects (J .n) (J .p) (Applies J) (lawful J) (a .win) (c .win) (y .job) (y .side) (bound (y .side) (y .choice)) (big .one .inside) (big .one .stable) (ch .listed) (ch .applies) in
       subst (λ (w : List ℕ). Coded (jobsOf again) (a .win) w 26) (sym first)
@@ -95,4 +96,4 @@ module _ (c : Call) (a : After) (h : Narrows c a) (n : ℕ) (e : a .says ≡ sai
       let room : roomOf (a .log) ≡ roomOf (c .log) =
       ap roomOf (l .log) ∙ logged-room (map (entry J) (l .moves)) (c .log) (entries-are J (l .moves)) (omega (arith, entries-count J (l .moves), l .many, r .1, r .2)) in
       fate-answers again (suc n) b k (rejected 0 26) (good-again c a h (suc n) e (a .log)) (omega (arith, r .1, r .2))
-      (omega arith, inr ((λ i q. absurd (omega arith)), first-spent (l .moves) (l .many) (l .log) (l .chosen), λ z. omega arith))
+      (omega arith, inr (record { long = long-again c a h (suc n) e (a .log); held = λ i q. absurd (omega arith) }, first-spent (l .moves) (l .many) (l .log) (l .chosen), λ z. omega arith))

@@ -3,20 +3,25 @@ use Prim.Native.Nat.{ℕ, zero, suc, _≤_, _<_}
 use native.Mathlib.Omega.{arith}
 use mathlib.Core.Path.{_≡_, refl, sym, subst}
 use mathlib.Core.List.{List, [], _∷_, _++_}
+use mathlib.Core.Option.{none}
 use lib.ListN.{length, drop, length-append, length-drop}
 use borrow.Author.Tests.{lt-ltb, le-ltb}
-use Rattle.narrowing.specs.Windows.{Win}
+use Rattle.narrowing.specs.Windows.{Win, Long}
+use Rattle.narrowing.proofs.Short.{short-exactly}
+use Rattle.joblist.specs.Limits.{jobs}
 use Rattle.answers.specs.Said.{Word, said}
 use Rattle.journal.specs.Journal.{roomOf, records}
-use Rattle.timetable.specs.Table.{Call, refusalOf}
-use Rattle.timetable.proofs.Calls.{good-call}
+use Rattle.timetable.specs.Table.{Call, Good, refusalOf}
+use Rattle.timetable.proofs.Calls.{call-good}
 use Rattle.tabling.proofs.Good.{durations-sized}
 use Rattle.replay.specs.declared.Ended.{Ended}
-use Rattle.replay.specs.Replay.{Verdict, holds, clashes, rejected, replay, Checked, finds, judged, refuses, rows, checked}
+use Rattle.replay.specs.Replay.{Verdict, holds, clashes, rejected, replay, verdictOn, Checked, finds, judged, refuses, rows, checked}
 use Rattle.replay.specs.Promise.{Checks}
 use Rattle.replay.specs.Lent.{jobsIn}
 use Rattle.replay.specs.Ended.{verdict}
+use Rattle.replay.specs.Fate.{Shut}
 use Rattle.replay.proofs.Meaning.{checks}
+use Rattle.replay.proofs.Rows.{good-judged, short-unclaimed, short-claimed}
 
 -- ---- the end of a replay that left the windows U
 
@@ -50,7 +55,16 @@ module _ (c : Call) (count : ℕ) where
   unfolding checked rows
   row-six e h = rw (e, lt-ltb (roomOf (c .log)) count h)
 
-  pub row-judged : refusalOf c ≡ 0 → count ≤ roomOf (c .log)
-      → judged c count (replay (jobsIn (length (c .p)) (c .p) (c .r) (c .cap)) (c .win) 0 (records (c .log) 0 count)) ≡ checked c count
-  unfolding checked rows
-  row-judged e h = rw (e, le-ltb (roomOf (c .log)) count h, durations-sized (good-call c e))
+  module _ (g : Good c) (h : count ≤ roomOf (c .log)) where
+    -- a window is too short
+    pub row-short : (j : ℕ) → Shut c 0 j → count ≡ 0 → finds (said Word.clash (count ∷ j ∷ [])) (c .win) ≡ checked c count
+    row-short j s e = sym (short-unclaimed c count (checked c count) (checks c count) g h j s e)
+
+    pub row-claimed : (j : ℕ) → Shut c 0 j → 0 < count → finds (said Word.rejected (0 ∷ 20 ∷ [])) (c .win) ≡ checked c count
+    row-claimed j s b = sym (short-claimed c count (checked c count) (checks c count) g h j s b)
+
+    -- none is: the verdict is the replay's
+    pub row-judged : Long (jobs (c .win)) (c .p) (c .win)
+        → judged c count (replay (jobsIn (length (c .p)) (c .p) (c .r) (c .cap)) (c .win) 0 (records (c .log) 0 count)) ≡ checked c count
+    unfolding verdictOn
+    row-judged L = rw (durations-sized g, good-judged c count g h, short-exactly (jobs (c .win)) (c .p) (c .win) none L)

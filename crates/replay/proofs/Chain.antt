@@ -56,5 +56,4 @@ timed W p r cap g = record {
   few = g .few;
   within = (g .within .0, (g .within .1 .0, (g .within .1 .1 .0, tt)));
   beside = tt;
-  long = g .long;
 }

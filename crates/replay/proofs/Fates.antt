@@ -6,16 +6,18 @@ use mathlib.Core.Path.{_≡_, refl, sym, ap, subst, _∙_}
 use mathlib.Core.Bool.{Bool, true, false}
 use mathlib.Core.List.{List, [], _∷_}
 use mathlib.Core.Logic.{_⊎_, inl, inr, _↔_}
+use mathlib.Core.Option.{Option, none, some}
 use borrow.Author.Tests.{ltb-true, ltb-false, lt-ltb, le-ltb}
 use Rattle.lists.specs.Lists.{_!_}
-use Rattle.narrowing.specs.Windows.{Win, closes}
+use Rattle.narrowing.specs.Windows.{Win, closes, Long, LowestShort, lowestShort}
+use Rattle.narrowing.proofs.Short.{ShortSays, short-is, short-exactly}
 use Rattle.journal.specs.Journal.{records}
 use Rattle.timetable.specs.Time.{Jobs}
 use Rattle.timetable.specs.Table.{Call, jobsOf}
 use Rattle.replay.specs.Codes.{Coded, code}
 use Rattle.replay.specs.Facts.{jobOf, GoodRecord}
-use Rattle.replay.specs.Replay.{changed, Verdict, holds, clashes, rejected, closing, orBad, orClosed, replay}
-use Rattle.replay.specs.Fate.{nth, reached, Takes, Held, Closed, Open, Closing, Fate}
+use Rattle.replay.specs.Replay.{changed, Verdict, holds, clashes, rejected, closing, orBad, orClosed, replay, verdictOn}
+use Rattle.replay.specs.Fate.{nth, reached, Takes, Held, Closed, Open, Closing, Shut, Fate}
 use Rattle.replay.proofs.Codes.{code-exactly, good-record, record-good}
 
 module _ (c : Call) where
@@ -27,8 +29,13 @@ module _ (c : Call) where
   unfolding replay records
   from i m = replay J (reached c i) i (records (c .log) i m)
 
+  -- the verdict on the first m records
+  unfoldable verdict : ℕ → Verdict
+  unfolding verdictOn records
+  verdict m = verdictOn J (c .win) (records (c .log) 0 m)
+
   open-more : (i : ℕ) → Open c i → Takes c i → Held c i → Open c (suc i)
-  open-more i o t q h b = elim (ℕ-discrete h i) [ yes e ↦ rw e (t, q) | no e ↦ o h (omega arith) ]
+  open-more i o t q = record { long = o .long; held = λ h b. elim (ℕ-discrete h i) [ yes e ↦ rw e (t, q) | no e ↦ o .held h (omega arith) ] }
 
   -- ---- one record
 
@@ -45,7 +52,7 @@ module _ (c : Call) where
   at-held i m t q =
       rw (record-good J (reached c i) (nth c i) t, le-ltb (changed (reached c i) (nth c i) .l ! jobOf (nth c i)) (changed (reached c i) (nth c i) .e ! jobOf (nth c i) + c .p ! jobOf (nth c i)) q)
 
-  at-closed : (i m : ℕ) → Takes c i → Closed c i → from i (suc m) ≡ closing i (jobOf (nth c i)) (records (c .log) (suc i) m)
+  at-closed : (i m : ℕ) → Takes c i → Closed c i → from i (suc m) ≡ closing (suc i) (jobOf (nth c i)) (records (c .log) (suc i) m)
   unfolding from replay reached
   at-closed i m t q =
       rw (
@@ -53,11 +60,11 @@ module _ (c : Call) where
         lt-ltb (changed (reached c i) (nth c i) .l ! jobOf (nth c i)) (changed (reached c i) (nth c i) .e ! jobOf (nth c i) + c .p ! jobOf (nth c i)) q,
       )
 
-  closing-one : (i j : ℕ) → closing i j (records (c .log) (suc i) 0) ≡ clashes j
+  closing-one : (i j : ℕ) → closing i j (records (c .log) i 0) ≡ clashes j
   unfolding records
   closing-one i j = refl
 
-  closing-more : (i j m : ℕ) → closing i j (records (c .log) (suc i) (suc m)) ≡ rejected (suc i) 20
+  closing-more : (i j m : ℕ) → closing i j (records (c .log) i (suc m)) ≡ rejected i 20
   unfolding records
   closing-more i j m = refl
 
@@ -67,28 +74,44 @@ module _ (c : Call) where
   open-from zero m o = let e : 0 + m ≡ m = omega arith in ap (from 0) e
   open-from (suc i) m o =
       let e : suc i + m ≡ i + suc m = omega arith in
-      ap (from 0) e ∙ open-from i (suc m) (λ h b. o h (omega arith)) ∙ at-held i m (o i (omega arith) .0) (o i (omega arith) .1)
+      ap (from 0) e
+      ∙ open-from i (suc m) (record { long = o .long; held = λ h b. o .held h (omega arith) })
+      ∙ at-held i m (o .held i (omega arith) .0) (o .held i (omega arith) .1)
 
-  closing-from : (h m : ℕ) → Closing c h → from 0 (h + suc m) ≡ closing h (jobOf (nth c h)) (records (c .log) (suc h) m)
+  closing-from : (h m : ℕ) → Closing c h → from 0 (h + suc m) ≡ closing (suc h) (jobOf (nth c h)) (records (c .log) (suc h) m)
   closing-from h m x = open-from h (suc m) (x .before) ∙ at-closed h m (x .takes) (x .closed)
 
-  from-at : (a b : ℕ) → a ≡ b → from 0 a ≡ from 0 b
-  from-at a b e = ap (from 0) e
+  -- where no window is too short the verdict is the replay's, else that of a closed window
+  long-verdict : (m : ℕ) → Long (J .n) (c .p) (c .win) → verdict m ≡ from 0 m
+  unfolding verdict from reached verdictOn
+  long-verdict m L = rw (short-exactly (J .n) (c .p) (c .win) none L)
 
-  fate-verdict : (count : ℕ) (v : Verdict) → Fate c count v → from 0 count ≡ v
-  fate-verdict count (holds U) f =
-      from-at count (count + 0) (omega arith) ∙ open-from count 0 (f .1) ∙ at-none count ∙ ap holds (sym (f .0))
-  fate-verdict count (clashes j) (h, e, x, q) =
-      from-at count (h + 1) (omega arith) ∙ closing-from h 0 x ∙ closing-one h (jobOf (nth c h)) ∙ ap clashes (sym q)
-  fate-verdict count (rejected i k) (b, inl (h, e, x, q)) =
-      from-at count (h + suc (suc (count - suc (suc h)))) (omega arith)
-      ∙ closing-from h (suc (count - suc (suc h))) x
-      ∙ closing-more h (jobOf (nth c h)) (count - suc (suc h))
-      ∙ rw (e, q)
+  short-verdict : (m j : ℕ) → LowestShort (J .n) (c .p) (c .win) j → verdict m ≡ closing 0 j (records (c .log) 0 m)
+  unfolding verdict verdictOn
+  short-verdict m j s = rw (short-exactly (J .n) (c .p) (c .win) (some j) s)
+
+  -- a window is closed after i records, and so many are left
+  shut-verdict : (i j m : ℕ) → Shut c i j → verdict (i + m) ≡ closing i j (records (c .log) i m)
+  shut-verdict zero j m x = let e : 0 + m ≡ m = omega arith in rw e (short-verdict m j x)
+  shut-verdict (suc h) j m x =
+      let e : suc h + m ≡ h + suc m = omega arith in
+      long-verdict (suc h + m) (x .0 .before .long) ∙ ap (from 0) e ∙ closing-from h m (x .0) ∙ rw (x .1)
+
+  open-verdict : (i m : ℕ) → Open c i → verdict (i + m) ≡ from i m
+  open-verdict i m o = long-verdict (i + m) (o .long) ∙ open-from i m o
+
+  at-count : (a b : ℕ) → a ≡ b → verdict a ≡ verdict b
+  at-count a b e = ap verdict e
+
+  fate-verdict : (count : ℕ) (v : Verdict) → Fate c count v → verdict count ≡ v
+  fate-verdict count (holds U) f = at-count count (count + 0) (omega arith) ∙ open-verdict count 0 (f .1) ∙ at-none count ∙ ap holds (sym (f .0))
+  fate-verdict count (clashes j) x = at-count count (count + 0) (omega arith) ∙ shut-verdict count j 0 x ∙ closing-one count j
+  fate-verdict count (rejected i k) (b, inl (j, x, q)) =
+      at-count count (i + suc (count - suc i)) (omega arith) ∙ shut-verdict i j (suc (count - suc i)) x ∙ closing-more i j (count - suc i) ∙ rw q
   fate-verdict count (rejected i zero) (b, inr (o, d, n)) = absurd (n refl)
   fate-verdict count (rejected i (suc k)) (b, inr (o, d, n)) =
-      from-at count (i + suc (count - suc i)) (omega arith)
-      ∙ open-from i (suc (count - suc i)) o
+      at-count count (i + suc (count - suc i)) (omega arith)
+      ∙ open-verdict i (suc (count - suc i)) o
       ∙ at-bad i (count - suc i) k (code-exactly J (reached c i) (nth c i) (suc k) .1 d)
 
   -- ---- and the verdict has its facts
@@ -102,9 +125,9 @@ module _ (c : Call) where
       fate-at i (i + 0) e (from i 0) (rw (at-none i) (refl, o))
   fate-from (suc m) i o = go (code J (reached c i) (nth c i)) refl (λ q. fate-from m (suc i) q)
     where
-      last : (n : ℕ) → n ≡ m → Closing c i → Fate c (i + suc n) (closing i (jobOf (nth c i)) (records (c .log) (suc i) n))
-      last zero e x = rw (closing-one i (jobOf (nth c i))) (i, omega arith, x, refl)
-      last (suc n) e x = rw (closing-more i (jobOf (nth c i)) n) (omega arith, inl (i, refl, x, refl))
+      last : (n : ℕ) → n ≡ m → Closing c i → Fate c (i + suc n) (closing (suc i) (jobOf (nth c i)) (records (c .log) (suc i) n))
+      last zero e x = let z : suc i ≡ i + 1 = omega arith in rw (closing-one (suc i) (jobOf (nth c i)), ← z) (x, refl)
+      last (suc n) e x = rw (closing-more (suc i) (jobOf (nth c i)) n) (omega arith, inl (jobOf (nth c i), (x, refl), refl))
 
       by-window : (b : Bool) → closes (c .p) (reached c (suc i)) (jobOf (nth c i)) ≡ b → Takes c i → (Open c (suc i) → Fate c (suc i + m) (from (suc i) m))
           → Fate c (i + suc m) (from i (suc m))
@@ -122,10 +145,20 @@ module _ (c : Call) where
           rw (at-bad i m k e)
           (omega arith, inr (o, code-exactly J (reached c i) (nth c i) (suc k) .0 e, λ z. omega arith))
 
+  closing-fate : (j m : ℕ) → LowestShort (J .n) (c .p) (c .win) j → Fate c m (closing 0 j (records (c .log) 0 m))
+  closing-fate j zero x = rw (closing-one 0 j) x
+  closing-fate j (suc m) x = rw (closing-more 0 j m) (omega arith, inl (j, x, refl))
+
+  verdict-fate : (count : ℕ) → Fate c count (verdict count)
+  verdict-fate count = go (lowestShort (J .n) (c .p) (c .win)) (short-is (J .n) (c .p) (c .win))
+    where
+      go : (x : Option ℕ) → ShortSays (J .n) (c .p) (c .win) x → Fate c count (verdict count)
+      go none L =
+          let z : 0 + count ≡ count = omega arith in
+          rw (long-verdict count L) (fate-at (0 + count) count z (from 0 count) (fate-from count 0 (record { long = L; held = λ h b. absurd (omega arith) })))
+      go (some j) x = rw (short-verdict count j x) (closing-fate j count x)
+
   -- the verdict on the first so many records
-  pub fate-exactly : (count : ℕ) (v : Verdict) → (replay (jobsOf c) (c .win) 0 (records (c .log) 0 count) ≡ v) ↔ Fate c count v
-  unfolding from reached
-  fate-exactly count v = (
-    λ e. subst (Fate c count) e (let z : 0 + count ≡ count = omega arith in fate-at (0 + count) count z (from 0 count) (fate-from count 0 (λ h b. absurd (omega arith)))),
-    λ f. fate-verdict count v f,
-  )
+  pub fate-exactly : (count : ℕ) (v : Verdict) → (verdictOn (jobsOf c) (c .win) (records (c .log) 0 count) ≡ v) ↔ Fate c count v
+  unfolding verdict
+  fate-exactly count v = (λ e. subst (Fate c count) e (verdict-fate count), λ f. fate-verdict count v f)

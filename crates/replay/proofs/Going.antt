@@ -49,7 +49,7 @@ module _ (p r : List ℕ) (cap : ℕ) (W : Win) (x : List ℕ) (taken : code (jo
   unfolding changed
   good-changed g h =
       moved-good W p r cap [] g (jobOf x) (side x) (bound (side x) (timeOf x))
-      (bound-small W p r cap g (jobOf x) (side x) (timeOf x) (taken-range .job) (taken-range .time) h) h []
+      (bound-small W p r cap g (jobOf x) (side x) (timeOf x) (taken-range .job) (taken-range .time) h) []
 
 -- ---- one record more
 
@@ -65,7 +65,7 @@ module _ {p r : List ℕ} {cap : ℕ} {log : List ℕ} {count : ℕ} {from W : W
     -- the next record and the rest
     next : all
         ≡ orBad i (code (jobsIn (length p) p r cap) W x)
-        (orClosed (closes p (changed W x) (jobOf x)) (closing i (jobOf x) (records log (i + 1) (count - (i + 1))))
+        (orClosed (closes p (changed W x) (jobOf x)) (closing (i + 1) (jobOf x) (records log (i + 1) (count - (i + 1))))
         (replay (jobsIn (length p) p r cap) (changed W x) (i + 1) (records log (i + 1) (count - (i + 1)))))
     unfolding replay records
     next =

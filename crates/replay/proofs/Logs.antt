@@ -24,9 +24,9 @@ use Rattle.timetable.proofs.Law.{lawful, searches}
 use Rattle.answers.proofs.Same.{not-said}
 use Rattle.timetable.proofs.Calls.{call-good, whole}
 use Rattle.timetable.proofs.Rows.{Case, cased, ran, settled-refused, clash-refused}
-use Rattle.replay.specs.Replay.{Verdict, holds, clashes, replay, Checked, finds, judged, refuses, rows, checked}
+use Rattle.replay.specs.Replay.{Verdict, holds, clashes, verdictOn, Checked, finds, judged, refuses, rows, checked}
 use Rattle.replay.specs.Promise.{TakesLogs}
-use Rattle.replay.proofs.Taken.{Replays, run-replays}
+use Rattle.replay.proofs.Taken.{Judges, run-judges}
 
 module _ (c : Call) where
   abbrev J : Jobs
@@ -51,12 +51,12 @@ module _ (c : Call) where
     same-room = logged-room (map (entry J) ms) (c .log) (entries-are J ms) (omega (arith, entries-count J ms))
 
     -- the checker replays just the records of the moves
-    checked-left : checked (after left) (length ms) ≡ judged (after left) (length ms) (replay J (c .win) 0 (map (entry J) ms))
+    checked-left : checked (after left) (length ms) ≡ judged (after left) (length ms) (verdictOn J (c .win) (map (entry J) ms))
     unfolding checked rows
     checked-left = rw (good-after, le-ltb (roomOf left) (length ms) (omega (arith, same-room)), read-back)
 
-  replays : Good c → Replays J (c .win) (ran c)
-  replays g = run-replays J (omega (arith, g .few)) (roomOf (c .log)) (c .win) (g .long) (g .within .1 .0)
+  judges : Good c → Judges J (c .win) (ran c)
+  judges g = run-judges J (omega (arith, g .few)) (roomOf (c .log)) (c .win) (g .within .1 .0)
 
   module _ (a : After) (h : Narrows c a) (b : Checked) where
     -- settled: holds, with the same count and windows
@@ -64,7 +64,7 @@ module _ (c : Call) where
     unfolding ended search
     settled-taken n e k = go (cased c a h)
       where
-        by-run : (g : Good c) (o : Out) → Replays J (c .win) o → Bounded (search J) (roomOf (c .log)) (c .win) o → a ≡ ended c o → b ≡ finds (said Word.holds (n ∷ [])) (a .win)
+        by-run : (g : Good c) (o : Out) → Judges J (c .win) o → Bounded (search J) (roomOf (c .log)) (c .win) o → a ≡ ended c o → b ≡ finds (said Word.holds (n ∷ [])) (a .win)
         by-run g (settled U ms) r d q =
             let z : length ms ≡ n = ap (λ (y : Said). y .numbers ! 0) (sym (ap (λ (y : After). y .says) q) ∙ e) in
             let l : a .log ≡ logged (map (entry J) ms) (c .log) = ap (λ (y : After). y .log) q in
@@ -73,7 +73,7 @@ module _ (c : Call) where
             ∙ ap (λ (x : List ℕ). checked (after x) n) l
             ∙ ap (checked (after (logged (map (entry J) ms) (c .log)))) (sym z)
             ∙ checked-left g ms (d .1)
-            ∙ ap (judged (after (logged (map (entry J) ms) (c .log))) (length ms)) (r 0)
+            ∙ ap (judged (after (logged (map (entry J) ms) (c .log))) (length ms)) r
             ∙ rw (z, w)
         by-run g (clash j ms) r d q =
             absurd (not-said Word.clash Word.settled (λ z. omega arith) (ap (λ (y : Said). y .word) (sym (ap (λ (y : After). y .says) q) ∙ e)))
@@ -82,14 +82,14 @@ module _ (c : Call) where
         go : Case c a → b ≡ finds (said Word.holds (n ∷ [])) (a .win)
         go (inl (i, d, q)) = absurd (settled-refused c _ _ (sym (sym (ap (λ (y : After). y .says) q) ∙ e)))
         go (inr (g, q)) =
-            by-run g (ran c) (replays g) (run-bounded (search J) (Applies J) (searches J) (lawful J) (roomOf (c .log)) (c .win) (g .long) (whole c g)) q
+            by-run g (ran c) (judges g) (run-bounded (search J) (Applies J) (searches J) (lawful J) (roomOf (c .log)) (c .win) (whole c g)) q
 
     -- clash: the same count and job
     pub clash-taken : (n j : ℕ) → a .says ≡ said Word.clash (n ∷ j ∷ []) → b ≡ checked (after (a .log)) n → b ≡ finds (said Word.clash (n ∷ j ∷ [])) (c .win)
     unfolding ended search
     clash-taken n j e k = go (cased c a h)
       where
-        by-run : (g : Good c) (o : Out) → Replays J (c .win) o → Bounded (search J) (roomOf (c .log)) (c .win) o → a ≡ ended c o → b ≡ finds (said Word.clash (n ∷ j ∷ [])) (c .win)
+        by-run : (g : Good c) (o : Out) → Judges J (c .win) o → Bounded (search J) (roomOf (c .log)) (c .win) o → a ≡ ended c o → b ≡ finds (said Word.clash (n ∷ j ∷ [])) (c .win)
         by-run g (settled U ms) r d q =
             absurd (not-said Word.settled Word.clash (λ z. omega arith) (ap (λ (y : Said). y .word) (sym (ap (λ (y : After). y .says) q) ∙ e)))
         by-run g (clash i ms) r d q =
@@ -100,14 +100,14 @@ module _ (c : Call) where
             ∙ ap (λ (x : List ℕ). checked (after x) n) l
             ∙ ap (checked (after (logged (map (entry J) ms) (c .log)))) (sym z)
             ∙ checked-left g ms (d .1)
-            ∙ ap (judged (after (logged (map (entry J) ms) (c .log))) (length ms)) (r 0)
+            ∙ ap (judged (after (logged (map (entry J) ms) (c .log))) (length ms)) r
             ∙ rw (z, v)
         by-run g short r d q = absurd (clash-refused c _ _ (sym (sym (ap (λ (y : After). y .says) q) ∙ e)))
 
         go : Case c a → b ≡ finds (said Word.clash (n ∷ j ∷ [])) (c .win)
         go (inl (i, d, q)) = absurd (clash-refused c _ _ (sym (sym (ap (λ (y : After). y .says) q) ∙ e)))
         go (inr (g, q)) =
-            by-run g (ran c) (replays g) (run-bounded (search J) (Applies J) (searches J) (lawful J) (roomOf (c .log)) (c .win) (g .long) (whole c g)) q
+            by-run g (ran c) (judges g) (run-bounded (search J) (Applies J) (searches J) (lawful J) (roomOf (c .log)) (c .win) (whole c g)) q
 
 pub takes-logs : (c : Call) (count : ℕ) → TakesLogs c count (checked c count)
 takes-logs c count =

@@ -15,7 +15,7 @@ use Rattle.narrowing.specs.Windows.{Win, win, Side, early, late, moved}
 use Rattle.answers.specs.declared.CheckAnswer.{CheckAnswer}
 use Rattle.answers.specs.Said.{Word, Said, said, saysCheck}
 use Rattle.answers.proofs.Same.{check-same, not-said}
-use Rattle.joblist.specs.Limits.{fourLists, supply}
+use Rattle.joblist.specs.Limits.{jobs, fourLists, supply}
 use Rattle.joblist.specs.GoodList.{Given}
 use Rattle.joblist.proofs.Refusals.{refusal-exactly}
 use Rattle.journal.specs.Journal.{recordWords, roomOf, records}
@@ -24,8 +24,8 @@ use Rattle.timetable.specs.Time.{bound}
 use Rattle.timetable.specs.Table.{Call, jobsOf, Good, refusalOf}
 use Rattle.timetable.proofs.Calls.{good-call, call-good}
 use Rattle.replay.specs.Facts.{jobOf, side, timeOf}
-use Rattle.replay.specs.Replay.{changed, Verdict, holds, clashes, rejected, replay, Checked, finds, judged, refuses, orSix, rows, checked}
-use Rattle.replay.specs.Fate.{reached, Open, Fate}
+use Rattle.replay.specs.Replay.{changed, Verdict, holds, clashes, rejected, verdictOn, Checked, finds, judged, refuses, orSix, rows, checked}
+use Rattle.replay.specs.Fate.{reached, Open, Shut, Fate}
 use Rattle.replay.specs.Promise.{Checks}
 use Rattle.replay.proofs.Fates.{fate-exactly}
 
@@ -52,14 +52,14 @@ others-stay W x k h = go (side x)
     go early = (getD-set-other (W .e) (jobOf x) k _ 0 h, refl)
     go late = (refl, getD-set-other (W .l) (jobOf x) k _ 0 h)
 
--- refusal k's row: one of the tests 1 to 4, or 6: the log is shorter than a record's words for each claimed record
+-- refusal k's row: one of the tests 1 to 3, or 6: the log is shorter than a record's words for each claimed record
 abbrev pub RefusedRow : Call → ℕ → ℕ → Type 0
 RefusedRow c count k =
-    ((1 ≤ k) × Given k (c .win) (c .p) (fourLists (c .win) (c .p) (c .r)) (supply (c .cap))) ⊎ ((k ≡ 6) × Good c × (length (c .log) < recordWords * count))
+    ((1 ≤ k) × Given k (jobs (c .win)) (fourLists (c .win) (c .p) (c .r)) (supply (c .cap))) ⊎ ((k ≡ 6) × Good c × (length (c .log) < recordWords * count))
 
 module _ (c : Call) (count : ℕ) where
   abbrev verdict : Verdict
-  verdict = replay (jobsOf c) (c .win) 0 (records (c .log) 0 count)
+  verdict = verdictOn (jobsOf c) (c .win) (records (c .log) 0 count)
 
   -- the answer is a refusal's, 6, or the verdict's
   data Case (a : Checked) : Type 0 where
@@ -81,7 +81,7 @@ module _ (c : Call) (count : ℕ) where
   cased a h = subst Case (sym (h .answered)) (case-of (refusalOf c) refl)
 
   -- the answer on a good list with room for the claimed records
-  good-judged : Good c → count ≤ roomOf (c .log) → checked c count ≡ judged c count verdict
+  pub good-judged : Good c → count ≤ roomOf (c .log) → checked c count ≡ judged c count verdict
   unfolding checked rows
   good-judged g b = rw (call-good c g, le-ltb (roomOf (c .log)) count b)
 
@@ -92,6 +92,13 @@ module _ (c : Call) (count : ℕ) where
     -- a verdict with its facts gives its answer
     pub fate-answers : (v : Verdict) → Good c → count ≤ roomOf (c .log) → Fate c count v → a ≡ judged c count v
     fate-answers v g b f = h .answered ∙ good-judged g b ∙ ap (judged c count) (fate-exactly c count v .1 f)
+
+    -- a window is too short (document 02, Item 3): a clash of the lowest such job where no record is claimed, else the first is rejected
+    pub short-unclaimed : Good c → count ≤ roomOf (c .log) → (j : ℕ) → Shut c 0 j → count ≡ 0 → a ≡ finds (said Word.clash (count ∷ j ∷ [])) (c .win)
+    short-unclaimed g b j s e = fate-answers (clashes j) g b (rw e s)
+
+    pub short-claimed : Good c → count ≤ roomOf (c .log) → (j : ℕ) → Shut c 0 j → 0 < count → a ≡ finds (said Word.rejected (0 ∷ 20 ∷ [])) (c .win)
+    short-claimed g b j s d = fate-answers (rejected 0 20) g b (d, inl (j, s, refl))
 
     -- an answer other than a refusal is a verdict with its facts
     verdict-of : (x : Said) → a .says ≡ x → (x .word ≡ Word.refused → ⊥) → Good c × (count ≤ roomOf (c .log)) × (v : Verdict) × Fate c count v × (judged c count v .says ≡ x)
@@ -183,16 +190,16 @@ module _ (c : Call) (count : ℕ) where
         there : a .says ≡ said Word.refused (k ∷ []) → Case a → RefusedRow c count k
         there e (tested m d q) =
             let z : suc m ≡ k = ap (λ (y : Said). y .numbers ! 0) (says-of _ q _ e) in
-            inl (omega arith, refusal-exactly (c .win) (c .p) _ _ k .0 (d ∙ z))
+            inl (omega arith, refusal-exactly (jobs (c .win)) _ _ k .0 (d ∙ z))
         there e (six g b q) = inr (sym (ap (λ (y : Said). y .numbers ! 0) (says-of _ q _ e)), g, room-short (c .log) count .0 b)
         there e (judges g b q) = absurd (word-not verdict (ap (λ (y : Said). y .word) (says-of _ q _ e)))
 
         back : RefusedRow c count k → Case a → a .says ≡ said Word.refused (k ∷ [])
         back (inl (b, t)) (tested m d q) =
-            let z : suc m ≡ k = sym d ∙ refusal-exactly (c .win) (c .p) _ _ k .1 t in
+            let z : suc m ≡ k = sym d ∙ refusal-exactly (jobs (c .win)) _ _ k .1 t in
             ap (λ (y : Checked). y .says) q ∙ ap (λ (i : ℕ). said Word.refused (i ∷ [])) z
-        back (inl (b, t)) (six g d q) = absurd (omega (arith, sym (call-good c g) ∙ refusal-exactly (c .win) (c .p) _ _ k .1 t))
-        back (inl (b, t)) (judges g d q) = absurd (omega (arith, sym (call-good c g) ∙ refusal-exactly (c .win) (c .p) _ _ k .1 t))
+        back (inl (b, t)) (six g d q) = absurd (omega (arith, sym (call-good c g) ∙ refusal-exactly (jobs (c .win)) _ _ k .1 t))
+        back (inl (b, t)) (judges g d q) = absurd (omega (arith, sym (call-good c g) ∙ refusal-exactly (jobs (c .win)) _ _ k .1 t))
         back (inr (e, g, b)) (tested m d q) = absurd (omega (arith, sym d ∙ call-good c g))
         back (inr (e, g, b)) (six f d q) = ap (λ (y : Checked). y .says) q ∙ ap (λ (i : ℕ). said Word.refused (i ∷ [])) (sym e)
         back (inr (e, g, b)) (judges f d q) = absurd (omega (arith, room-short (c .log) count .1 b))

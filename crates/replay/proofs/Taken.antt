@@ -5,6 +5,7 @@ use native.Mathlib.Decide.{decLt}
 use mathlib.Core.Path.{_≡_, refl, sym, ap, _∙_}
 use mathlib.Core.Bool.{Bool, true, false, not}
 use mathlib.Core.List.{List, [], _∷_, map}
+use mathlib.Core.Option.{none, some}
 use lib.ListN.{drop}
 use lib.Dec.{ltb, leb, eqb}
 use borrow.Author.Tests.{ne-eqb, eqb-false, not-true}
@@ -14,10 +15,11 @@ use Rattle.lists.specs.Sums.{total}
 use Rattle.lists.proofs.Tests.{both-true, true-both, only-cong}
 use Rattle.lists.proofs.Sums.{total-cong}
 use Rattle.lists.proofs.Lists.{set-any}
-use Rattle.narrowing.specs.Windows.{Win, Side, early, late, number, sideOf, Long, moved, closes}
+use Rattle.narrowing.specs.Windows.{Win, Side, early, late, number, sideOf, Long, LowestShort, moved, closes}
 use Rattle.narrowing.specs.Search.{Move, move}
-use Rattle.narrowing.specs.Run.{Out, settled, clash, short, push, run}
+use Rattle.narrowing.specs.Run.{Out, settled, clash, short, push, work, run}
 use Rattle.narrowing.proofs.Moves.{side-number}
+use Rattle.narrowing.proofs.Short.{short-exactly, run-by}
 use Rattle.narrowing.proofs.Runs.{work-ind}
 use Rattle.members.specs.Members.{setWords, has, setOf}
 use Rattle.members.proofs.Sets.{has-setOf, has-beyond}
@@ -29,7 +31,7 @@ use Rattle.timetable.proofs.Facts.{sure-yes, yes-sure, member-yes, yes-member}
 use Rattle.timetable.proofs.Law.{searches}
 use Rattle.replay.specs.Facts.{jobOf, side, timeOf, isMember, named, OwnTrue, Tightens, GoodRecord}
 use Rattle.replay.specs.Codes.{code}
-use Rattle.replay.specs.Replay.{changed, Verdict, holds, clashes, replay}
+use Rattle.replay.specs.Replay.{changed, Verdict, holds, clashes, replay, verdictOn}
 use Rattle.replay.proofs.Codes.{record-good}
 
 number-most : (s : Side) → number s ≤ 1
@@ -148,14 +150,30 @@ push-replays J W U m (settled X ms) f g = λ i. f i (map (entry J) ms) ∙ g (su
 push-replays J W U m (clash j ms) f g = λ i. f i (map (entry J) ms) ∙ g (suc i)
 push-replays J W U m short f g = tt
 
+-- the verdict on an end's records, claimed from the windows that it began on
+abbrev pub Judges : Jobs → Win → Out → Type 0
+Judges J W (settled U ms) = verdictOn J W (map (entry J) ms) ≡ holds U
+Judges J W (clash j ms) = verdictOn J W (map (entry J) ms) ≡ clashes j
+Judges J W short = Unit {0}
+
+long-judges : (J : Jobs) (W : Win) (o : Out) → Long (J .n) (J .p) W → Replays J W o → Judges J W o
+unfolding verdictOn
+long-judges J W (settled U ms) L f = rw (short-exactly (J .n) (J .p) W none L) (f 0)
+long-judges J W (clash j ms) L f = rw (short-exactly (J .n) (J .p) W none L) (f 0)
+long-judges J W short L f = tt
+
+short-judges : (J : Jobs) (W : Win) (j : ℕ) → LowestShort (J .n) (J .p) W j → Judges J W (clash j [])
+unfolding verdictOn
+short-judges J W j s = rw (short-exactly (J .n) (J .p) W (some j) s)
+
 module _ (J : Jobs) (few : J .n ≤ 32 * setWords) where
   good-entry : (W : Win) (j : ℕ) (s : Side) (t : ℕ) → Long (J .n) (J .p) W → j < J .n → Applies J W j s (bound s t) → Small J W → code J W (entry J (move W j s t)) ≡ 0
   unfolding Small
   good-entry W j s t L b a h = record-good J W (entry J (move W j s t)) (entry-good J W few L j s t b (h j) a)
 
-  pub run-replays : (room : ℕ) (W : Win) → Long (J .n) (J .p) W → ((k : ℕ) → W .l ! k ≤ mostTime) → Replays J W (run (search J) room W)
-  unfolding search run Small
-  run-replays room W L h =
+  work-replays : (room : ℕ) (W : Win) → Long (J .n) (J .p) W → ((k : ℕ) → W .l ! k ≤ mostTime) → Replays J W (work (search J) room W 0 early)
+  unfolding search Small
+  work-replays room W L h =
       work-ind (search J) (Applies J) (searches J) (λ room W j s o. Small J W → Replays J W o)
       (λ room W j s L q h i. replay-none J W i)
       (λ W j s i v t L a h. tt)
@@ -166,3 +184,8 @@ module _ (J : Jobs) (few : J .n ≤ 32 * setWords) where
       (λ k rs. replay-on J W (moved W i v (bound v t)) (entry J (move W i v t)) i (good-entry W i v t L (a .listed) (a .applies) h) (changed-entry J W i v t) (entry-job J (move W i v t)) e k rs)
       (g (small-after J W i v t (a .applies) h)))
       room W 0 early L (omega arith) h
+
+  pub run-judges : (room : ℕ) (W : Win) → ((k : ℕ) → W .l ! k ≤ mostTime) → Judges J W (run (search J) room W)
+  unfolding search
+  run-judges room W h =
+      run-by (search J) room W (Judges J W) (λ L. long-judges J W (work (search J) room W 0 early) L (work-replays room W L h)) (λ j s. short-judges J W j s)

@@ -1,10 +1,11 @@
--- What a replay comes to, in facts: which records are good on the windows reached, which one closes a window, which one is bad.
+-- What a replay comes to, in facts: which records are good on the windows reached, which one closes a window, which one is bad; and the window that
+-- is too short before any.
 use Prim.Native.Nat.{ℕ, zero, suc, _+_, _≤_, _<_}
 use mathlib.Core.Path.{_≡_}
 use mathlib.Core.List.{List}
 use mathlib.Core.Logic.{_⊎_}
 use Rattle.lists.specs.Lists.{_!_}
-use Rattle.narrowing.specs.Windows.{Win}
+use Rattle.narrowing.specs.Windows.{Win, Long, LowestShort}
 use Rattle.journal.specs.Journal.{recordAt}
 use Rattle.timetable.specs.Table.{Call, jobsOf}
 use Rattle.replay.specs.Codes.{Coded}
@@ -32,9 +33,10 @@ Held c i = reached c (suc i) .e ! jobOf (nth c i) + c .p ! jobOf (nth c i) ≤ r
 abbrev pub Closed : Call → ℕ → Type 0
 Closed c i = reached c (suc i) .l ! jobOf (nth c i) < reached c (suc i) .e ! jobOf (nth c i) + c .p ! jobOf (nth c i)
 
--- the first i records are good and close no window
-abbrev pub Open : Call → ℕ → Type 0
-Open c i = (h : ℕ) → h < i → Takes c h × Held c h
+-- no window is too short, and the first i records are good and close none
+pub record Open (c : Call) (i : ℕ) : Type 0 where
+  pub long : Long (jobsOf c .n) (c .p) (c .win)
+  pub held : (h : ℕ) → h < i → Takes c h × Held c h
 
 -- record h is the first that closes a window
 pub record Closing (c : Call) (h : ℕ) : Type 0 where
@@ -42,10 +44,14 @@ pub record Closing (c : Call) (h : ℕ) : Type 0 where
   pub takes : Takes c h
   pub closed : Closed c h
 
+-- job j's window is closed after i records: before any it is the lowest that is too short, else the last of them is the first to close one
+abbrev pub Shut : Call → ℕ → ℕ → Type 0
+Shut c zero j = LowestShort (jobsOf c .n) (c .p) (c .win) j
+Shut c (suc h) j = Closing c h × (j ≡ jobOf (nth c h))
+
 -- the verdict on so many records
 abbrev pub Fate : Call → ℕ → Verdict → Type 0
 Fate c count (holds U) = (U ≡ reached c count) × Open c count
-Fate c count (clashes j) = (h : ℕ) × (count ≡ suc h) × Closing c h × (j ≡ jobOf (nth c h))
+Fate c count (clashes j) = Shut c count j
 Fate c count (rejected i k) =
-    (i < count)
-    × (((h : ℕ) × (i ≡ suc h) × Closing c h × (k ≡ 20)) ⊎ (Open c i × Coded (jobsOf c) (reached c i) (nth c i) k × (k ≡ 0 → ⊥)))
+    (i < count) × (((j : ℕ) × Shut c i j × (k ≡ 20)) ⊎ (Open c i × Coded (jobsOf c) (reached c i) (nth c i) k × (k ≡ 0 → ⊥)))

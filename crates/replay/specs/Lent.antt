@@ -15,9 +15,9 @@ use Rattle.replay.specs.Facts.{jobOf, timeOf, isMember}
 abbrev pub jobsIn : ℕ → List ℕ → List ℕ → ℕ → Jobs
 jobsIn n p r cap = record { n = n; p = p; r = r; cap = cap }
 
--- windows and durations that passed the tests 1 to 4
+-- windows and durations that passed the tests 1 to 3
 abbrev pub Timed : Win → List ℕ → Type 0
-Timed W p = GoodList W p (threeLists W p) []
+Timed W p = GoodList (jobs W) (threeLists W p) []
 
 -- a record that codes 21 and 22 let through: its job and its members are among n jobs, its time is small
 pub record Placed (n : ℕ) (x : List ℕ) : Type 0 where

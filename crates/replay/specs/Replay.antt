@@ -1,10 +1,12 @@
--- The replay of a log from the submitted windows (document 01, 'Answer table', the checker): records in turn, to the first bad one.
+-- The replay of a log from the submitted windows (document 01, 'Answer table', the checker; document 02, Item 3): records in turn, to the first bad
+-- one. A window that is too short is closed before any record.
 use Prim.Native.Nat.{ℕ, zero, suc, _+_, _≤_, _<_}
 use mathlib.Core.Bool.{Bool, true, false}
 use mathlib.Core.List.{List, [], _∷_}
+use mathlib.Core.Option.{Option, none, some}
 use lib.Dec.{ltb}
 use Rattle.lists.specs.Lists.{_!_}
-use Rattle.narrowing.specs.Windows.{Win, moved, closes}
+use Rattle.narrowing.specs.Windows.{Win, moved, closes, lowestShort}
 use Rattle.answers.specs.Said.{Word, Said, said}
 use Rattle.journal.specs.Journal.{roomOf, recordAt, records}
 use Rattle.timetable.specs.Time.{Jobs, bound}
@@ -22,10 +24,10 @@ pub data Verdict : Type 0 where
   clashes : ℕ → Verdict
   rejected : ℕ → ℕ → Verdict
 
--- after a closing record there may be no other: code 20
+-- job j's window is closed, and i is the place of the next record: there may be none, code 20
 abbrev pub closing : ℕ → ℕ → List (List ℕ) → Verdict
 closing i j [] = clashes j
-closing i j (x ∷ xs) = rejected (suc i) 20
+closing i j (x ∷ xs) = rejected i 20
 
 abbrev pub orBad : ℕ → ℕ → Verdict → Verdict
 orBad i zero v = v
@@ -42,8 +44,17 @@ replay J W i [] = holds W
 replay J W i (x ∷ xs) =
     let U = changed W x in
     let rest = replay J U (suc i) xs in
-    let good = orClosed (closes (J .p) U (jobOf x)) (closing i (jobOf x) xs) rest in
+    let good = orClosed (closes (J .p) U (jobOf x)) (closing (suc i) (jobOf x) xs) rest in
     orBad i (code J W x) good
+
+abbrev pub orShort : Option ℕ → List (List ℕ) → Verdict → Verdict
+orShort none xs v = v
+orShort (some j) xs v = closing 0 j xs
+
+-- all records, from the submitted windows
+unfoldable pub verdictOn : Jobs → Win → List (List ℕ) → Verdict
+unfolding lowestShort replay
+verdictOn J W xs = let replayed = replay J W 0 xs in orShort (lowestShort (J .n) (J .p) W) xs replayed
 
 -- what the checker answers and leaves in the windows; the log is only read
 pub record Checked : Type 0 where
@@ -68,9 +79,9 @@ orSix true six v = six
 orSix false six v = v
 
 unfoldable pub rows : Call → ℕ → ℕ → Checked
-unfolding roomOf records replay
+unfolding roomOf records verdictOn
 rows c count zero =
-    let v = judged c count (replay (jobsOf c) (c .win) 0 (records (c .log) 0 count)) in
+    let v = judged c count (verdictOn (jobsOf c) (c .win) (records (c .log) 0 count)) in
     orSix (ltb (roomOf (c .log)) count) (refuses c 6) v
 rows c count (suc k) = refuses c (suc k)
 

@@ -1,4 +1,4 @@
-// The checker (document 01, 'Answer table'): it replays a log from the submitted windows, and rewrites them only where the log holds.
+// The checker (document 01, 'Answer table'; document 02, Item 3): it replays a log from the submitted windows, and rewrites them only where the log holds.
 use answers::CheckAnswer;
 
 mod facts;
@@ -47,7 +47,7 @@ fn replayed(
         let job = words[journal::JOB] as usize;
         tabling::shift(est, lct, job, words[journal::SIDE], words[journal::TIME]);
         i += 1;
-        if tabling::closed(est, lct, dur, job) {
+        if joblist::closed(est, lct, dur, job) {
             if i < count {
                 return Ended::Rejected(i, 20);
             }
@@ -87,9 +87,9 @@ fn on_copies(
     }
 }
 
-// What a log comes to, replayed from the submitted windows: 1 to 4 and 6 refuse the call, the first bad record is rejected with its place and
-// code, a last record that closes a window is a clash; else the log holds, and the windows become those that it reaches. Any number may be claimed:
-// it is compared, and never multiplied.
+// What a log comes to, replayed from the submitted windows. 1 to 3 and 6 refuse the call. Where a window is too short the call is a clash, and a
+// record that is claimed all the same is rejected. Else the first bad record is rejected with its place and code, a last record that closes a window is a
+// clash; otherwise the log holds, and the windows become those that it reaches. Any number may be claimed: it is compared, and never multiplied.
 pub fn check_log(
     est: &mut [u32],
     lct: &mut [u32],
@@ -107,6 +107,13 @@ pub fn check_log(
     }
     if journal::room(log) < count {
         return CheckAnswer::Refused(6);
+    }
+    let short = joblist::lowest_short(est, lct, dur);
+    if short < est.len() {
+        if 0 < count {
+            return CheckAnswer::Rejected(0, 20);
+        }
+        return CheckAnswer::Clash(count, short);
     }
     on_copies(est, lct, dur, dem, cap, log, count)
 }

@@ -1,4 +1,4 @@
--- The facts of a good list by name.
+-- The facts of a good list by name; and a window that is long enough.
 use Prim.Native.Nat.{ℕ, _+_, _≤_, _<_}
 use native.Mathlib.Omega.{arith}
 use mathlib.Core.Path.{_≡_}
@@ -8,8 +8,10 @@ use Rattle.lists.specs.Lists.{_!_}
 use Rattle.narrowing.specs.Windows.{Win, Long}
 use Rattle.joblist.specs.Limits.{jobs, mostTime, mostDemand, fourLists, supply}
 use Rattle.joblist.specs.GoodList.{GoodList}
+use Rattle.timetable.specs.Table.{Call}
+use Rattle.tabling.specs.Search.{Workable}
 
-module _ {W : Win} {p r : List ℕ} {cap : ℕ} (g : GoodList W p (fourLists W p r) (supply cap)) where
+module _ {W : Win} {p r : List ℕ} {cap : ℕ} (g : GoodList (jobs W) (fourLists W p r) (supply cap)) where
   pub ends-sized : length (W .l) ≡ jobs W
   ends-sized = g .sized .1 .0
 
@@ -34,6 +36,6 @@ module _ {W : Win} {p r : List ℕ} {cap : ℕ} (g : GoodList W p (fourLists W p
   pub capacity-most : cap ≤ mostDemand
   capacity-most = g .beside .0 0
 
-  pub window-long : (k : ℕ) → k < length p → W .e ! k + p ! k ≤ W .l ! k
-  unfolding Long
-  window-long k b = g .long k (omega (arith, durations-sized))
+pub window-long : {c : Call} → Workable c → (k : ℕ) → k < length (c .p) → c .win .e ! k + c .p ! k ≤ c .win .l ! k
+unfolding Long
+window-long w k b = w .long k (omega (arith, durations-sized (w .good)))

@@ -1,5 +1,5 @@
--- What the search and a move give to those who call them: an answer is the time at which a rule applies, that time is small, and windows that
--- moved and did not close are good again.
+-- What the search and a move give to those who call them: an answer is the time at which a rule applies, that time is small, windows moved
+-- within the limit are good, and those that a rule moved and did not close are long enough again.
 use Prim.Native.Nat.{ℕ, zero, suc, _+_, _≤_, _<_}
 use native.Mathlib.Omega.{arith}
 use mathlib.Core.Path.{_≡_, refl, subst}
@@ -19,6 +19,7 @@ use Rattle.timetable.specs.Table.{Call, call, jobsOf, Good}
 use Rattle.timetable.proofs.Law.{searches}
 use Rattle.tabling.specs.declared.Found.{Found}
 use Rattle.tabling.specs.Found.{found}
+use Rattle.tabling.specs.Search.{Workable}
 
 -- ---- answers
 
@@ -41,10 +42,10 @@ number-of-side (suc k) h = omega arith
 
 -- ---- the search
 
-module _ (c : Call) (g : Good c) (j : ℕ) (s : Side) (b : j < jobs (c .win)) where
+module _ (c : Call) (w : Workable c) (j : ℕ) (s : Side) (b : j < jobs (c .win)) where
   best-is : search.Found (Applies (jobsOf c) (c .win) j s) (bound s) (best (jobsOf c) (c .win) j s)
   unfolding search
-  best-is = searches (jobsOf c) .best-is (c .win) j s (g .long) b
+  best-is = searches (jobsOf c) .best-is (c .win) j s (w .long) b
 
   -- the time found is one at which the rule applies
   pub best-applies : (t : ℕ) → best (jobsOf c) (c .win) j s ≡ some t → Applies (jobsOf c) (c .win) j s (bound s t)
@@ -61,35 +62,38 @@ pub time-before : (J : Jobs) (W : Win) (j : ℕ) (s : Side) (t : ℕ) → W .e !
 time-before J W j early t h a = omega (arith, a .to)
 time-before J W j late t h a = a .to
 
-module _ (W : Win) (p r : List ℕ) (cap : ℕ) (log : List ℕ) (g : Good (call W p r cap log)) where
-  -- so it is small
-  pub time-small : (j : ℕ) (s : Side) (t : ℕ) → j < jobs W → Applies (jobsOf (call W p r cap log)) W j s (bound s t) → t < mostTime
-  unfolding Long
-  time-small j s t b a = omega (arith, time-before (jobsOf (call W p r cap log)) W j s t (g .long j b) a, g .within .1 .0 j)
-
-  bound-small : (s : Side) (t : ℕ) → t < mostTime → bound s t ≤ mostTime
-  bound-small early t h = h
-  bound-small late t h = omega arith
-
-  -- windows whose bound moved to a time within the limit, and that did not close, are good
-  pub moved-good : (j : ℕ) (s : Side) (d : ℕ) → d ≤ mostTime → closes p (moved W j s d) j ≡ false → (after : List ℕ)
-      → Good (call (moved W j s d) p r cap after)
-  moved-good j early d m h after = record {
+module _ (W : Win) (p r : List ℕ) (cap : ℕ) (log : List ℕ) where
+  -- windows whose bound moved to a time within the limit are good
+  pub moved-good : Good (call W p r cap log) → (j : ℕ) (s : Side) (d : ℕ) → d ≤ mostTime → (after : List ℕ) → Good (call (moved W j s d) p r cap after)
+  moved-good g j early d m after = record {
     sized = simp length-set (g .sized);
     few = simp length-set (g .few);
     within = (λ k. set-any (λ (x : ℕ). x ≤ mostTime) (W .e) j d k (λ q. m) (g .within .0 k), g .within .1);
     beside = g .beside;
-    long = simp length-set (long-after (jobs W) p W j early d (g .long) h);
   }
-  moved-good j late d m h after = record {
+  moved-good g j late d m after = record {
     sized = simp length-set (g .sized);
     few = g .few;
     within = (g .within .0, (λ k. set-any (λ (x : ℕ). x ≤ mostTime) (W .l) j d k (λ q. m) (g .within .1 .0 k), g .within .1 .1));
     beside = g .beside;
-    long = long-after (jobs W) p W j late d (g .long) h;
   }
 
-  -- after a rule's move that closed nothing the list is good again, whatever the log
-  pub good-after : (j : ℕ) (s : Side) (t : ℕ) → j < jobs W → Applies (jobsOf (call W p r cap log)) W j s (bound s t)
-      → closes p (moved W j s (bound s t)) j ≡ false → (after : List ℕ) → Good (call (moved W j s (bound s t)) p r cap after)
-  good-after j s t b a h after = moved-good j s (bound s t) (bound-small s t (time-small j s t b a)) h after
+  module _ (w : Workable (call W p r cap log)) where
+    -- a rule's time is small
+    pub time-small : (j : ℕ) (s : Side) (t : ℕ) → j < jobs W → Applies (jobsOf (call W p r cap log)) W j s (bound s t) → t < mostTime
+    unfolding Long
+    time-small j s t b a = omega (arith, time-before (jobsOf (call W p r cap log)) W j s t (w .long j b) a, w .good .within .1 .0 j)
+
+    bound-small : (s : Side) (t : ℕ) → t < mostTime → bound s t ≤ mostTime
+    bound-small early t h = h
+    bound-small late t h = omega arith
+
+    moved-long : (j : ℕ) (s : Side) (d : ℕ) → closes p (moved W j s d) j ≡ false → Long (jobs (moved W j s d)) p (moved W j s d)
+    moved-long j early d h = simp length-set (long-after (jobs W) p W j early d (w .long) h)
+    moved-long j late d h = long-after (jobs W) p W j late d (w .long) h
+
+    -- after a rule's move that closed nothing the work can go on, whatever the log
+    pub workable-after : (j : ℕ) (s : Side) (t : ℕ) → j < jobs W → Applies (jobsOf (call W p r cap log)) W j s (bound s t)
+        → closes p (moved W j s (bound s t)) j ≡ false → (after : List ℕ) → Workable (call (moved W j s (bound s t)) p r cap after)
+    workable-after j s t b a h after =
+        record { good = moved-good (w .good) j s (bound s t) (bound-small s t (time-small j s t b a)) after; long = moved-long j s (bound s t) h }

@@ -21,7 +21,7 @@ use Rattle.joblist.specs.Limits.{mostTime, mostDemand, mostJobs}
 use Rattle.timetable.specs.Time.{Jobs, sure, load, bound}
 use Rattle.timetable.specs.Search.{crowded, best}
 use Rattle.timetable.specs.Table.{jobsOf, Good}
-use Rattle.tabling.specs.Search.{asked, loadOf, crowdedFor, LooksAt}
+use Rattle.tabling.specs.Search.{asked, Workable, loadOf, crowdedFor, LooksAt}
 use Rattle.tabling.proofs.Good.{demand-most, end-most, window-long}
 
 -- ---- the load
@@ -85,7 +85,7 @@ unfolding crowded load
 crowded-is e l p r cap j t f g = rw (le-leb 1 (p ! j) (omega arith), le-leb 1 (r ! j) (omega arith))
 
 pub good-cap : (e l p r : List ℕ) (cap : ℕ) → Good (asked e l p r cap) → Good (asked e l p r 0)
-good-cap e l p r cap g = record { sized = g .sized; few = g .few; within = g .within; beside = (none-above, tt); long = g .long }
+good-cap e l p r cap g = record { sized = g .sized; few = g .few; within = g .within; beside = (none-above, tt) }
   where
     none-above : (k : ℕ) → (0 ∷ []) ! k ≤ mostDemand
     none-above zero = omega arith
@@ -131,17 +131,17 @@ looks-small : (s : Side) (e l p k t m : ℕ) → e + p ≤ l → l ≤ m → k <
 looks-small early e l p k t m h i b q = omega arith
 looks-small late e l p k t m h i b q = omega arith
 
-module _ {e l p r : List ℕ} {cap : ℕ} (g : Good (asked e l p r cap)) (j : ℕ) (d : j < length p) (s : Side) (k t : ℕ) (m : k < p ! j)
+module _ {e l p r : List ℕ} {cap : ℕ} (w : Workable (asked e l p r cap)) (j : ℕ) (d : j < length p) (s : Side) (k t : ℕ) (m : k < p ! j)
     (q : LooksAt s (e ! j) (l ! j) (p ! j) k t)
   where
     -- the time that a step looks at is within the limit
     pub time-within : t ≤ mostTime
-    time-within = looks-small s (e ! j) (l ! j) (p ! j) k t mostTime (window-long g j d) (end-most g j) m q
+    time-within = looks-small s (e ! j) (l ! j) (p ! j) k t mostTime (window-long w j d) (end-most (w .good) j) m q
 
     -- the step finds it where it is crowded, else looks on
     pub left-step : (b : Bool) → crowded (jobsOf (asked e l p r cap)) (win e l) j t ≡ b
         → left (jobsOf (asked e l p r cap)) (win e l) j s k ≡ orElse b t (left (jobsOf (asked e l p r cap)) (win e l) j s (k + 1))
-    left-step b c = left-less (jobsOf (asked e l p r cap)) (win e l) j s k t b (omega (arith, window-long g j d)) m q c
+    left-step b c = left-less (jobsOf (asked e l p r cap)) (win e l) j s k t b (omega (arith, window-long w j d)) m q c
 
 -- ---- by the number of a side
 
@@ -158,16 +158,3 @@ shift-early e l j s t h = rw (h, add-one)
 pub shift-late : (e l : List ℕ) (j s t : ℕ) → (s ≡ 0 → ⊥) → win e (set l j t) ≡ moved (win e l) j (sideOf s) (bound (sideOf s) t)
 shift-late e l j zero t h = absurd (h refl)
 shift-late e l j (suc s) t h = refl
-
--- ---- a window too short
-
--- l - e < p is l < e + p where e ≤ l
-pub closes-by : (e l p : ℕ) → e ≤ l → ltb (l - e) p ≡ ltb l (e + p)
-closes-by e l p h =
-    elim (decLt l (e + p)) [
-      | yes q ↦ rw (lt-ltb l (e + p) q) (omega (arith, lt-ltb))
-      | no q ↦ rw (le-ltb l (e + p) (omega arith)) (omega (arith, le-ltb))
-    ]
-
-pub closes-below : (e l p : ℕ) → l < e → ltb l (e + p) ≡ true
-closes-below e l p h = lt-ltb l (e + p) (omega arith)

@@ -4,14 +4,20 @@ use mathlib.Core.Path.{_≡_}
 use mathlib.Core.Bool.{Bool}
 use mathlib.Core.List.{List, []}
 use mathlib.Core.Option.{Option}
-use Rattle.narrowing.specs.Windows.{Side, early, late, win}
+use Rattle.narrowing.specs.Windows.{Side, early, late, win, Long}
+use Rattle.joblist.specs.Limits.{jobs}
 use Rattle.timetable.specs.Time.{load}
 use Rattle.timetable.specs.Search.{crowded, best}
-use Rattle.timetable.specs.Table.{Call, call, jobsOf}
+use Rattle.timetable.specs.Table.{Call, call, jobsOf, Good}
 
 -- the lists lent and the capacity; a log plays no part in a search
 abbrev pub asked : List ℕ → List ℕ → List ℕ → List ℕ → ℕ → Call
 asked est lct dur dem cap = call (win est lct) dur dem cap []
+
+-- a good list whose windows are all long enough, so that no latest start lies below its earliest
+pub record Workable (c : Call) : Type 0 where
+  pub good : Good c
+  pub long : Long (jobs (c .win)) (c .p) (c .win)
 
 -- the demands of the jobs other than j whose sure part holds t
 abbrev pub loadOf : Call → ℕ → ℕ → ℕ

@@ -1,17 +1,17 @@
-// Time-tabling in code (01, 'The two time-tabling rules'): the next time at which a rule moves a job's side, the move, and whether it closed the
-// window. How the time is found is known to `next_time` alone.
+// Time-tabling in code (01, 'The two time-tabling rules'): the next time at which a rule moves a job's side, and the move. How the time is found
+// is known to `next_time` alone.
 ghost use mathlib.Core.Path.{_≡_};
 ghost use mathlib.Core.Bool.{not};
 ghost use Prim.Native.Nat.{_+_, _<_, _≤_};
 ghost use lib.Dec.{leb, ltb, eqb};
 ghost use lib.ListN.{length};
 ghost use Rattle.lists.specs.Tests.{both, only};
-ghost use Rattle.narrowing.specs.Windows.{win, moved, closes, sideOf};
+ghost use Rattle.narrowing.specs.Windows.{win, moved, sideOf};
 ghost use Rattle.joblist.specs.Limits.{mostTime};
 ghost use Rattle.timetable.specs.Time.{bound};
 ghost use Rattle.timetable.specs.Table.{Good};
 ghost use Rattle.tabling.specs.Found.{found};
-ghost use Rattle.tabling.specs.Search.{asked, loadOf, crowdedFor, nextTime, LooksAt};
+ghost use Rattle.tabling.specs.Search.{asked, Workable, loadOf, crowdedFor, nextTime, LooksAt};
 
 // The time found, if any.
 pub enum Found {
@@ -95,7 +95,7 @@ pub fn next_time(
     job: usize,
     side: u32,
 ) -> Found
-    requires { ⌜ Good (asked (now est) (now lct) (now dur) (now dem) cap) × (job < length (now dur)) ⌝ }
+    requires { ⌜ Workable (asked (now est) (now lct) (now dur) (now dem) cap) × (job < length (now dur)) ⌝ }
     ensures { λ x. ⌜ x ≡ found (nextTime (asked (now (est .entry)) (now (lct .entry)) (now (dur .entry)) (now (dem .entry)) cap) job (sideOf side)) ⌝ }
 {
     let mut k: u32 = 0;
@@ -120,17 +120,4 @@ pub fn shift(est: &mut [u32], lct: &mut [u32], job: usize, side: u32, time: u32)
         return;
     }
     lct[job] = time;
-}
-
-// Whether the job's window is shorter than the job. It makes no sum, so no number is too large for it.
-pub fn closed(est: &[u32], lct: &[u32], dur: &[u32], job: usize) -> bool
-    requires { ⌜ (job < length (now est)) × (job < length (now lct)) × (job < length (now dur)) ⌝ }
-    ensures { λ r. ⌜ r ≡ closes (now (dur .entry)) (win (now (est .entry)) (now (lct .entry))) job ⌝ }
-{
-    let e = est[job];
-    let l = lct[job];
-    if l < e {
-        return true;
-    }
-    l - e < dur[job]
 }

@@ -61,15 +61,19 @@ module _ (c : Call) (a : After) (h : Narrows c a) (n : ℕ) (e : a .says ≡ sai
           ),
         );
         beside = g .beside;
-        long = λ k b. big .one .long k (omega (arith, le));
       }
+
+  -- and each is long enough
+  pub long-again : Long (jobsOf next .n) (c .p) (a .win)
+  unfolding Long
+  long-again k b = h .largest (settled-row c a h n e .0) .settled word .one .long k (omega (arith, h .reasons .settled n e .led .lengths .early))
 
   again : narrowed next ≡ leaves (said Word.settled (0 ∷ [])) (a .win) log
   unfolding narrowed tabled ended search logged flat
   again =
       let big = h .largest (settled-row c a h n e .0) .settled word in
       let q : Stable (jobsOf next .n) (Applies (jobsOf next)) (a .win) = subst (λ (I : Jobs). Stable (I .n) (Applies I) (a .win)) (sym same-jobs) (big .one .stable) in
-      rw (call-good next good-again, run-rests (search (jobsOf next)) (Applies (jobsOf next)) (searches (jobsOf next)) (roomOf log) (a .win) (good-again .long) q)
+      rw (call-good next good-again, run-rests (search (jobsOf next)) (Applies (jobsOf next)) (searches (jobsOf next)) (roomOf log) (a .win) long-again q)
 
   pub settled-again : (b : After) → Narrows next b → b ≡ leaves (said Word.settled (0 ∷ [])) (a .win) log
   settled-again b k = k .answered ∙ again

@@ -46,11 +46,11 @@ module _ (c : Call) (g : Good c) where
 
   means : runs.Good (J .n) (J .p) (Applies J) (c .win) ran
   unfolding search
-  means = run-good (search J) (Applies J) (searches J) (lawful J) (roomOf (c .log)) (c .win) (g .long)
+  means = run-good (search J) (Applies J) (searches J) (lawful J) (roomOf (c .log)) (c .win)
 
   room-not : Room c → ran ≡ short → ⊥
   unfolding needs search
-  room-not h e = omega (arith, short-below (search J) (Applies J) (searches J) (lawful J) (c .win) (g .long) (whole c g) (roomOf (c .log)) e)
+  room-not h e = omega (arith, short-below (search J) (Applies J) (searches J) (lawful J) (c .win) (whole c g) (roomOf (c .log)) e)
 
   pub slack-room : slack (c .p) (c .win) (J .n) < roomOf (c .log) → Room c
   unfolding needs search
@@ -58,8 +58,8 @@ module _ (c : Call) (g : Good c) where
       elim (decLe (needed (search J) (c .win)) (roomOf (c .log))) [
         | yes b ↦ b
         | no b ↦
-            absurd (never-short (search J) (Applies J) (searches J) (lawful J) (roomOf (c .log)) (c .win) (g .long) (whole c g) h
-            (below-short (search J) (Applies J) (searches J) (lawful J) (c .win) (g .long) (whole c g) (roomOf (c .log)) (omega arith)))
+            absurd (never-short (search J) (Applies J) (searches J) (lawful J) (roomOf (c .log)) (c .win) (whole c g) h
+            (below-short (search J) (Applies J) (searches J) (lawful J) (c .win) (whole c g) (roomOf (c .log)) (omega arith)))
       ]
 
   -- ---- where every job is fixed
@@ -68,12 +68,16 @@ module _ (c : Call) (g : Good c) where
     fixed-is : Fixed (J .n) (J .p) (c .win .e) (c .win)
     fixed-is = record { early = λ k b. refl; late = f }
 
+    fixed-long : Long (J .n) (J .p) (c .win)
+    unfolding Long
+    fixed-long k b = omega (arith, f k b)
+
     fixed-room : 1 ≤ roomOf (c .log) → Room c
     fixed-room h = slack-room (omega (arith, no-slack (c .p) (c .win) (J .n) (J .n) (omega arith) f))
 
     none-over : NoneIn c → Overdrawn J (c .win .e)
     unfolding search
-    none-over h = go (stable-or (search J) (Applies J) (searches J) (c .win) (g .long))
+    none-over h = go (stable-or (search J) (Applies J) (searches J) (c .win) fixed-long)
       where
         go : Stable (J .n) (Applies J) (c .win) ⊎ ((j : ℕ) × (s : Side) × (b : ℕ) × (j < J .n) × Applies J (c .win) j s b) → Overdrawn J (c .win .e)
         go (inl q) = absurd (fixed-clash (J .n) (J .p) (Applies J) (Fits J) (exact J) (c .win) f h (exact J .full (c .win .e) (c .win) fixed-is q))

@@ -7,7 +7,7 @@ use lib.ListN.{length}
 use Rattle.lists.specs.Lists.{_!_}
 use Rattle.narrowing.specs.Windows.{early}
 use Rattle.narrowing.specs.Rounds.{Chosen}
-use Rattle.narrowing.specs.Led.{Closes, Reached}
+use Rattle.narrowing.specs.Led.{Clashed, Reached}
 use Rattle.narrowing.specs.Run.{Out, settled, clash, short, run, movesOf}
 use Rattle.narrowing.proofs.Runs.{Bounded, run-chosen, run-bounded}
 use Rattle.narrowing.proofs.Again.{run-reached}
@@ -45,7 +45,7 @@ module _ (c : Call) where
             let z : length ms ≡ n = ap (λ (y : Said). y .numbers ! 0) e in
             record {
               logs = record { moves = ms; many = z; log = refl; chosen = x };
-              closes = subst (Closes (search J) (c .win) ms) (ap (λ (y : Said). y .numbers ! 1) e) r;
+              clashed = subst (Clashed (search J) (c .win) ms) (ap (λ (y : Said). y .numbers ! 1) e) r;
               most = omega (arith, b .0);
             };
       }
@@ -60,9 +60,9 @@ module _ (c : Call) where
   reasons-by zero e =
       let g = good-call c e in
       ended-reasons (run (search J) (roomOf (c .log)) (c .win))
-      (run-chosen (search J) (Applies J) (searches J) (roomOf (c .log)) (c .win) (g .long))
-      (run-bounded (search J) (Applies J) (searches J) (lawful J) (roomOf (c .log)) (c .win) (g .long) (whole c g))
-      (run-reached (search J) (Applies J) (searches J) (roomOf (c .log)) (c .win) (g .long))
+      (run-chosen (search J) (Applies J) (searches J) (roomOf (c .log)) (c .win))
+      (run-bounded (search J) (Applies J) (searches J) (lawful J) (roomOf (c .log)) (c .win) (whole c g))
+      (run-reached (search J) (Applies J) (searches J) (roomOf (c .log)) (c .win))
   reasons-by (suc k) e =
       record {
         settled = λ n e. absurd (apart _ _ _ _ (not-said Word.refused Word.settled (λ q. omega arith)) e);

@@ -1,4 +1,4 @@
--- Laws over narrowing's contract: the same jobs in another order get the same refusal 1 to 4; with room for both runs, the same window for each
+-- Laws over narrowing's contract: the same jobs in another order get the same refusal 1 to 3; with room for both runs, the same window for each
 -- job, or a clash again.
 use Prim.Native.Nat.{ℕ, zero, suc, _≤_, _<_}
 use native.Mathlib.Omega.{arith}
@@ -49,18 +49,18 @@ pub same-refusal : (π σ : ℕ → ℕ) (c d : Call) → Turn (jobs (c .win)) �
 unfolding refusalOf
 same-refusal π σ c d t s =
     rw (s .supply)
-    (refusal-turned-four (jobs (c .win)) π σ t (c .win) (d .win) (c .p) (d .p) refl (s .count) (s .windows) (s .ends) (s .lasts) (s .durations) (c .r) (d .r) (c .cap) (s .draws) (s .takes))
+    (refusal-turned-four π σ (c .win) (d .win) (c .p) (d .p) t (s .count) (s .windows) (s .ends) (s .lasts) (s .durations) (c .r) (d .r) (c .cap) (s .draws) (s .takes))
 
 module _ (π σ : ℕ → ℕ) (c d : Call) (t : Turn (jobs (c .win)) π σ) (s : SameCall π c d) (a b : After) (f : Narrows c a) (g : Narrows d b) where
-  -- the same refusal, 1 to 4
-  pub refused-there : (k : ℕ) → k ≤ 4 → a .says ≡ said Word.refused (k ∷ []) → b .says ≡ said Word.refused (k ∷ [])
+  -- the same refusal, 1 to 3
+  pub refused-there : (k : ℕ) → k ≤ 3 → a .says ≡ said Word.refused (k ∷ []) → b .says ≡ said Word.refused (k ∷ [])
   unfolding refusalOf
   refused-there k m e = go (refused-exactly c a f k .0 e)
     where
       go : RefusedRow c k → b .says ≡ said Word.refused (k ∷ [])
       go (inl (i, x)) =
           refused-exactly d b g k .1
-          (inl (i, refusal-exactly (d .win) (d .p) _ _ k .0 (same-refusal π σ c d t s ∙ refusal-exactly (c .win) (c .p) _ _ k .1 x)))
+          (inl (i, refusal-exactly (jobs (d .win)) _ _ k .0 (same-refusal π σ c d t s ∙ refusal-exactly (jobs (c .win)) _ _ k .1 x)))
       go (inr x) = absurd (omega (arith, x .0))
 
   pub good-there : Good c → Good d

@@ -14,7 +14,7 @@ use Rattle.narrowing.proofs.Room.{short-below, below-short, count-needed}
 use Rattle.answers.specs.declared.Answer.{Answer}
 use Rattle.answers.specs.Said.{Word, Said, said, says}
 use Rattle.answers.proofs.Same.{says-same, not-said}
-use Rattle.joblist.specs.Limits.{fourLists, supply}
+use Rattle.joblist.specs.Limits.{jobs, fourLists, supply}
 use Rattle.joblist.specs.GoodList.{Given}
 use Rattle.joblist.proofs.Refusals.{refusal-exactly, refusal-most}
 use Rattle.journal.specs.Journal.{roomOf, cleared}
@@ -40,10 +40,10 @@ results-same c r q e l log e′ l′ log′ f g =
       ap (λ (x : After). x .log) h,
     )
 
--- refusal k's row: one of the tests 1 to 4, or 5: the work needs more records than the log has room for
+-- refusal k's row: one of the tests 1 to 3, or 5: the work needs more records than the log has room for
 abbrev pub RefusedRow : Call → ℕ → Type 0
 RefusedRow c k =
-    ((1 ≤ k) × Given k (c .win) (c .p) (fourLists (c .win) (c .p) (c .r)) (supply (c .cap))) ⊎ ((k ≡ 5) × Good c × (roomOf (c .log) < needs c))
+    ((1 ≤ k) × Given k (jobs (c .win)) (fourLists (c .win) (c .p) (c .r)) (supply (c .cap))) ⊎ ((k ≡ 5) × Good c × (roomOf (c .log) < needs c))
 
 module _ (c : Call) where
   abbrev pub J : Jobs
@@ -81,15 +81,15 @@ module _ (c : Call) where
   module _ (g : Good c) where
     short-five : ran ≡ short → roomOf (c .log) < needs c
     unfolding needs search
-    short-five e = short-below (search J) (Applies J) (searches J) (lawful J) (c .win) (g .long) (whole c g) (roomOf (c .log)) e
+    short-five e = short-below (search J) (Applies J) (searches J) (lawful J) (c .win) (whole c g) (roomOf (c .log)) e
 
     five-short : roomOf (c .log) < needs c → ran ≡ short
     unfolding needs search
-    five-short b = below-short (search J) (Applies J) (searches J) (lawful J) (c .win) (g .long) (whole c g) (roomOf (c .log)) b
+    five-short b = below-short (search J) (Applies J) (searches J) (lawful J) (c .win) (whole c g) (roomOf (c .log)) b
 
     room-count : Room c → count ran ≡ needs c
     unfolding needs search
-    room-count b = count-needed (search J) (Applies J) (searches J) (lawful J) (c .win) (g .long) (whole c g) (roomOf (c .log)) b
+    room-count b = count-needed (search J) (Applies J) (searches J) (lawful J) (c .win) (whole c g) (roomOf (c .log)) b
 
     -- not short of room: there was room
     ended-room : (ran ≡ short → ⊥) → Room c
@@ -114,7 +114,7 @@ module _ (c : Call) where
         go : Case a → RefusedRow c k
         go (inl (i, d, q)) =
             let z : suc i ≡ k = ap num (says-of _ q _ e) in
-            inl (omega arith, refusal-exactly (c .win) (c .p) _ _ k .0 (d ∙ z))
+            inl (omega arith, refusal-exactly (jobs (c .win)) _ _ k .0 (d ∙ z))
         go (inr (g, q)) = by-run g ran refl (says-of _ q _ e)
 
     row-refused : (k : ℕ) → RefusedRow c k → a .says ≡ said Word.refused (k ∷ [])
@@ -123,10 +123,10 @@ module _ (c : Call) where
       where
         go : Case a → RefusedRow c k → a .says ≡ said Word.refused (k ∷ [])
         go (inl (i, d, q)) (inl (b, t)) =
-            let z : suc i ≡ k = sym d ∙ refusal-exactly (c .win) (c .p) _ _ k .1 t in
+            let z : suc i ≡ k = sym d ∙ refusal-exactly (jobs (c .win)) _ _ k .1 t in
             ap (λ (y : After). y .says) q ∙ ap (λ (m : ℕ). said Word.refused (m ∷ [])) z
         go (inl (i, d, q)) (inr (e, g, b)) = absurd (omega (arith, sym d ∙ call-good c g))
-        go (inr (g, q)) (inl (b, t)) = absurd (omega (arith, sym (call-good c g) ∙ refusal-exactly (c .win) (c .p) _ _ k .1 t))
+        go (inr (g, q)) (inl (b, t)) = absurd (omega (arith, sym (call-good c g) ∙ refusal-exactly (jobs (c .win)) _ _ k .1 t))
         go (inr (g, q)) (inr (e, f, b)) =
             ap (λ (y : After). y .says) q ∙ ap (λ (o : Out). ended c o .says) (five-short g b) ∙ ap (λ (m : ℕ). said Word.refused (m ∷ [])) (sym e)
 
@@ -227,17 +227,17 @@ module _ (c : Call) where
         go (inr (g, q)) = by-run ran q
 
     -- refusal 5 leaves zeros, every other refusal the log as before
-    pub refused-log : (k : ℕ) → a .says ≡ said Word.refused (k ∷ []) → ((k ≡ 5) × (a .log ≡ cleared (c .log))) ⊎ ((k ≤ 4) × (a .log ≡ c .log))
+    pub refused-log : (k : ℕ) → a .says ≡ said Word.refused (k ∷ []) → ((k ≡ 5) × (a .log ≡ cleared (c .log))) ⊎ ((k ≤ 3) × (a .log ≡ c .log))
     unfolding ended refusalOf
     refused-log k e = go (cased a h)
       where
-        by-run : (o : Out) → a ≡ ended c o → ended c o .says ≡ said Word.refused (k ∷ []) → ((k ≡ 5) × (a .log ≡ cleared (c .log))) ⊎ ((k ≤ 4) × (a .log ≡ c .log))
+        by-run : (o : Out) → a ≡ ended c o → ended c o .says ≡ said Word.refused (k ∷ []) → ((k ≡ 5) × (a .log ≡ cleared (c .log))) ⊎ ((k ≤ 3) × (a .log ≡ c .log))
         by-run (settled U ms) q z = absurd (settled-refused _ _ z)
         by-run (clash j ms) q z = absurd (clash-refused _ _ z)
         by-run short q z = inl (sym (ap num z), ap (λ (y : After). y .log) q)
 
-        go : Case a → ((k ≡ 5) × (a .log ≡ cleared (c .log))) ⊎ ((k ≤ 4) × (a .log ≡ c .log))
+        go : Case a → ((k ≡ 5) × (a .log ≡ cleared (c .log))) ⊎ ((k ≤ 3) × (a .log ≡ c .log))
         go (inl (i, d, q)) =
             let z : suc i ≡ k = ap num (says-of _ q _ e) in
-            inr (omega (arith, refusal-most (c .win) (c .p) (fourLists (c .win) (c .p) (c .r)) (supply (c .cap))), ap (λ (y : After). y .log) q)
+            inr (omega (arith, refusal-most (jobs (c .win)) (fourLists (c .win) (c .p) (c .r)) (supply (c .cap))), ap (λ (y : After). y .log) q)
         go (inr (g, q)) = by-run ran q (says-of _ q _ e)

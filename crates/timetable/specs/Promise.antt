@@ -51,7 +51,7 @@ pub record Kept (c : Call) (a : After) : Type 0 where
   -- where every job of a good list is fixed and the log can hold a record, clash exactly if the supply is overdrawn at some time
   pub fixed : Good c → AllFixed c → 1 ≤ roomOf (c .log) → (a .says .word ≡ Word.clash) ↔ Overdrawn (jobsOf c) (c .win .e)
 
--- demand 3, for a good list
+-- demand 3, for a good list; where a window is too short there are no stable windows that are long enough
 pub record Narrowest (c : Call) (a : After) : Type 0 where
   -- with room for the work the answer is settled or clash
   pub decided : Room c → (a .says .word ≡ Word.settled) ⊎ (a .says .word ≡ Word.clash)

@@ -1,4 +1,5 @@
--- What the log of an answer holds (document 01, 'Order of work' and 'Log records'): a record for each move, the closing one last in a clash.
+-- What the log of an answer holds (document 01, 'Order of work' and 'Log records'): a record for each move, the closing one last in a clash; and
+-- no record where a window is too short (document 02, Item 3).
 use Prim.Native.Nat.{ℕ, suc, _≤_}
 use mathlib.Core.Path.{_≡_}
 use mathlib.Core.List.{List, [], _∷_, map}
@@ -6,7 +7,7 @@ use lib.ListN.{length}
 use Rattle.narrowing.specs.Windows.{early, slack}
 use Rattle.narrowing.specs.Search.{Move}
 use Rattle.narrowing.specs.Rounds.{Chosen}
-use Rattle.narrowing.specs.Led.{Led, Closes}
+use Rattle.narrowing.specs.Led.{Led, Clashed}
 use Rattle.answers.specs.Said.{Word, said}
 use Rattle.journal.specs.Journal.{logged}
 use Rattle.timetable.specs.Time.{Applies}
@@ -26,10 +27,10 @@ pub record Settles (c : Call) (a : After) (n : ℕ) : Type 0 where
   pub led : Led (search (jobsOf c)) (c .win) (logs .moves) (a .win)
   pub most : n ≤ slack (c .p) (c .win) (jobsOf c .n)
 
--- clash: the last move is job j's and closes its window; there is at most one more
+-- clash: with no record, j is the lowest job whose window is too short; else the last move is job j's and closes its window. There is at most one more
 pub record Clashes (c : Call) (a : After) (n j : ℕ) : Type 0 where
   pub logs : Logged c a n
-  pub closes : Closes (search (jobsOf c)) (c .win) (logs .moves) j
+  pub clashed : Clashed (search (jobsOf c)) (c .win) (logs .moves) j
   pub most : n ≤ suc (slack (c .p) (c .win) (jobsOf c .n))
 
 pub record Reasons (c : Call) (a : After) : Type 0 where

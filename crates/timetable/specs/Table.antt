@@ -1,4 +1,4 @@
--- Document 01's answer table as one definition: what narrowing says, and what it leaves in every lent word.
+-- Document 01's answer table as one definition, with Item 3 of document 02: what narrowing says, and what it leaves in every lent word.
 use Prim.Native.Nat.{ℕ, zero, suc}
 use mathlib.Core.List.{List, [], _∷_, map}
 use lib.ListN.{length}
@@ -26,13 +26,13 @@ call W p r cap log = record { win = W; p = p; r = r; cap = cap; log = log }
 abbrev pub jobsOf : Call → Jobs
 jobsOf c = record { n = jobs (c .win); p = c .p; r = c .r; cap = c .cap }
 
--- it has a good list, in facts; and the number of its refusal by tests 1 to 4
+-- it has a good list, in facts; and the number of its refusal by tests 1 to 3
 abbrev pub Good : Call → Type 0
-Good c = GoodList (c .win) (c .p) (fourLists (c .win) (c .p) (c .r)) (supply (c .cap))
+Good c = GoodList (jobs (c .win)) (fourLists (c .win) (c .p) (c .r)) (supply (c .cap))
 
 unfoldable pub refusalOf : Call → ℕ
 unfolding refusal
-refusalOf c = refusal (c .win) (c .p) (fourLists (c .win) (c .p) (c .r)) (supply (c .cap))
+refusalOf c = refusal (jobs (c .win)) (fourLists (c .win) (c .p) (c .r)) (supply (c .cap))
 
 -- what a call leaves: its answer, the windows and the log
 pub record After : Type 0 where
@@ -43,14 +43,14 @@ pub record After : Type 0 where
 abbrev pub leaves : Said → Win → List ℕ → After
 leaves a W log = record { says = a; win = W; log = log }
 
--- the rows of a run's end
+-- the rows of a run's end; a clash before any move leaves the log as before
 unfoldable pub ended : Call → Out → After
 unfolding logged cleared entry
 ended c (settled U ms) = leaves (said Word.settled (length ms ∷ [])) U (logged (map (entry (jobsOf c)) ms) (c .log))
 ended c (clash j ms) = leaves (said Word.clash (length ms ∷ j ∷ [])) (c .win) (logged (map (entry (jobsOf c)) ms) (c .log))
 ended c short = leaves (said Word.refused (5 ∷ [])) (c .win) (cleared (c .log))
 
--- the rows of refusals 1 to 4, else the run's
+-- the rows of refusals 1 to 3, else the run's
 unfoldable pub tabled : Call → ℕ → After
 unfolding ended run search roomOf
 tabled c zero = ended c (run (search (jobsOf c)) (roomOf (c .log)) (c .win))

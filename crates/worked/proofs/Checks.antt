@@ -22,42 +22,51 @@ checks-right = (
             (
               refl,  -- 6
               (
-                refl,  -- 4
+                refl,  -- 6
                 (
-                  refl,  -- 20
+                  refl,  -- 41
                   (
-                    refl,  -- 21
+                    refl,  -- 20
                     (
-                      refl,  -- 21
+                      refl,  -- 20
                       (
-                        refl,  -- 21
+                        refl,  -- 20
                         (
-                          refl,  -- 22
+                          refl,  -- 21
                           (
-                            refl,  -- 22
+                            refl,  -- 21
                             (
-                              refl,  -- 22
+                              refl,  -- 21
                               (
-                                refl,  -- 23
+                                refl,  -- 22
                                 (
-                                  refl,  -- 24
+                                  refl,  -- 22
                                   (
-                                    refl,  -- 25
+                                    refl,  -- 22
                                     (
-                                      refl,  -- 26
+                                      refl,  -- 23
                                       (
-                                        refl,  -- 20
+                                        refl,  -- 24
                                         (
-                                          refl,  -- 21
+                                          refl,  -- 25
                                           (
-                                            refl,  -- 22
+                                            refl,  -- 26
                                             (
-                                              refl,  -- 23
+                                              refl,  -- 20
                                               (
-                                                refl,  -- 24
+                                                refl,  -- 21
                                                 (
-                                                  refl,  -- 25
-                                                  tt,
+                                                  refl,  -- 22
+                                                  (
+                                                    refl,  -- 23
+                                                    (
+                                                      refl,  -- 24
+                                                      (
+                                                        refl,  -- 25
+                                                        tt,
+                                                      ),
+                                                    ),
+                                                  ),
                                                 ),
                                               ),
                                             ),

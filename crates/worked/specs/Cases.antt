@@ -1,5 +1,5 @@
--- Document 01's 'Runs on the record', cases 1 to 12, with capacity 0 and outside answers (numbers from 20: 000's Example 1.27, 004's 4.1 and 4.2, a tie
--- of latest ends). Of narrowing: capacity, jobs as e, l, p, r, the log's room in records; then the answer, each job's e and l, and the words of the
+-- Document 01's 'Runs on the record', cases 1 to 12, case 9 as Item 3 of document 02 has it; with capacity 0 and outside answers (numbers from 20:
+-- 000's Example 1.27, 004's 4.1 and 4.2, a tie of latest ends), and windows that are too short (from 30). Of narrowing: capacity, jobs as e, l, p, r, the log's room in records; then the answer, each job's e and l, and the words of the
 -- counted records. Every word of a log is 9 before. Of the overload check: the jobs, and the pair or none.
 use Prim.Native.Nat.{ℕ, _*_}
 use mathlib.Core.List.{List, [], _∷_, _++_}
@@ -58,7 +58,7 @@ runs =
     settles 7 1 (job 0 4 2 1 ∷ job 0 4 2 1 ∷ []) 8 0 (span 0 4 ∷ span 0 4 ∷ []) [] ∷
     settles 8 1 (job 1 1 0 5 ∷ []) 8 0 (span 1 1 ∷ []) [] ∷
     settles 9 1 (job 3 7 4 1 ∷ []) 8 0 (span 3 7 ∷ []) [] ∷
-    refuses 9 1 (job 3 6 4 1 ∷ []) 8 4 (replicate (8 * recordWords) 9) ∷
+    clashes 9 1 (job 3 6 4 1 ∷ []) 8 0 0 [] ∷
     overloaded 10 (job 0 4 2 1 ∷ job 0 4 2 1 ∷ job 0 4 2 1 ∷ []) 0 4 ∷
     fine 10 (job 0 4 2 1 ∷ job 0 4 2 1 ∷ []) ∷
     overloaded 11 (job 0 10 1 1 ∷ job 2 5 2 1 ∷ job 2 5 2 1 ∷ []) 2 5 ∷
@@ -72,4 +72,15 @@ runs =
     clashes 24 2 (job 3 7 2 1 ∷ job 2 7 3 2 ∷ job 5 7 2 2 ∷ []) 3 2 0 (line 0 0 4 1 2 ++ line 0 0 6 1 4) ∷
     clashes 26 1 (job 10 12 2 1 ∷ job 0 2 2 1 ∷ job 0 2 2 1 ∷ []) 2 1 1 (line 1 0 1 1 4) ∷
     overloaded 25 (job 1 2 1 1 ∷ job 0 2 2 1 ∷ job 1 2 1 1 ∷ []) 1 2 ∷
+    -- the lowest of two, and no record needed; a duration of 0; before any record, where a run would need more than there is room for
+    clashes 30 1 (job 3 7 4 1 ∷ job 3 6 4 1 ∷ job 0 1 2 1 ∷ []) 0 0 1 [] ∷
+    clashes 31 1 (job 5 3 0 0 ∷ []) 1 0 0 [] ∷
+    clashes 32 1 (job 0 3 1 2 ∷ job 3 6 4 1 ∷ []) 2 0 1 [] ∷
+    -- refusal 3 comes first
+    refuses 33 1 (job 3 6 4 1 ∷ job 0 1000001 1 1 ∷ []) 1 3 (replicate recordWords 9) ∷
+    -- one job by itself, a above b; a larger set that ends earlier, and later
+    overloaded 34 (job 3 6 4 1 ∷ []) 3 6 ∷
+    overloaded 35 (job 6 9 2 1 ∷ job 5 3 0 1 ∷ []) 5 3 ∷
+    overloaded 36 (job 3 6 4 1 ∷ job 0 4 2 1 ∷ job 0 4 2 1 ∷ job 0 4 2 1 ∷ []) 0 4 ∷
+    overloaded 37 (job 7 2 1 1 ∷ job 0 4 2 1 ∷ job 0 4 2 1 ∷ job 0 4 2 1 ∷ []) 7 2 ∷
     []

@@ -1,4 +1,4 @@
--- Logs by hand for the checker: what holds, what clashes, refusal 6 and each code 20 to 26 (document 01, 'Answer table'). A row's number is 40 for
+-- Logs by hand for the checker: what holds, what clashes, refusal 6 and each code 20 to 26 (document 01, 'Answer table'; document 02, Item 3). A row's number is 40 for
 -- holds, 41 for clash, the refusal's or the code else; then the capacity, the jobs, the claimed records and the log.
 use Prim.Native.Nat.{ℕ}
 use mathlib.Core.List.{List, [], _∷_, _++_}
@@ -42,7 +42,12 @@ checks =
     clashing 1 four 1 (line 0 1 0 1 2) 0 ∷
     refusing 6 5 two 2 (line 0 0 4 2 6 ++ (7 ∷ 7 ∷ [])) ∷
     refusing 6 5 two 2 (line 3 0 4 2 6) ∷
-    refusing 4 5 (job 2 4 3 2 ∷ []) 1 [] ∷
+    -- a window that is too short: 6 comes before; a clash where no record is claimed, whatever the log holds; else the first is rejected
+    refusing 6 5 (job 2 4 3 2 ∷ []) 1 [] ∷
+    clashing 5 (job 2 5 3 2 ∷ job 2 4 3 2 ∷ job 9 8 0 0 ∷ []) 0 (line 0 0 4 2 6) 1 ∷
+    rejecting 20 0 5 (job 2 4 3 2 ∷ []) 1 (line 0 0 2 0 0) ∷
+    -- its window holds the moved job and its members; another's does not
+    rejecting 20 0 5 (job 2 10 3 2 ∷ job 2 7 3 2 ∷ job 2 8 4 2 ∷ job 9 8 0 0 ∷ []) 1 (line 0 0 4 2 6) ∷
     rejecting 20 1 1 four 2 (line 0 0 1 1 2 ++ line 0 0 1 1 2) ∷
     rejecting 21 0 5 two 1 (line 3 0 4 2 6) ∷
     rejecting 21 0 5 two 1 (line 0 2 4 2 6) ∷

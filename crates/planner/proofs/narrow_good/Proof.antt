@@ -56,7 +56,7 @@ returns c =
     let s = start .args in
     let C = call (win (s .est .now) (s .lct .now)) (s .dur .now) (s .dem .now) (s .cap) (s .log .now) in
     let p = start .pre in
-    let w = worked C (p .0) _ _ _ _ _ (p .1) (p .2) (rw (told .end .given .1) at (at-work .work .ensures)) in
+    let w = worked C (p .0 .good) _ _ _ _ _ (p .1) (p .2) (rw (told .end .given .1) at (at-work .work .ensures)) in
     let e : at-copy .copy .last .1 .0 ≡ at-work .work .last .0 = at-copy .copy .ensures ∙ copied-over (at-work .work .last .0) (s .est .now) (at-work .work .kept .0 ∙ ap length (p .1)) in
     let l : at-copy2 .copy2 .last .1 .0 ≡ at-work .work .last .1 .0 = at-copy2 .copy2 .ensures ∙ copied-over (at-work .work .last .1 .0) (s .lct .now) (at-work .work .kept .1 .0 ∙ ap length (p .2)) in
     rw (e, l) w
@@ -77,7 +77,7 @@ returns-2 c =
     let s = start .args in
     let C = call (win (s .est .now) (s .lct .now)) (s .dur .now) (s .dem .now) (s .cap) (s .log .now) in
     let p = start .pre in
-    worked C (p .0) _ _ _ _ _ (p .1) (p .2) (rw (c .before .end2 .given .1) at (at-work .work .ensures))
+    worked C (p .0 .good) _ _ _ _ _ (p .1) (p .2) (rw (c .before .end2 .given .1) at (at-work .work .ensures))
 
 same-length-9 : tie.Need-same-length-9
 same-length-9 c = search needs
@@ -97,7 +97,7 @@ returns-3 c =
     let s = start .args in
     let C = call (win (s .est .now) (s .lct .now)) (s .dur .now) (s .dem .now) (s .cap) (s .log .now) in
     let p = start .pre in
-    let w = worked C (p .0) _ _ _ _ _ (p .1) (p .2) (rw (told .end3 .given .1) at (at-work .work .ensures)) in
+    let w = worked C (p .0 .good) _ _ _ _ _ (p .1) (p .2) (rw (told .end3 .given .1) at (at-work .work .ensures)) in
     rw (at-clear .clear .ensures ∙ cleared-same (at-work .work .last .1 .1 .1 .1 .1 .0) (s .log .now) (at-work .work .kept .1 .1 .1 .1 .1 .0)) w
 
 pub narrow-good-spec : {M : Type 1} → statement M

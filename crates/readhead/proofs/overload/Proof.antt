@@ -13,10 +13,10 @@ returns : tie.Need-returns
 returns c = refused-meets _ _ _ (c .before .refusal-of-three .ensures) (c .if1 .taken)
 
 find-requires : tie.Need-find-requires
-find-requires c κs = good _ _ _ _ (sym (c .before .refusal-of-three .ensures) ∙ c .if1 .left)
+find-requires c κs = good _ _ _ (sym (c .before .refusal-of-three .ensures) ∙ c .if1 .left)
 
 returns-2 : tie.Need-returns-2
-returns-2 c = rw (c .find .ensures) (found-meets _ _ (good _ _ _ _ (sym (c .before .before .refusal-of-three .ensures) ∙ c .before .if1 .left)))
+returns-2 c = rw (c .find .ensures) (found-meets _ _ (good _ _ _ (sym (c .before .before .refusal-of-three .ensures) ∙ c .before .if1 .left)))
 
 pub overload-spec : {M : Type 1} → statement M
 overload-spec = tie.close (tie.spec refusal-of-three-requires returns find-requires returns-2)

@@ -35,14 +35,14 @@ mul-tick : tie.Need-mul-tick Inv-loop μ-loop
 mul-tick c = search needs
 
 shared-slice-read-tick : tie.Need-shared-slice-read-tick Inv-loop μ-loop
-shared-slice-read-tick c = omega (arith, durations-sized (c .before .before .before .before .before .before .before .before .pre .0))
+shared-slice-read-tick c = omega (arith, durations-sized (c .before .before .before .before .before .before .before .before .pre .0 .good))
 
 mul-tick-2 : tie.Need-mul-tick-2 Inv-loop μ-loop
 mul-tick-2 c = search needs
 
 shared-slice-read-tick-2 : tie.Need-shared-slice-read-tick-2 Inv-loop μ-loop
 shared-slice-read-tick-2 c =
-    let g = c .before .before .before .before .before .before .before .before .before .pre .0 in
+    let g = c .before .before .before .before .before .before .before .before .before .pre .0 .good in
     omega (arith, durations-sized g, ends-sized g)
 
 mul-tick-3 : tie.Need-mul-tick-3 Inv-loop μ-loop
@@ -54,13 +54,13 @@ shared-slice-read-tick-3 c = search needs
 tick-requires : tie.Need-tick-requires Inv-loop μ-loop
 tick-requires c κs =
     let s = c .before .before .before .before .before .before .before .before .before .before in
-    (window-long (s .pre .0) (s .args .job) (s .pre .1), end-most (s .pre .0) (s .args .job), c .before .before .before .if1 .taken)
+    (window-long (s .pre .0) (s .args .job) (s .pre .1), end-most (s .pre .0 .good) (s .args .job), c .before .before .before .if1 .taken)
 
 is-crowded-requires : tie.Need-is-crowded-requires Inv-loop μ-loop
 is-crowded-requires c κs =
     let i = c .before .before .before .before in
     let s = i .before .before .before .before .before .before .before in
-    (s .pre .0, s .pre .1, time-within (s .pre .0) _ (s .pre .1) (sideOf (s .args .side)) _ _ (i .if1 .taken) (c .tick .ensures))
+    (s .pre .0 .good, s .pre .1, time-within (s .pre .0) _ (s .pre .1) (sideOf (s .args .side)) _ _ (i .if1 .taken) (c .tick .ensures))
 
 returns : tie.Need-returns Inv-loop μ-loop
 returns c =
@@ -74,7 +74,7 @@ returns c =
 add-k : tie.Need-add-k Inv-loop μ-loop
 add-k c =
     let s = c .before .before .before .before .before .before .before .before .before .before .before .before .before in
-    omega (arith, duration-most (s .pre .0) (s .args .job))
+    omega (arith, duration-most (s .pre .0 .good) (s .args .job))
 
 loop-less : tie.Need-loop-less Inv-loop μ-loop
 loop-less c = search needs

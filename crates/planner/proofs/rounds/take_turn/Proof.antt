@@ -44,7 +44,7 @@ note-requires c κs =
     let a = start .args in
     let s = start .pre in
     let t = turn-time _ _ _ _ _ (a .log .now) (a .at) _ _ (at-next-time .next-time .ensures) (hit .found .given .1) (s .0) (s .1) in
-    (good-cap _ _ _ _ _ (s .0), s .1, s .2, t)
+    (good-cap _ _ _ _ _ (s .0 .good), s .1, s .2, t)
 
 shift-requires : tie.Need-shift-requires
 shift-requires c κs =
@@ -54,7 +54,7 @@ shift-requires c κs =
     let a = start .args in
     let s = start .pre in
     let t = turn-time _ _ _ _ _ (a .log .now) (a .at) _ _ (at-next-time .next-time .ensures) (hit .found .given .1) (s .0) (s .1) in
-    (s .1, omega (arith, s .0 .sized .1 .0, s .1), t)
+    (s .1, omega (arith, s .0 .good .sized .1 .0, s .1), t)
 
 closed-requires : tie.Need-closed-requires
 closed-requires c κs =
@@ -62,7 +62,7 @@ closed-requires c κs =
     let start = at-shift .before .before .before .before .before .before .before .before .before .before .before .before .before .before .before .before .before .before .before .before .before .before .before in
     let s = start .pre in
     let k = at-shift .shift .kept in
-    (omega (arith, s .1, k), omega (arith, s .1, s .0 .sized .1 .0, k), omega (arith, s .1, s .0 .sized .1 .1 .0))
+    (omega (arith, s .1, k), omega (arith, s .1, s .0 .good .sized .1 .0, k), omega (arith, s .1, s .0 .good .sized .1 .1 .0))
 
 same-length-4 : tie.Need-same-length-4
 same-length-4 c = search needs

@@ -27,7 +27,7 @@ loop-holds c = (refl, reached-start _ (c .before .before .before .before .before
 take-turn-requires : tie.Need-take-turn-requires Inv-loop μ-loop
 take-turn-requires c κs =
     let q = c .before .before .before .before .before .loop in
-    (q .inv .1 .good, omega (arith, q .inv .1 .size), q .inv .1 .going .one-side)
+    (q .inv .1 .workable, omega (arith, q .inv .1 .size), q .inv .1 .going .one-side)
 
 enum-told : tie.Need-enum-told Inv-loop μ-loop
 enum-told c = search needs
