@@ -1,5 +1,5 @@
 //! The answers of all calls, and the word and numbers each is written with
-//! (01, "Answer table" and "Runs on the record"; 02, Item 1).
+//! (01, "Answer table" and "Runs on the record"; 02, Items 1 and 3).
 
 use crate::text::Line;
 
@@ -7,7 +7,8 @@ use crate::text::Line;
 pub enum Answer {
     /// The number of records.
     Settled(usize),
-    /// The number of records, and the job whose window one closed.
+    /// The number of records, and the job whose window is too short: the last
+    /// record closed it, or it was submitted so and there are none.
     Clash(usize, usize),
     /// The number of the refusal.
     Refused(u32),

@@ -1,5 +1,5 @@
 //! The runs on the record, in the text's order, a line each (01, "Runs on the
-//! record").
+//! record"; 02, Item 3).
 
 use crate::answers::Answer;
 use crate::joblist::{lists, Times};

@@ -1,5 +1,6 @@
-//! Job lists and their limits, and refusals 1 to 4, tested in the order of
-//! their numbers (01, "Job lists" and "Answer table").
+//! Job lists and their limits, refusals 1 to 3, tested in the order of their
+//! numbers, and windows that are too short (01, "Job lists" and "Answer
+//! table"; 02, Item 3).
 
 pub const MOST_JOBS: usize = 256;
 /// The limit of times and durations.
@@ -100,9 +101,10 @@ pub fn good_jobs(times: &Times, supply: &Supply) -> Result<Vec<Job>, u32> {
         p: i64::from(times.dur[k]),
         r: i64::from(supply.dem[k]),
     };
-    let jobs: Vec<Job> = (0..n).map(job).collect();
-    if jobs.iter().any(Job::is_too_short) {
-        return Err(4);
-    }
-    Ok(jobs)
+    Ok((0..n).map(job).collect())
+}
+
+/// The lowest job whose window is too short, if there is one.
+pub fn lowest_too_short(jobs: &[Job]) -> Option<usize> {
+    jobs.iter().position(Job::is_too_short)
 }

@@ -1,5 +1,6 @@
 //! The overload check for a resource that serves one job at a time: all sets
-//! where they are few, and the pair by its definition (01, "One job at a time").
+//! where they are few, and the pair by its definition (01, "One job at a
+//! time"; 02, Item 3).
 
 use crate::answers::Answer;
 use crate::joblist::{good_jobs, Job, Supply, Times};
@@ -26,7 +27,8 @@ pub fn some_set_is_overloaded(jobs: &[Job]) -> bool {
     })
 }
 
-/// There are jobs with e ≥ a and l ≤ b, and they last longer than b − a.
+/// There are jobs with e ≥ a and l ≤ b, and they last longer than b − a, which
+/// lies below zero where a exceeds b.
 fn lasts_longer(jobs: &[Job], a: i64, b: i64) -> bool {
     let mut found = false;
     let mut total = 0;
@@ -39,8 +41,8 @@ fn lasts_longer(jobs: &[Job], a: i64, b: i64) -> bool {
     found && total > b - a
 }
 
-/// The least latest end b, and for it the greatest earliest start a, between
-/// which the jobs last too long.
+/// The least latest end b, and for it the greatest earliest start a, for which
+/// the jobs last too long.
 pub fn pair(jobs: &[Job]) -> Option<(i64, i64)> {
     let mut starts: Vec<i64> = jobs.iter().map(|job| job.e).collect();
     let mut ends: Vec<i64> = jobs.iter().map(|job| job.l).collect();

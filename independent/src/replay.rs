@@ -1,13 +1,14 @@
 //! The checker: replays a log from the submitted windows, record by record,
 //! with refusal 6 and the codes 20 to 26 in their order (01, "Log records"
-//! for what a record says, "Answer table" for the codes).
+//! for what a record says, "Answer table" for the codes; 02, Item 3).
 
 use crate::answers::Answer;
-use crate::joblist::{good_jobs, Job, Supply, Times, MOST_TIME};
+use crate::joblist::{good_jobs, lowest_too_short, Job, Supply, Times, MOST_TIME};
 use crate::record::{room, shown, Record};
 use crate::timetable::Side;
 
-/// The windows reached so far, and the job whose window a record closed.
+/// The windows reached so far, and the job whose window is closed: one that is
+/// too short as submitted, so that no record may follow, or a record's.
 #[derive(Clone)]
 pub struct Replay {
     pub jobs: Vec<Job>,
@@ -52,9 +53,9 @@ fn tightens(job: &Job, side: Side, t: i64) -> bool {
 impl Replay {
     pub fn new(jobs: Vec<Job>, supply: &Supply) -> Replay {
         Replay {
+            closed: lowest_too_short(&jobs),
             jobs,
             cap: i64::from(supply.cap),
-            closed: None,
         }
     }
 

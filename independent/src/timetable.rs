@@ -1,9 +1,9 @@
 //! Narrowing, tick by tick: sure parts, crowded times, the two time-tabling
 //! rules, the order of work and the writer's records (01, "Job lists", "The
-//! two time-tabling rules", "Log records", "Answer table").
+//! two time-tabling rules", "Log records", "Answer table"; 02, Item 3).
 
 use crate::answers::Answer;
-use crate::joblist::{good_jobs, Job, Supply, Times};
+use crate::joblist::{good_jobs, lowest_too_short, Job, Supply, Times};
 use crate::record::{room, Members, Record, RECORD_WORDS};
 
 #[derive(Clone, Copy, Debug, PartialEq, Eq)]
@@ -131,6 +131,9 @@ pub fn narrow(times: &mut Times, supply: &Supply, log: &mut [u32]) -> Answer {
         Ok(jobs) => jobs,
         Err(number) => return Answer::Refused(number),
     };
+    if let Some(j) = lowest_too_short(&jobs) {
+        return Answer::Clash(0, j);
+    }
     let mut work = Work {
         jobs,
         cap: i64::from(supply.cap),

@@ -1,8 +1,8 @@
 //! Calls that check: the writer's own logs, foreign logs that hold or clash,
 //! and either of them with records spoiled for each of the codes.
 
-use crate::calls::faults;
 use crate::calls::narrowing::{busy_lists, ragged, words};
+use crate::calls::{faults, short};
 use crate::joblist::{good_jobs, Supply, Times, MOST_TIME};
 use crate::lines::Call;
 use crate::random::Random;
@@ -144,6 +144,15 @@ fn claimed(random: &mut Random, records: usize, log: &[u32]) -> u64 {
     }
 }
 
+/// The count claimed for a list that clashes without a record: often none.
+fn claimed_of_short(random: &mut Random, records: usize, log: &[u32]) -> u64 {
+    match random.below(8) {
+        0..=2 => 0,
+        3 => room(log) as u64 + 1,
+        _ => claimed(random, records, log),
+    }
+}
+
 pub fn call(random: &mut Random) -> Call {
     let (mut times, mut supply, mut records) = busy_lists(random);
     if random.one_in(3) {
@@ -155,8 +164,12 @@ pub fn call(random: &mut Random) -> Call {
     let mut log: Vec<u32> = records.iter().flat_map(Record::words).collect();
     let beyond = random.pick(&[0, 0, 1, 2]) * RECORD_WORDS + ragged(random);
     log.extend(words(random, beyond));
-    let count = claimed(random, records.len(), &log);
-    if random.one_in(16) {
+    let mut count = claimed(random, records.len(), &log);
+    if random.one_in(10) {
+        short::put(random, &mut times);
+        count = claimed_of_short(random, records.len(), &log);
+    }
+    if random.one_in(12) {
         faults::spoil(random, &mut times, &mut supply);
     }
     Call::Check(times, supply, count, log)

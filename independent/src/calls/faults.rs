@@ -1,5 +1,5 @@
-//! Faults put into good lists, for refusals 1 to 4 and for the order in which
-//! they are tested.
+//! Faults put into lists, for refusals 1 to 3 and for the order in which they
+//! are tested.
 
 use crate::joblist::{Supply, Times, MOST_DEMAND, MOST_JOBS, MOST_TIME};
 use crate::random::Random;
@@ -52,28 +52,11 @@ fn too_great(random: &mut Random, times: &mut Times, supply: &mut Supply) {
     }
 }
 
-fn too_short(random: &mut Random, times: &mut Times) {
-    let jobs = times.est.len().min(times.lct.len()).min(times.dur.len());
-    if jobs == 0 {
-        return;
-    }
-    let k = random.below(jobs);
-    let (est, lct, dur) = (times.est[k], times.lct[k], times.dur[k]);
-    let more = random.pick(&[1, 1, 2, 1_000]);
-    let after = |time: u32| time.saturating_add(more).min(MOST_TIME);
-    match random.below(3) {
-        0 => times.dur[k] = after(lct.saturating_sub(est)),
-        1 => times.est[k] = after(lct.saturating_sub(dur)),
-        _ => times.lct[k] = est.saturating_add(dur).saturating_sub(more),
-    }
-}
-
 fn one(random: &mut Random, times: &mut Times, supply: &mut Supply) {
-    match random.below(20) {
-        0..=5 => uneven(random, times, supply),
-        6 => too_many(random, times, supply),
-        7..=13 => too_great(random, times, supply),
-        _ => too_short(random, times),
+    match random.below(14) {
+        0..=4 => uneven(random, times, supply),
+        5..=6 => too_many(random, times, supply),
+        _ => too_great(random, times, supply),
     }
 }
 

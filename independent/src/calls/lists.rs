@@ -1,5 +1,5 @@
-//! Good job lists of every size: crowded and empty ones, short ones of long
-//! jobs, times and demands up to their limits.
+//! Good job lists of every size whose windows hold their jobs: crowded and
+//! empty ones, few long jobs, times and demands up to their limits.
 
 use crate::calls::shapes::{self, Shape};
 use crate::joblist::{Supply, Times, MOST_DEMAND, MOST_TIME};

@@ -8,6 +8,7 @@ mod narrowing;
 pub mod odd;
 mod others;
 mod shapes;
+mod short;
 
 use crate::lines::Call;
 use crate::random::Random;

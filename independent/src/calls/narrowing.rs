@@ -1,7 +1,7 @@
 //! Calls that narrow, with a log of just the room needed, less or more.
 
 use crate::answers::Answer;
-use crate::calls::{faults, lists};
+use crate::calls::{faults, lists, short};
 use crate::joblist::{Supply, Times};
 use crate::lines::Call;
 use crate::random::Random;
@@ -61,11 +61,24 @@ pub fn ragged(random: &mut Random) -> usize {
     }
 }
 
+/// A log in which every word shows whether it was left as it was; often there
+/// is no room for a record.
+fn full(random: &mut Random, length: usize) -> Vec<u32> {
+    let length = random.pick(&[0, RECORD_WORDS - 1, RECORD_WORDS, length, length]);
+    let most = random.pick(&[3, 40, u32::MAX]);
+    (0..length).map(|_| random.between(1, most)).collect()
+}
+
 pub fn call(random: &mut Random) -> Call {
     let (mut times, mut supply, records) = busy_lists(random);
     let length = room(random, records.len()) * RECORD_WORDS + ragged(random);
+    let mut log = words(random, length);
+    if random.one_in(8) {
+        short::put(random, &mut times);
+        log = full(random, length);
+    }
     if random.one_in(8) {
         faults::spoil(random, &mut times, &mut supply);
     }
-    Call::Narrow(times, supply, words(random, length))
+    Call::Narrow(times, supply, log)
 }

@@ -1,9 +1,11 @@
 //! Calls that show a record and calls of the overload check.
 
+use crate::answers::Answer;
 use crate::calls::narrowing::{ragged, words};
-use crate::calls::{faults, lists};
-use crate::joblist::Supply;
+use crate::calls::{faults, lists, short};
+use crate::joblist::{Supply, Times};
 use crate::lines::Call;
+use crate::overload;
 use crate::random::Random;
 use crate::record::RECORD_WORDS;
 
@@ -20,8 +22,40 @@ pub fn record(random: &mut Random) -> Call {
     Call::Record(k, words(random, length))
 }
 
+/// Lists in which more often than not some set is overloaded.
+fn overloaded(random: &mut Random) -> Times {
+    for _ in 0..6 {
+        let times = lists::good_for_one(random);
+        if overload::overload(&times) != Answer::None {
+            return times;
+        }
+    }
+    lists::good_for_one(random)
+}
+
+/// Lists with windows that are too short: alone, beside an overloaded set, or
+/// one behind it, so that the pair is the set's.
+fn with_short(random: &mut Random) -> Times {
+    let mut times = match random.below(2) {
+        0 => overloaded(random),
+        _ => lists::good_for_one(random),
+    };
+    if random.one_in(5) {
+        short::put_behind(random, &mut times);
+        return times;
+    }
+    short::put(random, &mut times);
+    if random.one_in(3) {
+        short::tie(random, &mut times);
+    }
+    times
+}
+
 pub fn overload(random: &mut Random) -> Call {
-    let mut times = lists::good_for_one(random);
+    let mut times = match random.below(5) {
+        0 => with_short(random),
+        _ => lists::good_for_one(random),
+    };
     if random.one_in(10) {
         let mut unused = Supply::of_one(times.est.len());
         faults::spoil(random, &mut times, &mut unused);

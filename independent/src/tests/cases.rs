@@ -1,4 +1,5 @@
-//! The lines of the runs on the record, as 01 gives their answers.
+//! The lines of the runs on the record, as 01 and Item 3 of 02 give their
+//! answers.
 
 use crate::cases::lines;
 
@@ -15,7 +16,7 @@ const SHORT: [&str; 16] = [
     "7 settled 0 0 4 0 4",
     "8 settled 0 1 1",
     "9 settled 0 3 7",
-    "9 refused 4 3 6",
+    "9 clash 0 0 3 6",
     "10 overload 0 4",
     "10 none",
     "11 overload 2 5",

@@ -32,7 +32,6 @@ fn lists_are_refused_before_the_log() {
     for (number, cap, jobs) in [
         (2, 1, vec![(0, 1, 0, 0); 257]),
         (3, 10_001, vec![]),
-        (4, 1, vec![(3, 6, 4, 1)]),
         (6, 1, vec![(3, 7, 4, 1)]),
     ] {
         let (mut times, supply) = lists(cap, &jobs);

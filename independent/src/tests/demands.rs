@@ -1,5 +1,5 @@
 //! The tester's demands on small lists, by brute force over schedules, windows
-//! and orders.
+//! and orders; a window that is too short holds no start and no other window.
 
 use super::{run, small_lists, windows};
 use crate::answers::Answer;
@@ -13,7 +13,7 @@ use crate::timetable::narrow;
 fn choices(times: &Times) -> Vec<Vec<u32>> {
     let mut all = vec![Vec::new()];
     for k in 0..times.est.len() {
-        let starts = times.est[k]..=times.lct[k] - times.dur[k];
+        let starts = times.est[k]..(times.lct[k] + 1).saturating_sub(times.dur[k]);
         let longer = |starts_so_far: Vec<u32>| {
             starts
                 .clone()
@@ -72,7 +72,7 @@ fn inner_windows(times: &Times) -> Vec<Times> {
         let (e, l, p) = (times.est[k], times.lct[k], times.dur[k]);
         let mut longer = Vec::new();
         for so_far in all {
-            for est in e..=l - p {
+            for est in e..(l + 1).saturating_sub(p) {
                 for lct in est + p..=l {
                     let mut next = so_far.clone();
                     next.push(est, lct, p);
@@ -159,8 +159,9 @@ fn the_count_is_at_most_the_slack_and_one_more_in_a_clash() {
     let mut random = Random::new(6);
     for _ in 0..3_000 {
         let (times, supply) = small_lists(&mut random);
-        let slack = |k: usize| times.lct[k] - times.est[k] - times.dur[k];
-        let most: u32 = (0..times.est.len()).map(slack).sum();
+        let slack = |k: usize| times.lct[k].checked_sub(times.est[k] + times.dur[k]);
+        let most: Option<u32> = (0..times.est.len()).map(slack).sum();
+        let Some(most) = most else { continue };
         match run(&times, &supply).0 {
             Answer::Settled(count) => assert!(count <= most as usize),
             Answer::Clash(count, _) => assert!(count <= most as usize + 1),

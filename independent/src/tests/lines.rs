@@ -54,7 +54,18 @@ fn refusals_and_codes_have_their_lines() {
     assert_eq!(said("check 0 1 0 0 0 0 0"), "refused 6 0 0");
     let bad = "check 1 1 1 0 1 2 1 1 1 2 12 0 7 0 0 0 0 0 0 0 0 0 0";
     assert_eq!(said(bad), "rejected 0 21 1 0 1 2");
-    assert_eq!(said("overload 1 5 1 5 1 1"), "refused 4");
+    let short = "check 1 1 1 3 1 6 1 4 1 1 12 0 0 0 0 0 0 0 0 0 0 0 0";
+    assert_eq!(said(short), "rejected 0 20 1 3 1 6");
+    assert_eq!(said("overload 1 5 1 5 0"), "refused 1");
+}
+
+#[test]
+fn windows_that_are_too_short_have_their_lines() {
+    let narrow = "narrow 1 1 3 1 6 1 4 1 1 2 7 7";
+    assert_eq!(said(narrow), "clash 0 0 1 3 1 6 2 7 7");
+    assert_eq!(said("check 1 0 1 3 1 6 1 4 1 1 0"), "clash 0 0 1 3 1 6");
+    assert_eq!(said("overload 1 5 1 5 1 1"), "overload 5 5");
+    assert_eq!(said("overload 1 5 1 3 1 0"), "overload 5 3");
 }
 
 #[test]

@@ -14,6 +14,8 @@ mod overload;
 mod paths;
 mod patterson;
 mod reading;
+mod short;
+mod short_calls;
 mod texts;
 
 use crate::answers::Answer;
@@ -27,13 +29,18 @@ fn windows(times: &Times) -> Vec<(u32, u32)> {
     pairs.map(|(&e, &l)| (e, l)).collect()
 }
 
-/// Few jobs in a short time, many of them crowded.
+/// Few jobs in a short time, many of them crowded, a few too long for their
+/// windows.
 fn small_lists(random: &mut Random) -> (Times, Supply) {
     let mut jobs = Vec::new();
     for _ in 0..random.between(1, 4) {
         let e = random.between(0, 5);
         let p = random.between(0, 4);
-        jobs.push((e, e + p + random.between(0, 3), p, random.between(0, 3)));
+        let mut l = e + p + random.between(0, 3);
+        if random.one_in(20) {
+            l = random.between(0, e + p);
+        }
+        jobs.push((e, l, p, random.between(0, 3)));
     }
     lists(random.between(0, 4), &jobs)
 }

@@ -1,4 +1,4 @@
-//! Narrowing: answers found in the source documents, and refusals 1 to 5 with
+//! Narrowing: answers found in the source documents, and its refusals with
 //! what they leave behind.
 
 use super::{run, windows};
@@ -95,14 +95,6 @@ fn numbers_above_their_limit_are_refused_before_short_windows() {
         assert_refused(3, &times, &supply);
     }
     assert_refused(3, &Times::default(), &lists(10_001, &[]).1);
-}
-
-#[test]
-fn short_windows_are_refused_whatever_the_room() {
-    let (times, supply) = lists(1, &[(0, 9, 1, 1), (1_000_000, 1_000_000, 1, 0)]);
-    assert_refused(4, &times, &supply);
-    let (mut times, supply) = lists(0, &[(3, 3, 1, 1)]);
-    assert_eq!(narrow(&mut times, &supply, &mut []), Answer::Refused(4));
 }
 
 #[test]

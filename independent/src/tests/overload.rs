@@ -1,11 +1,11 @@
 //! The overload check: ties, refusals, and all sets against the pair.
 
 use crate::answers::Answer;
-use crate::joblist::{good_jobs, lists, Supply, Times};
+use crate::joblist::{good_jobs, lists, lowest_too_short, Supply, Times};
 use crate::overload::{overload, pair, some_set_is_overloaded};
 use crate::random::Random;
 
-fn times_of(jobs: &[(u32, u32, u32)]) -> Times {
+pub fn times_of(jobs: &[(u32, u32, u32)]) -> Times {
     let quads: Vec<_> = jobs.iter().map(|&(e, l, p)| (e, l, p, 1)).collect();
     lists(1, &quads).0
 }
@@ -39,7 +39,6 @@ fn refusals_come_in_order() {
     assert_eq!(overload(&many), Answer::Refused(2));
     let great = times_of(&[(5, 5, 1), (0, 1_000_001, 1)]);
     assert_eq!(overload(&great), Answer::Refused(3));
-    assert_eq!(overload(&times_of(&[(5, 5, 1)])), Answer::Refused(4));
 }
 
 #[test]
@@ -52,16 +51,19 @@ fn all_sets_agree_with_the_pair() {
         } else {
             random.between(0, 7)
         };
+        let short = random.pick(&[vec![0], vec![0, 0, 0, 3, 6]]);
         let mut times = Times::default();
         for _ in 0..jobs {
             let e = random.between(0, 8);
             let p = random.between(0, 3);
-            times.push(e, e + p + random.between(0, 4), p);
+            let l = e + p + random.between(0, 4);
+            times.push(e, l.saturating_sub(random.pick(&short)), p);
         }
         let jobs = good_jobs(&times, &Supply::of_one(times.est.len())).unwrap();
         let found = pair(&jobs);
         assert_eq!(found.is_some(), some_set_is_overloaded(&jobs));
-        assert!(found.is_none_or(|(a, b)| a < b));
+        let fit = lowest_too_short(&jobs).is_none();
+        assert!(found.is_none_or(|(a, b)| a < b || !fit));
         overloaded += usize::from(found.is_some());
     }
     assert!(overloaded > 200 && overloaded < 1_300);
