@@ -106,10 +106,10 @@ pub fn closed(est: &[u32], lct: &[u32], dur: &[u32], job: usize) -> bool
     let e = est[job];
     let l = lct[job];
     let p = dur[job];
-    if l < e {
-        return true;
+    if e <= l {
+        return l - e < p;
     }
-    l - e < p
+    true
 }
 
 // The lowest job whose window is too short for it, and the number of jobs where there is none.

@@ -9,7 +9,7 @@ use borrow.Author.Tests.{ltb-true}
 use Rattle.narrowing.specs.Windows.{Win, Side, early, late, Long, moved}
 use Rattle.narrowing.specs.Rules.{Family, Stable}
 use Rattle.narrowing.specs.Search.{Search, Searches, Move, move, after}
-use Rattle.narrowing.specs.Led.{SameLengths, Led, Closes, Clashed, Reached}
+use Rattle.narrowing.specs.Led.{SameLengths, Led, Closes, Reached}
 use Rattle.narrowing.specs.Run.{Next, rests, moves, nextMove, Out, settled, clash, short, push, follow, work, run, reachedBy}
 use Rattle.narrowing.proofs.Next.{Ahead, next-is}
 use Rattle.narrowing.proofs.Runs.{work-ind}

@@ -1,9 +1,9 @@
 -- Windows that are too short: the lowest such job is found exactly where there is one, the run then clashes without a move, and no windows inside
 -- hold their jobs. Where every window is long enough the run is the work.
-use Prim.Native.Nat.{ℕ, _+_, _≤_, _<_}
+use Prim.Native.Nat.{ℕ, _+_, _<_}
 use native.Mathlib.Omega.{arith}
 use native.Mathlib.Decide.{decLe}
-use mathlib.Core.Path.{_≡_, refl, sym, ap, subst, _∙_}
+use mathlib.Core.Path.{_≡_, refl, sym, ap, subst}
 use mathlib.Core.List.{List, []}
 use mathlib.Core.Option.{Option, none, some}
 use borrow.Author.Tests.{ltb-true, lt-ltb}
@@ -13,7 +13,7 @@ use Rattle.lists.proofs.Searches.{least-is}
 use Rattle.narrowing.specs.Windows.{Win, early, Long, LowestShort, lowestShort, closes}
 use Rattle.narrowing.specs.Rules.{Family, NoCandidate}
 use Rattle.narrowing.specs.Search.{Search}
-use Rattle.narrowing.specs.Run.{Out, clash, orClash, work, run}
+use Rattle.narrowing.specs.Run.{Out, clash, work, run}
 use Rattle.narrowing.proofs.Steps.{closed-none-left}
 
 module _ (n : ℕ) (p : List ℕ) (W : Win) where

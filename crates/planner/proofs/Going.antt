@@ -10,7 +10,7 @@ use lib.ListN.{length, length-append}
 use lib.Dec.{ltb, eqb}
 use borrow.Author.Tests.{ltb-true, ltb-false}
 use Rattle.lists.specs.Tests.{only}
-use Rattle.narrowing.specs.Windows.{Win, Side, early, late, Long, closes, sideOf}
+use Rattle.narrowing.specs.Windows.{Win, Side, early, late, closes, sideOf, Long}
 use Rattle.narrowing.specs.Search.{Search, Move, move, after}
 use Rattle.narrowing.specs.Run.{first, resume, Out, settled, clash, short, push, ends, work, run}
 use Rattle.narrowing.proofs.Short.{run-long}

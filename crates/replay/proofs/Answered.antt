@@ -5,14 +5,13 @@ use mathlib.Core.Path.{_≡_, refl, sym, subst}
 use mathlib.Core.List.{List, [], _∷_, _++_}
 use mathlib.Core.Option.{none}
 use lib.ListN.{length, drop, length-append, length-drop}
-use borrow.Author.Tests.{lt-ltb, le-ltb}
+use borrow.Author.Tests.{lt-ltb}
 use Rattle.narrowing.specs.Windows.{Win, Long}
 use Rattle.narrowing.proofs.Short.{short-exactly}
 use Rattle.joblist.specs.Limits.{jobs}
 use Rattle.answers.specs.Said.{Word, said}
 use Rattle.journal.specs.Journal.{roomOf, records}
 use Rattle.timetable.specs.Table.{Call, Good, refusalOf}
-use Rattle.timetable.proofs.Calls.{call-good}
 use Rattle.tabling.proofs.Good.{durations-sized}
 use Rattle.replay.specs.declared.Ended.{Ended}
 use Rattle.replay.specs.Replay.{Verdict, holds, clashes, rejected, replay, verdictOn, Checked, finds, judged, refuses, rows, checked}

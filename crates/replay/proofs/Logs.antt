@@ -24,7 +24,7 @@ use Rattle.timetable.proofs.Law.{lawful, searches}
 use Rattle.answers.proofs.Same.{not-said}
 use Rattle.timetable.proofs.Calls.{call-good, whole}
 use Rattle.timetable.proofs.Rows.{Case, cased, ran, settled-refused, clash-refused}
-use Rattle.replay.specs.Replay.{Verdict, holds, clashes, verdictOn, Checked, finds, judged, refuses, rows, checked}
+use Rattle.replay.specs.Replay.{Verdict, holds, clashes, Checked, finds, judged, refuses, rows, checked, verdictOn}
 use Rattle.replay.specs.Promise.{TakesLogs}
 use Rattle.replay.proofs.Taken.{Judges, run-judges}
 

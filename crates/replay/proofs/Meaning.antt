@@ -22,7 +22,7 @@ use Rattle.timetable.specs.Promise.{Scheduled, NoneIn}
 use Rattle.timetable.proofs.Exact.{exact}
 use Rattle.replay.specs.Facts.{jobOf}
 use Rattle.replay.specs.Replay.{Verdict, holds, clashes, rejected, verdictOn, Checked, judged, refuses, orSix, rows, checked}
-use Rattle.replay.specs.Fate.{reached, Takes, Closing, Shut, Fate}
+use Rattle.replay.specs.Fate.{reached, Takes, Closing, Fate, Shut}
 use Rattle.replay.specs.Promise.{taken, Reasoned, Checks}
 use Rattle.replay.proofs.Fates.{fate-exactly}
 use Rattle.replay.proofs.Logs.{takes-logs}

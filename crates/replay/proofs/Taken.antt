@@ -5,8 +5,8 @@ use native.Mathlib.Decide.{decLt}
 use mathlib.Core.Path.{_≡_, refl, sym, ap, _∙_}
 use mathlib.Core.Bool.{Bool, true, false, not}
 use mathlib.Core.List.{List, [], _∷_, map}
-use mathlib.Core.Option.{none, some}
 use lib.ListN.{drop}
+use mathlib.Core.Option.{none, some}
 use lib.Dec.{ltb, leb, eqb}
 use borrow.Author.Tests.{ne-eqb, eqb-false, not-true}
 use Rattle.lists.specs.Lists.{_!_}
@@ -15,7 +15,7 @@ use Rattle.lists.specs.Sums.{total}
 use Rattle.lists.proofs.Tests.{both-true, true-both, only-cong}
 use Rattle.lists.proofs.Sums.{total-cong}
 use Rattle.lists.proofs.Lists.{set-any}
-use Rattle.narrowing.specs.Windows.{Win, Side, early, late, number, sideOf, Long, LowestShort, moved, closes}
+use Rattle.narrowing.specs.Windows.{Win, Side, early, late, number, sideOf, Long, moved, closes, LowestShort}
 use Rattle.narrowing.specs.Search.{Move, move}
 use Rattle.narrowing.specs.Run.{Out, settled, clash, short, push, work, run}
 use Rattle.narrowing.proofs.Moves.{side-number}

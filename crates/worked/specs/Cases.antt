@@ -21,6 +21,11 @@ abbrev pub clashes : ℕ → ℕ → List Job → ℕ → ℕ → ℕ → List �
 clashes number cap js room count j ws =
     record { number = number; done = narrowed (lent cap js room); due = leaves (said Word.clash (count ∷ j ∷ [])) (windows js) (upon room ws) }
 
+-- a clash without a record: job j's window is too short
+abbrev pub tooShort : ℕ → ℕ → List Job → ℕ → ℕ → Row After
+tooShort number cap js room j =
+    record { number = number; done = narrowed (lent cap js room); due = leaves (said Word.clash (0 ∷ j ∷ [])) (windows js) (upon room []) }
+
 abbrev pub refuses : ℕ → ℕ → List Job → ℕ → ℕ → List ℕ → Row After
 refuses number cap js room k log =
     record { number = number; done = narrowed (lent cap js room); due = leaves (said Word.refused (k ∷ [])) (windows js) log }
@@ -58,7 +63,7 @@ runs =
     settles 7 1 (job 0 4 2 1 ∷ job 0 4 2 1 ∷ []) 8 0 (span 0 4 ∷ span 0 4 ∷ []) [] ∷
     settles 8 1 (job 1 1 0 5 ∷ []) 8 0 (span 1 1 ∷ []) [] ∷
     settles 9 1 (job 3 7 4 1 ∷ []) 8 0 (span 3 7 ∷ []) [] ∷
-    clashes 9 1 (job 3 6 4 1 ∷ []) 8 0 0 [] ∷
+    tooShort 9 1 (job 3 6 4 1 ∷ []) 8 0 ∷
     overloaded 10 (job 0 4 2 1 ∷ job 0 4 2 1 ∷ job 0 4 2 1 ∷ []) 0 4 ∷
     fine 10 (job 0 4 2 1 ∷ job 0 4 2 1 ∷ []) ∷
     overloaded 11 (job 0 10 1 1 ∷ job 2 5 2 1 ∷ job 2 5 2 1 ∷ []) 2 5 ∷
@@ -73,9 +78,9 @@ runs =
     clashes 26 1 (job 10 12 2 1 ∷ job 0 2 2 1 ∷ job 0 2 2 1 ∷ []) 2 1 1 (line 1 0 1 1 4) ∷
     overloaded 25 (job 1 2 1 1 ∷ job 0 2 2 1 ∷ job 1 2 1 1 ∷ []) 1 2 ∷
     -- the lowest of two, and no record needed; a duration of 0; before any record, where a run would need more than there is room for
-    clashes 30 1 (job 3 7 4 1 ∷ job 3 6 4 1 ∷ job 0 1 2 1 ∷ []) 0 0 1 [] ∷
-    clashes 31 1 (job 5 3 0 0 ∷ []) 1 0 0 [] ∷
-    clashes 32 1 (job 0 3 1 2 ∷ job 3 6 4 1 ∷ []) 2 0 1 [] ∷
+    tooShort 30 1 (job 3 7 4 1 ∷ job 3 6 4 1 ∷ job 0 1 2 1 ∷ []) 0 1 ∷
+    tooShort 31 1 (job 5 3 0 0 ∷ []) 1 0 ∷
+    tooShort 32 1 (job 0 3 1 2 ∷ job 3 6 4 1 ∷ []) 2 1 ∷
     -- refusal 3 comes first
     refuses 33 1 (job 3 6 4 1 ∷ job 0 1000001 1 1 ∷ []) 1 3 (replicate recordWords 9) ∷
     -- one job by itself, a above b; a larger set that ends earlier, and later

@@ -24,10 +24,10 @@ shared-slice-read-p : tie.Need-shared-slice-read-p
 shared-slice-read-p c = search needs
 
 returns : tie.Need-returns
-returns c = sym (closes-below _ _ _ (c .if1 .taken))
+returns c = closes-by _ _ _ (c .if1 .taken)
 
 returns-2 : tie.Need-returns-2
-returns-2 c = closes-by _ _ _ (c .if1 .left)
+returns-2 c = sym (closes-below _ _ _ (c .if1 .left))
 
 pub closed-spec : {M : Type 1} → statement M
 closed-spec =

@@ -1,8 +1,7 @@
 -- `joblist::lowest_short` meets its contract. Invariant: no window before i is too short. The measure is what is left of the list.
 use Prim.Native.Nat.{_≤_, _-_}
 use native.Mathlib.Omega.{arith}
-use native.Mathlib.Numerals.{add-one}
-use mathlib.Core.Path.{_≡_, sym, _∙_}
+use mathlib.Core.Path.{sym, _∙_}
 use lib.ListN.{length}
 use borrow.Author.Needs.{needs}
 use Rattle.narrowing.specs.Windows.{win, Long}

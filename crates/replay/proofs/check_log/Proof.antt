@@ -71,7 +71,7 @@ returns-3 c =
     let k = called (c .before .before .before .before .before .before .before) in
     let n = c .before .before .before .before .before .before .before .before .before .before .before .before .before .before .before .before .args .count in
     let s = answer-short _ _ _ _ (c .before .before .lowest-short .ensures) (c .before .if3 .taken) in
-    promised k n _ (row-claimed k n (good (c .before .before .before .before .before .before .before)) (enough (c .before .before .before .before .before)) _ s (c .if4 .taken))
+    promised k n _ (row-claimed k n (good (c .before .before .before .before .before .before .before)) (enough (c .before .before .before .before .before)) _ s (omega (arith, c .if4 .taken)))
 
 same-length-7 : tie.Need-same-length-7
 same-length-7 c = search needs
