@@ -47,6 +47,7 @@ replay J W i (x ∷ xs) =
     let good = orClosed (closes (J .p) U (jobOf x)) (closing (suc i) (jobOf x) xs) rest in
     orBad i (code J W x) good
 
+-- where a window is too short, it is closed before the first record
 abbrev pub orShort : Option ℕ → List (List ℕ) → Verdict → Verdict
 orShort none xs v = v
 orShort (some j) xs v = closing 0 j xs
