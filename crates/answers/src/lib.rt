@@ -1,6 +1,6 @@
 // The answers of the desk's calls. `says` in specs/ gives each one in the paper's words and numbers.
 
-// Narrowing: the record count; the record count and the moved job; the refusal's number.
+// Narrowing: the record count; the record count and the job; the refusal's number.
 pub enum Answer {
     Settled(usize),
     Clash(usize, usize),

@@ -1,5 +1,5 @@
 pub mod Refusals
-pub mod Short
+pub mod TooShort
 pub mod Tests
 pub mod Copies
 pub mod Renumbered

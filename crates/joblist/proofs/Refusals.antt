@@ -16,15 +16,15 @@ use Rattle.joblist.specs.GoodList.{Sized, Within, Above, Any, GoodList, 
 
 -- ---- the three tests and their facts
 
-pub sized-judged : (n : ℕ) (cs : List Column) → Judged (Every (Sized n) cs) (Any (λ c. Sized n c → ⊥) cs) (sized n cs)
+sized-judged : (n : ℕ) (cs : List Column) → Judged (Every (Sized n) cs) (Any (λ c. Sized n c → ⊥) cs) (sized n cs)
 unfolding sized
 sized-judged n [] = judged-true
 sized-judged n (c ∷ cs) = judged-both (judged-eqb (length (c .list)) n) (sized-judged n cs)
 
-pub few-judged : (n : ℕ) → Judged (n ≤ mostJobs) (mostJobs < n) (leb n mostJobs)
+few-judged : (n : ℕ) → Judged (n ≤ mostJobs) (mostJobs < n) (leb n mostJobs)
 few-judged n = judged-leb n mostJobs
 
-pub most-judged : (m : ℕ) (xs : List ℕ) → Judged ((k : ℕ) → xs ! k ≤ m) ((k : ℕ) × (m < xs ! k)) (atMost m xs)
+most-judged : (m : ℕ) (xs : List ℕ) → Judged ((k : ℕ) → xs ! k ≤ m) ((k : ℕ) × (m < xs ! k)) (atMost m xs)
 unfolding atMost
 most-judged m [] = judged-as judged-true (λ f k. omega arith) (λ f. absurd f) (λ f g. omega arith)
 most-judged m (x ∷ xs) = judged-as (judged-both (judged-leb x m) (most-judged m xs)) fact fault (λ f g. omega (arith, f (g .0)))
@@ -37,7 +37,7 @@ most-judged m (x ∷ xs) = judged-as (judged-both (judged-leb x m) (most-judged 
     fault (inl g) = (0, g)
     fault (inr g) = (suc (g .0), g .1)
 
-pub within-judged : (cs : List Column) → Judged (Every Within cs) (Any Above cs) (within cs)
+within-judged : (cs : List Column) → Judged (Every Within cs) (Any Above cs) (within cs)
 unfolding within
 within-judged [] = judged-true
 within-judged (c ∷ cs) = judged-both (most-judged (c .most) (c .list)) (within-judged cs)
@@ -54,7 +54,7 @@ none-above [] ds f g a = within-judged ds .apart g a
 none-above (c ∷ cs) ds f g (inl a) = most-judged (c .most) (c .list) .apart (f .0) a
 none-above (c ∷ cs) ds f g (inr a) = none-above cs ds (f .1) g a
 
-pub limits-judged : (cs ds : List Column) → Judged (Every Within cs × Every Within ds) (Any Above (cs ++ ds)) (both (within cs) (within ds))
+limits-judged : (cs ds : List Column) → Judged (Every Within cs × Every Within ds) (Any Above (cs ++ ds)) (both (within cs) (within ds))
 limits-judged cs ds =
     judged-as (judged-both (within-judged cs) (within-judged ds)) (λ f. f) (any-append Above cs ds) (λ f g. none-above cs ds (f .0) (f .1) g)
 

@@ -1,4 +1,4 @@
--- The tests as the code makes them: the largest number of a list against the limit, and one list more in a test of columns.
+-- The tests as the code makes them: the largest number of a list against the limit, the tests of three lists, and those of four by way of the three.
 use Prim.Native.Nat.{ℕ, suc, _+_, _≤_, _<_}
 use native.Mathlib.Omega.{arith}
 use native.Mathlib.Decide.{decLe}
@@ -78,7 +78,7 @@ unfolding within atMost
 within-supply cap = both-end _ ∙ both-end _
 
 -- test 1 of the three lists: the earliest starts are as long as themselves
-pub sized-three : (W : Win) (p : List ℕ) → sized (jobs W) (threeLists W p) ≡ both (eqb (length (W .l)) (jobs W)) (eqb (length p) (jobs W))
+sized-three : (W : Win) (p : List ℕ) → sized (jobs W) (threeLists W p) ≡ both (eqb (length (W .l)) (jobs W)) (eqb (length p) (jobs W))
 unfolding sized
 sized-three W p = rw (eq-eqb (jobs W) (jobs W) refl) (ap (both (eqb (length (W .l)) (jobs W))) (both-end (eqb (length p) (jobs W))))
 
@@ -86,11 +86,15 @@ pub within-three : (W : Win) (p : List ℕ) → within (threeLists W p) ≡ both
 unfolding within
 within-three W p = ap (λ (b : Bool). both (atMost mostTime (W .e)) (both (atMost mostTime (W .l)) b)) (both-end (atMost mostTime p))
 
--- the three lists
+-- the three lists: nothing stands beside them
+three-is : (W : Win) (p : List ℕ) → refusal (jobs W) (threeLists W p) []
+    ≡ unless (sized (jobs W) (threeLists W p)) 1 (unless (leb (jobs W) mostJobs) 2 (unless (within (threeLists W p)) 3 0))
+unfolding refusal
+three-is W p = rw (both-end (within (threeLists W p)))
+
 pub of-three : (W : Win) (p : List ℕ) → refusal (jobs W) (threeLists W p) []
     ≡ unless (both (eqb (length (W .l)) (jobs W)) (eqb (length p) (jobs W))) 1 (unless (leb (jobs W) mostJobs) 2 (unless (within (threeLists W p)) 3 0))
-unfolding refusal
-of-three W p = rw (sized-three W p, both-end (within (threeLists W p)))
+of-three W p = rw (three-is W p, sized-three W p)
 
 -- tests 1 to 3 of the three lists, s, f and w, and with them those of the demands, d, and of the capacity, c: the first number where there is one
 first-of-three : (s f w d c : Bool) → (unless s 1 (unless f 2 (unless w 3 0)) ≡ 0 → ⊥)
@@ -117,10 +121,6 @@ module _ (W : Win) (p r : List ℕ) (cap : ℕ) where
   abbrev four : ℕ
   four = refusal (jobs W) (fourLists W p r) (supply cap)
 
-  three-is : three ≡ unless (sized (jobs W) (threeLists W p)) 1 (unless (leb (jobs W) mostJobs) 2 (unless (within (threeLists W p)) 3 0))
-  unfolding refusal
-  three-is = rw (both-end (within (threeLists W p)))
-
   of-four : four
       ≡ unless (both (eqb (length r) (jobs W)) (sized (jobs W) (threeLists W p))) 1
       (unless (leb (jobs W) mostJobs) 2
@@ -135,13 +135,13 @@ module _ (W : Win) (p r : List ℕ) (cap : ℕ) where
   -- the three lists are refused
   pub four-three : length r ≡ jobs W → (three ≡ 0 → ⊥) → four ≡ three
   four-three h k =
-      rw (of-four, eq-eqb (length r) (jobs W) h, three-is)
-      (first-of-three (sized (jobs W) (threeLists W p)) (leb (jobs W) mostJobs) (within (threeLists W p)) (atMost mostDemand r) (leb cap mostDemand) (λ z. k (three-is ∙ z)))
+      rw (of-four, eq-eqb (length r) (jobs W) h, three-is W p)
+      (first-of-three (sized (jobs W) (threeLists W p)) (leb (jobs W) mostJobs) (within (threeLists W p)) (atMost mostDemand r) (leb cap mostDemand) (λ z. k (three-is W p ∙ z)))
 
   four-rest : length r ≡ jobs W → three ≡ 0 → four ≡ unless (both (atMost mostDemand r) (leb cap mostDemand)) 3 0
   four-rest h k =
       rw (of-four, eq-eqb (length r) (jobs W) h)
-      (rest-of-three (sized (jobs W) (threeLists W p)) (leb (jobs W) mostJobs) (within (threeLists W p)) (atMost mostDemand r) (leb cap mostDemand) (sym three-is ∙ k))
+      (rest-of-three (sized (jobs W) (threeLists W p)) (leb (jobs W) mostJobs) (within (threeLists W p)) (atMost mostDemand r) (leb cap mostDemand) (sym (three-is W p) ∙ k))
 
   pub four-demand : length r ≡ jobs W → three ≡ 0 → atMost mostDemand r ≡ false → four ≡ 3
   four-demand h k d = four-rest h k ∙ rw d

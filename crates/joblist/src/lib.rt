@@ -8,7 +8,7 @@ ghost use lib.Dec.{leb};
 ghost use lib.ListN.{length, take, drop};
 ghost use Rattle.lists.specs.Tests.{pick};
 ghost use Rattle.lists.specs.Searches.{foundOr};
-ghost use Rattle.narrowing.specs.Windows.{win, closes, lowestShort};
+ghost use Rattle.narrowing.specs.Windows.{win, closes, lowestTooShort};
 ghost use Rattle.joblist.specs.Limits.{mostJobs, fourLists, threeLists, supply};
 ghost use Rattle.joblist.specs.GoodList.{atMost, within, refusal};
 
@@ -113,9 +113,9 @@ pub fn closed(est: &[u32], lct: &[u32], dur: &[u32], job: usize) -> bool
 }
 
 // The lowest job whose window is too short for it, and the number of jobs where there is none.
-pub fn lowest_short(est: &[u32], lct: &[u32], dur: &[u32]) -> usize
+pub fn lowest_too_short(est: &[u32], lct: &[u32], dur: &[u32]) -> usize
     requires { ⌜ (length (now lct) ≡ length (now est)) × (length (now dur) ≡ length (now est)) ⌝ }
-    ensures { λ r. ⌜ r ≡ foundOr (length (now (est .entry))) (lowestShort (length (now (est .entry))) (now (dur .entry)) (win (now (est .entry)) (now (lct .entry)))) ⌝ }
+    ensures { λ r. ⌜ r ≡ foundOr (length (now (est .entry))) (lowestTooShort (length (now (est .entry))) (now (dur .entry)) (win (now (est .entry)) (now (lct .entry)))) ⌝ }
 {
     let mut i = 0;
     while i < est.len() {

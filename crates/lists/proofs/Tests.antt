@@ -4,7 +4,7 @@ use native.Mathlib.Omega.{arith}
 use native.Mathlib.Decide.{ℕ-discrete, decLe}
 use mathlib.Core.Path.{_≡_, refl, sym}
 use mathlib.Core.Bool.{Bool, true, false}
-use Rattle.lists.specs.Tests.{both, either, where?, only, unless, every, some?}
+use Rattle.lists.specs.Tests.{both, either, where?, only, every, some?}
 
 pub both-true : (a b : Bool) → both a b ≡ true → (a ≡ true) × (b ≡ true)
 both-true true b h = (refl, h)
@@ -33,14 +33,6 @@ where-at false b h q = cc
 pub at-where : (a b : Bool) → (a ≡ true → b ≡ true) → where? a b ≡ true
 at-where true b h = h refl
 at-where false b h = refl
-
--- no test of the chain has failed
-pub unless-none : (b : Bool) (k x : ℕ) → unless b (suc k) x ≡ 0 → (b ≡ true) × (x ≡ 0)
-unless-none true k x h = (refl, h)
-unless-none false k x h = absurd (omega arith)
-
-pub unless-zero : (b : Bool) (k x : ℕ) → b ≡ true → x ≡ 0 → unless b k x ≡ 0
-unless-zero b k x h e = rw h e
 
 pub every-at : (f : ℕ → Bool) (m : ℕ) → every f m ≡ true → (k : ℕ) → k < m → f k ≡ true
 unfolding every

@@ -1,4 +1,4 @@
--- The greatest and the least number of a stretch at which a test passes.
+-- The greatest and the least number of a stretch at which a test passes, if there is one.
 use Prim.Native.Nat.{ℕ, zero, suc, _+_, _≤_, _<_}
 use mathlib.Core.Path.{_≡_}
 use mathlib.Core.Bool.{Bool, true, false}

@@ -13,7 +13,7 @@ use Rattle.narrowing.specs.Led.{SameLengths, Led, Closes, Reached}
 use Rattle.narrowing.specs.Run.{Next, rests, moves, nextMove, Out, settled, clash, short, push, follow, work, run, reachedBy}
 use Rattle.narrowing.proofs.Next.{Ahead, next-is}
 use Rattle.narrowing.proofs.Runs.{work-ind}
-use Rattle.narrowing.proofs.Short.{run-long, run-by}
+use Rattle.narrowing.proofs.TooShort.{run-long, run-by}
 
 moved-lengths : (W : Win) (j : ℕ) (s : Side) (b : ℕ) → SameLengths W (moved W j s b)
 moved-lengths W j early b = record { early = rw length-set; late = refl }

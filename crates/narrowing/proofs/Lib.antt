@@ -5,7 +5,7 @@ pub mod Schedules
 pub mod Renumbered
 pub mod Firm
 pub mod Next
-pub mod Short
+pub mod TooShort
 pub mod Runs
 pub mod Room
 pub mod Walk

@@ -6,7 +6,7 @@ use mathlib.Core.Path.{_≡_, refl, ap, _∙_}
 use mathlib.Core.Bool.{Bool, true, false}
 use mathlib.Core.List.{List, [], _∷_}
 use mathlib.Core.Option.{Option, none, some}
-use Rattle.narrowing.specs.Windows.{Win, Side, early, late, closes, slack, lowestShort}
+use Rattle.narrowing.specs.Windows.{Win, Side, early, late, closes, slack, lowestTooShort}
 use Rattle.narrowing.specs.Rules.{Family, Lawful}
 use Rattle.narrowing.specs.Search.{Search, Searches, Move, move, after}
 use Rattle.narrowing.specs.Run.{Next, rests, moves, nextMove, Out, settled, clash, short, push, follow, ends, orClash, work, run, count, needed}
@@ -85,7 +85,7 @@ fits-clash room (some j) o u h e = (λ b. refl, λ b. absurd (omega arith))
 
 run-fits : (R : Search) (a room : ℕ) (W : Win) → Ended (run R a W) → Fits room (run R a W) (run R room W)
 unfolding run
-run-fits R a room W e = fits-clash room (lowestShort (R .n) (R .p) W) _ _ (work-fits R a room W 0 early) e
+run-fits R a room W e = fits-clash room (lowestTooShort (R .n) (R .p) W) _ _ (work-fits R a room W 0 early) e
 
 module _ (R : Search) (G : Family) (search : Searches R G) (law : Lawful (R .n) G) (W : Win) (h : Whole (R .n) W) where
   enough : Ended (run R (suc (slack (R .p) W (R .n))) W)

@@ -1,6 +1,6 @@
--- Where every window is long enough, the defined run is document 01's order of work: literal rounds, given acts enough, come to the same end. By
--- induction on the room; within
--- one room along the places of the round, which a round that has changed nothing has all passed over.
+-- The work is document 01's order of work: literal rounds, given acts enough, come to the same end (`work-rounds`); so does the run where every
+-- window is long enough (`run-rounds`). By induction on the room; within one room along the places of the round, which a round that has changed
+-- nothing has all passed over.
 use Prim.Native.Nat.{ℕ, zero, suc, _+_, _-_, _≤_, _<_}
 use native.Mathlib.Omega.{arith}
 use mathlib.Core.Path.{_≡_, refl, sym, ap, subst, _∙_}
@@ -14,7 +14,7 @@ use Rattle.narrowing.specs.Search.{Search, move, after}
 use Rattle.narrowing.specs.Run.{Next, rests, moves, first, resume, Out, settled, clash, short, push, work, run}
 use Rattle.narrowing.specs.Rounds.{nextJob, other, rounds, Does}
 use Rattle.narrowing.proofs.Next.{Place}
-use Rattle.narrowing.proofs.Short.{run-long}
+use Rattle.narrowing.proofs.TooShort.{run-long}
 use Rattle.narrowing.proofs.Walk.{made, resume-early, resume-late, resume-end, resume-start, walk-early, walk-late, walk-round, walk-end, walk-move-early, walk-move-late}
 
 module _ (R : Search) (room : ℕ) (changed : Bool) (W : Win) where
@@ -133,5 +133,8 @@ unfolding Goes
 all-before R zero = tt
 all-before R (suc room) = λ W j s b. goes-on R W room (all-before R room) j s b
 
+pub work-rounds : (R : Search) (room : ℕ) (W : Win) → Does R room false 0 early W (work R room W 0 early)
+work-rounds R room W = unchanged R W room (all-before R room)
+
 pub run-rounds : (R : Search) (room : ℕ) (W : Win) → Long (R .n) (R .p) W → Does R room false 0 early W (run R room W)
-run-rounds R room W L = rw (run-long R room W L) (unchanged R W room (all-before R room))
+run-rounds R room W L = rw (run-long R room W L) (work-rounds R room W)

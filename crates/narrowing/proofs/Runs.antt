@@ -15,7 +15,7 @@ use Rattle.narrowing.specs.Rounds.{Choice, Chosen}
 use Rattle.narrowing.proofs.Moves.{long-after, Whole, whole-after, slack-less}
 use Rattle.narrowing.proofs.Steps.{step-move, any-settled, any-clash}
 use Rattle.narrowing.proofs.Next.{Place, place-of, Ahead, next-is}
-use Rattle.narrowing.proofs.Short.{run-by}
+use Rattle.narrowing.proofs.TooShort.{run-by}
 
 -- what an end says of the windows W that the work began on
 abbrev pub Good : ℕ → List ℕ → Family → Win → Out → Type 0
@@ -103,7 +103,7 @@ module _ (R : Search) (G : Family) (search : Searches R G) where
         (λ room W j s i v c o L a e g. push-way W (after R W i v c) (move W i v c) (by-choice W j s i v c a) o g)
 
     pub run-way : (room : ℕ) (W : Win) → Way W (run R room W)
-    run-way room W = run-by R room W (Way W) (λ L. work-way room W 0 early L (omega arith)) (λ j s. (W, here, s .listed, lt-ltb _ _ (s .short)))
+    run-way room W = run-by R room W (Way W) (λ L. work-way room W 0 early L (omega arith)) (λ j s. (W, here, s .listed, lt-ltb _ _ (s .shorter)))
 
     way-good : (W : Win) (o : Out) → Way W o → Good (R .n) (R .p) G W o
     way-good W (settled U ms) g = any-settled (R .n) (R .p) G (g .0) (g .1) (g .2)

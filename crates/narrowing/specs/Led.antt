@@ -4,7 +4,7 @@ use mathlib.Core.Path.{_≡_}
 use mathlib.Core.List.{List, [], _∷_, _++_}
 use lib.ListN.{length}
 use Rattle.lists.specs.Lists.{_!_}
-use Rattle.narrowing.specs.Windows.{Win, Long, LowestShort}
+use Rattle.narrowing.specs.Windows.{Win, Long, LowestTooShort}
 use Rattle.narrowing.specs.Search.{Search, Move}
 use Rattle.narrowing.specs.Run.{Out, settled, clash, short, reachedBy}
 
@@ -28,7 +28,7 @@ pub record Closes (R : Search) (W : Win) (ms : List Move) (j : ℕ) : Type 0 whe
 
 -- a clash of job j: with no move, j is the lowest job whose window is too short; else none is, and the last move closes j's window
 abbrev pub Clashed : Search → Win → List Move → ℕ → Type 0
-Clashed R W [] j = LowestShort (R .n) (R .p) W j
+Clashed R W [] j = LowestTooShort (R .n) (R .p) W j
 Clashed R W (m ∷ ms) j = Long (R .n) (R .p) W × Closes R W (m ∷ ms) j
 
 abbrev pub Reached : Search → Win → Out → Type 0

@@ -1,11 +1,12 @@
 -- The defined run, for any search: a clash before any move where a window is too short (document 02, Item 3), else moves in document 01's order
--- of work, with the room as their quota. `Rounds` has the same order in literal rounds; the law `run-rounds` says that they are equal.
+-- of work, with the room as their quota. `Rounds` has the same order in literal rounds; the law `work-rounds` says that the work comes
+-- to the same end.
 use Prim.Native.Nat.{ℕ, zero, suc, _-_}
 use mathlib.Core.Bool.{Bool, true, false}
 use mathlib.Core.List.{List, [], _∷_}
 use mathlib.Core.Option.{Option, none, some}
 use lib.ListN.{length}
-use Rattle.narrowing.specs.Windows.{Win, Side, early, late, closes, slack, lowestShort}
+use Rattle.narrowing.specs.Windows.{Win, Side, early, late, closes, slack, lowestTooShort}
 use Rattle.narrowing.specs.Search.{Search, after, Move, move}
 
 -- no place of a stretch of the round moves, or the first that does and its choice
@@ -77,8 +78,8 @@ orClash (some j) o = clash j []
 
 -- the whole run, from the first job's side 0; a window that is too short is a clash of the lowest such job
 unfoldable pub run : Search → ℕ → Win → Out
-unfolding lowestShort work
-run R room W = let done = work R room W 0 early in orClash (lowestShort (R .n) (R .p) W) done
+unfolding lowestTooShort work
+run R room W = let done = work R room W 0 early in orClash (lowestTooShort (R .n) (R .p) W) done
 
 -- the moves of an end, and their number
 abbrev pub movesOf : Out → List Move

@@ -1,4 +1,5 @@
--- Windows of jobs, their two sides, and a move of one bound. Job k's earliest start is `W .e ! k`, its latest end `W .l ! k`.
+-- Windows of jobs, their two sides, a move of one bound, and windows that are too short (document 02, Item 3). Job k's earliest start is
+-- `W .e ! k`, its latest end `W .l ! k`.
 use Prim.Native.Nat.{ℕ, zero, suc, _+_, _-_, _≤_, _<_}
 use mathlib.Core.Bool.{Bool}
 use mathlib.Core.List.{List}
@@ -40,15 +41,15 @@ abbrev pub closes : List ℕ → Win → ℕ → Bool
 closes p W j = ltb (W .l ! j) (W .e ! j + p ! j)
 
 -- job j is the lowest of the n whose window is too short for its job: e + p > l
-pub record LowestShort (n : ℕ) (p : List ℕ) (W : Win) (j : ℕ) : Type 0 where
+pub record LowestTooShort (n : ℕ) (p : List ℕ) (W : Win) (j : ℕ) : Type 0 where
   pub listed : j < n
-  pub short : W .l ! j < W .e ! j + p ! j
+  pub shorter : W .l ! j < W .e ! j + p ! j
   pub before : Long j p W
 
 -- that job, if there is one
-unfoldable pub lowestShort : ℕ → List ℕ → Win → Option ℕ
+unfoldable pub lowestTooShort : ℕ → List ℕ → Win → Option ℕ
 unfolding least
-lowestShort n p W = least (closes p W) 0 n
+lowestTooShort n p W = least (closes p W) 0 n
 
 -- the windows U lie inside the windows W
 pub record Inside (n : ℕ) (U W : Win) : Type 0 where
@@ -75,7 +76,7 @@ abbrev pub Weaker : Side → ℕ → ℕ → Type 0
 Weaker early c b = c ≤ b
 Weaker late c b = b ≤ c
 
--- the sum of l - e - p over the jobs below m
+-- the sum of l - e - p over the jobs below m; a window that is too short counts 0
 unfoldable pub slack : List ℕ → Win → ℕ → ℕ
 slack p W zero = 0
 slack p W (suc m) = slack p W m + (W .l ! m - (W .e ! m + p ! m))

@@ -1,12 +1,12 @@
--- The call's answer is the answer table's: a refusal by tests 1 to 3, a clash where a window is too short, else what the work leaves, with the windows as submitted unless it settled,
--- and the log cleared where the room is short.
+-- The call's answer is the answer table's: a refusal by tests 1 to 3, a clash where a window is too short, else what the work leaves, with the windows
+-- as submitted unless it settled, and the log cleared where the room is short.
 use Prim.Native.Nat.{ℕ, zero, suc}
 use native.Mathlib.Omega.{arith}
 use mathlib.Core.Path.{_≡_, refl, sym, ap, ap₂, subst, _∙_}
 use mathlib.Core.List.{List, [], _∷_, _++_}
 use lib.ListN.{length, take}
 use lib.Seq.{take-all}
-use Rattle.narrowing.specs.Windows.{Win, win, LowestShort}
+use Rattle.narrowing.specs.Windows.{Win, win}
 use Rattle.narrowing.specs.Run.{Out, settled, clash, short}
 use Rattle.answers.specs.declared.Answer.{Answer}
 use Rattle.answers.specs.Said.{Word, said, says}
@@ -14,11 +14,11 @@ use Rattle.journal.specs.Journal.{cleared}
 use Rattle.joblist.specs.Limits.{jobs, fourLists, supply}
 use Rattle.joblist.specs.GoodList.{refusal}
 use Rattle.joblist.proofs.Copies.{over, over-whole}
-use Rattle.timetable.specs.Table.{Call, call, Good, refusalOf, After, leaves, ended, tabled, narrowed}
+use Rattle.timetable.specs.Table.{Call, call, Good, TooShort, refusalOf, After, leaves, ended, tabled, narrowed}
 use Rattle.timetable.specs.Promise.{Narrows}
 use Rattle.timetable.proofs.Calls.{good-call, call-good}
 use Rattle.timetable.proofs.Meaning.{narrows}
-use Rattle.timetable.proofs.Short.{short-row}
+use Rattle.timetable.proofs.TooShort.{too-short-row}
 use Rattle.planner.specs.Work.{EndsAs, ran, Works}
 
 -- what narrowing leaves, by the work's answer: the windows, and the log
@@ -69,8 +69,8 @@ module _ (c : Call) where
   refused k e h = subst (Narrows c) (ap (tabled c) (sym (number-is k e)) ∙ by-refusal k h) (narrows c)
 
   -- none does, and a window is too short
-  pub clashed : Good c → (j : ℕ) → LowestShort (jobs (c .win)) (c .p) (c .win) j → Narrows c (leaves (says (Answer.Clash 0 j)) (c .win) (c .log))
-  clashed g j s = subst (Narrows c) (short-row c (narrowed c) (narrows c) j g s) (narrows c)
+  pub clashed : Good c → (j : ℕ) → TooShort c j → Narrows c (leaves (says (Answer.Clash 0 j)) (c .win) (c .log))
+  clashed g j s = subst (Narrows c) (too-short-row c (narrowed c) (narrows c) j g s) (narrows c)
 
   -- the work is done
   pub finished : Good c → (a : Answer) (W : Win) (log : List ℕ) → Works c a W log → Narrows c (leaves (says a) (winBy c a W) (logBy c a log))

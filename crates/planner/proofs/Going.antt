@@ -13,7 +13,7 @@ use Rattle.lists.specs.Tests.{only}
 use Rattle.narrowing.specs.Windows.{Win, Side, early, late, closes, sideOf, Long}
 use Rattle.narrowing.specs.Search.{Search, Move, move, after}
 use Rattle.narrowing.specs.Run.{first, resume, Out, settled, clash, short, push, ends, work, run}
-use Rattle.narrowing.proofs.Short.{run-long}
+use Rattle.narrowing.proofs.TooShort.{run-long}
 use Rattle.narrowing.proofs.Walk.{made, resume-early, resume-late, resume-end, resume-start, walk-early, walk-late, walk-round, walk-end, walk-move-early, walk-move-late, written, written-push, written-settled, written-clash, written-more}
 use Rattle.planner.specs.declared.rounds.Place.{Place}
 use Rattle.planner.specs.Places.{place, pickPlace, firstPlace, onwardOf}

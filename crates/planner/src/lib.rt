@@ -54,7 +54,7 @@ pub fn narrow(
     if number != 0 {
         return Answer::Refused(number);
     }
-    let short = joblist::lowest_short(est, lct, dur);
+    let short = joblist::lowest_too_short(est, lct, dur);
     if short < est.len() {
         return Answer::Clash(0, short);
     }

@@ -96,8 +96,8 @@ fn take_turn(
     }
 }
 
-// The work of a good list whose windows are long enough: turns until a round has changed nothing, a move closes a window, or there is no room. What falls with each turn is the
-// room left, then whether another round is to follow, then what is left of this one.
+// The work of a good list whose windows are long enough: turns until a round has changed nothing, a move closes a window, or there is no room. What
+// falls with each turn is the room left, then whether another round is to follow, then what is left of this one.
 pub fn work(
     est: &mut [u32],
     lct: &mut [u32],

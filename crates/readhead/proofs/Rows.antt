@@ -1,6 +1,6 @@
 -- The definition meets the promise; from the promise alone each row of the answer table is given exactly when it says so, two answers are
--- equal, as Rattle values too, and a pair is a job's earliest start and a job's latest end.
-use Prim.Native.Nat.{ℕ, zero, suc, _≤_, _<_}
+-- equal, as Rattle values too, a pair is a job's earliest start and a job's latest end, and a list with a window that is too short gets one.
+use Prim.Native.Nat.{ℕ, zero, suc, _+_, _≤_, _<_}
 use native.Mathlib.Omega.{arith}
 use mathlib.Core.Path.{_≡_, refl, sym, ap, subst, _∙_}
 use mathlib.Core.List.{List, [], _∷_}
@@ -13,7 +13,7 @@ use Rattle.joblist.specs.GoodList.{Given, refusal}
 use Rattle.joblist.specs.Limits.{jobs, threeLists}
 use Rattle.joblist.proofs.Refusals.{refusal-exactly, good, refused-none}
 use Rattle.lists.specs.Lists.{_!_}
-use Rattle.narrowing.specs.Windows.{Win, LowestShort}
+use Rattle.narrowing.specs.Windows.{Win}
 use Rattle.readhead.specs.Overload.{NoneOverloaded, FirstPair, Found, nothing, overload, foundSaid, Finds}
 use Rattle.readhead.specs.Promise.{Good, refusalOf, tabled, checked, Overloads}
 use Rattle.readhead.proofs.Pairs.{overload-finds, overload-is, none-sets, none-pairs, first-bounds, alone-overloaded, pair-apart}
@@ -128,11 +128,11 @@ module _ (W : Win) (p : List ℕ) where
         go (Found.pair x y) e = inr (x, y, h .answered ∙ found g ∙ ap foundSaid e)
 
     -- a good list with a window that is too short gets a pair
-    pub short-found : Good W p → (j : ℕ) → LowestShort (jobs W) p W j → (x : ℕ) × (y : ℕ) × (a ≡ said Word.overload (x ∷ y ∷ []))
-    short-found g j s = go (decided g)
+    pub too-short-found : Good W p → (j : ℕ) → j < jobs W → W .l ! j < W .e ! j + p ! j → (x : ℕ) × (y : ℕ) × (a ≡ said Word.overload (x ∷ y ∷ []))
+    too-short-found g j b s = go (decided g)
       where
         go : (a ≡ said Word.none []) ⊎ ((x : ℕ) × (y : ℕ) × (a ≡ said Word.overload (x ∷ y ∷ []))) → (x : ℕ) × (y : ℕ) × (a ≡ said Word.overload (x ∷ y ∷ []))
-        go (inl e) = absurd (h .none .0 e .1 (λ k. eqb k j) (alone-overloaded (jobs W) p W j (s .listed) (s .short)))
+        go (inl e) = absurd (h .none .0 e .1 (λ k. eqb k j) (alone-overloaded (jobs W) p W j b s))
         go (inr z) = z
 
     -- a pair is the earliest start of a job and the latest end of a job

@@ -6,21 +6,21 @@ use mathlib.Core.List.{List, [], _∷_, _++_}
 use mathlib.Core.Option.{none}
 use lib.ListN.{length, drop, length-append, length-drop}
 use borrow.Author.Tests.{lt-ltb}
-use Rattle.narrowing.specs.Windows.{Win, Long}
-use Rattle.narrowing.proofs.Short.{short-exactly}
+use Rattle.narrowing.specs.Windows.{Win}
+use Rattle.narrowing.proofs.TooShort.{finds-too-short}
 use Rattle.joblist.specs.Limits.{jobs}
 use Rattle.answers.specs.Said.{Word, said}
 use Rattle.journal.specs.Journal.{roomOf, records}
-use Rattle.timetable.specs.Table.{Call, Good, refusalOf}
+use Rattle.timetable.specs.Table.{Call, Good, AllLong, TooShort, refusalOf}
 use Rattle.tabling.proofs.Good.{durations-sized}
 use Rattle.replay.specs.declared.Ended.{Ended}
 use Rattle.replay.specs.Replay.{Verdict, holds, clashes, rejected, replay, verdictOn, Checked, finds, judged, refuses, rows, checked}
 use Rattle.replay.specs.Promise.{Checks}
 use Rattle.replay.specs.Lent.{jobsIn}
 use Rattle.replay.specs.Ended.{verdict}
-use Rattle.replay.specs.Fate.{Shut}
 use Rattle.replay.proofs.Meaning.{checks}
-use Rattle.replay.proofs.Rows.{good-judged, short-unclaimed, short-claimed}
+use Rattle.replay.proofs.Rows.{good-judged}
+use Rattle.replay.proofs.TooShort.{too-short-unclaimed, too-short-claimed}
 
 -- ---- the end of a replay that left the windows U
 
@@ -56,14 +56,14 @@ module _ (c : Call) (count : ℕ) where
 
   module _ (g : Good c) (h : count ≤ roomOf (c .log)) where
     -- a window is too short
-    pub row-short : (j : ℕ) → Shut c 0 j → count ≡ 0 → finds (said Word.clash (count ∷ j ∷ [])) (c .win) ≡ checked c count
-    row-short j s e = sym (short-unclaimed c count (checked c count) (checks c count) g h j s e)
+    pub row-too-short : (j : ℕ) → TooShort c j → count ≡ 0 → finds (said Word.clash (0 ∷ j ∷ [])) (c .win) ≡ checked c count
+    row-too-short j s e = sym (too-short-unclaimed c count (checked c count) (checks c count) g j s e)
 
-    pub row-claimed : (j : ℕ) → Shut c 0 j → 0 < count → finds (said Word.rejected (0 ∷ 20 ∷ [])) (c .win) ≡ checked c count
-    row-claimed j s b = sym (short-claimed c count (checked c count) (checks c count) g h j s b)
+    pub row-claimed : (j : ℕ) → TooShort c j → 0 < count → finds (said Word.rejected (0 ∷ 20 ∷ [])) (c .win) ≡ checked c count
+    row-claimed j s b = sym (too-short-claimed c count (checked c count) (checks c count) g j s b h)
 
     -- none is: the verdict is the replay's
-    pub row-judged : Long (jobs (c .win)) (c .p) (c .win)
+    pub row-judged : AllLong c
         → judged c count (replay (jobsIn (length (c .p)) (c .p) (c .r) (c .cap)) (c .win) 0 (records (c .log) 0 count)) ≡ checked c count
     unfolding verdictOn
-    row-judged L = rw (durations-sized g, good-judged c count g h, short-exactly (jobs (c .win)) (c .p) (c .win) none L)
+    row-judged L = rw (durations-sized g, good-judged c count g h, finds-too-short (jobs (c .win)) (c .p) (c .win) none L)

@@ -9,11 +9,11 @@ use mathlib.Core.Logic.{_⊎_, inl, inr, _↔_}
 use mathlib.Core.Option.{Option, none, some}
 use borrow.Author.Tests.{ltb-true, ltb-false, lt-ltb, le-ltb}
 use Rattle.lists.specs.Lists.{_!_}
-use Rattle.narrowing.specs.Windows.{Win, closes, Long, LowestShort, lowestShort}
-use Rattle.narrowing.proofs.Short.{ShortSays, short-is, short-exactly}
+use Rattle.narrowing.specs.Windows.{Win, closes, lowestTooShort}
+use Rattle.narrowing.proofs.TooShort.{TooShortSays, too-short-is, finds-too-short}
 use Rattle.journal.specs.Journal.{records}
 use Rattle.timetable.specs.Time.{Jobs}
-use Rattle.timetable.specs.Table.{Call, jobsOf}
+use Rattle.timetable.specs.Table.{Call, jobsOf, AllLong, TooShort}
 use Rattle.replay.specs.Codes.{Coded, code}
 use Rattle.replay.specs.Facts.{jobOf, GoodRecord}
 use Rattle.replay.specs.Replay.{changed, Verdict, holds, clashes, rejected, closing, orBad, orClosed, replay, verdictOn}
@@ -82,17 +82,17 @@ module _ (c : Call) where
   closing-from h m x = open-from h (suc m) (x .before) ∙ at-closed h m (x .takes) (x .closed)
 
   -- where no window is too short the verdict is the replay's, else that of a closed window
-  long-verdict : (m : ℕ) → Long (J .n) (c .p) (c .win) → verdict m ≡ from 0 m
+  long-verdict : (m : ℕ) → AllLong c → verdict m ≡ from 0 m
   unfolding verdict from reached verdictOn
-  long-verdict m L = rw (short-exactly (J .n) (c .p) (c .win) none L)
+  long-verdict m L = rw (finds-too-short (J .n) (c .p) (c .win) none L)
 
-  short-verdict : (m j : ℕ) → LowestShort (J .n) (c .p) (c .win) j → verdict m ≡ closing 0 j (records (c .log) 0 m)
+  too-short-verdict : (m j : ℕ) → TooShort c j → verdict m ≡ closing 0 j (records (c .log) 0 m)
   unfolding verdict verdictOn
-  short-verdict m j s = rw (short-exactly (J .n) (c .p) (c .win) (some j) s)
+  too-short-verdict m j s = rw (finds-too-short (J .n) (c .p) (c .win) (some j) s)
 
   -- a window is closed after i records, and so many are left
   shut-verdict : (i j m : ℕ) → Shut c i j → verdict (i + m) ≡ closing i j (records (c .log) i m)
-  shut-verdict zero j m x = let e : 0 + m ≡ m = omega arith in rw e (short-verdict m j x)
+  shut-verdict zero j m x = let e : 0 + m ≡ m = omega arith in rw e (too-short-verdict m j x)
   shut-verdict (suc h) j m x =
       let e : suc h + m ≡ h + suc m = omega arith in
       long-verdict (suc h + m) (x .0 .before .long) ∙ ap (from 0) e ∙ closing-from h m (x .0) ∙ rw (x .1)
@@ -145,18 +145,18 @@ module _ (c : Call) where
           rw (at-bad i m k e)
           (omega arith, inr (o, code-exactly J (reached c i) (nth c i) (suc k) .0 e, λ z. omega arith))
 
-  closing-fate : (j m : ℕ) → LowestShort (J .n) (c .p) (c .win) j → Fate c m (closing 0 j (records (c .log) 0 m))
+  closing-fate : (j m : ℕ) → TooShort c j → Fate c m (closing 0 j (records (c .log) 0 m))
   closing-fate j zero x = rw (closing-one 0 j) x
   closing-fate j (suc m) x = rw (closing-more 0 j m) (omega arith, inl (j, x, refl))
 
   verdict-fate : (count : ℕ) → Fate c count (verdict count)
-  verdict-fate count = go (lowestShort (J .n) (c .p) (c .win)) (short-is (J .n) (c .p) (c .win))
+  verdict-fate count = go (lowestTooShort (J .n) (c .p) (c .win)) (too-short-is (J .n) (c .p) (c .win))
     where
-      go : (x : Option ℕ) → ShortSays (J .n) (c .p) (c .win) x → Fate c count (verdict count)
+      go : (x : Option ℕ) → TooShortSays (J .n) (c .p) (c .win) x → Fate c count (verdict count)
       go none L =
           let z : 0 + count ≡ count = omega arith in
           rw (long-verdict count L) (fate-at (0 + count) count z (from 0 count) (fate-from count 0 (record { long = L; held = λ h b. absurd (omega arith) })))
-      go (some j) x = rw (short-verdict count j x) (closing-fate j count x)
+      go (some j) x = rw (too-short-verdict count j x) (closing-fate j count x)
 
   -- the verdict on the first so many records
   pub fate-exactly : (count : ℕ) (v : Verdict) → (verdictOn (jobsOf c) (c .win) (records (c .log) 0 count) ≡ v) ↔ Fate c count v

@@ -5,6 +5,7 @@ pub mod Meaning
 pub mod Taken
 pub mod Logs
 pub mod Rows
+pub mod TooShort
 pub mod Again
 pub mod Steps
 pub mod Chain

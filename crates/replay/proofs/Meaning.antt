@@ -11,7 +11,7 @@ use borrow.Author.Tests.{lt-ltb}
 use Rattle.lists.specs.Lists.{_!_}
 use Rattle.narrowing.specs.Windows.{Win}
 use Rattle.narrowing.proofs.Steps.{step-none, closed-none-left}
-use Rattle.narrowing.proofs.Short.{short-none}
+use Rattle.timetable.proofs.TooShort.{too-short-none}
 use Rattle.narrowing.proofs.Schedules.{step-schedule, none-schedule}
 use Rattle.answers.specs.Said.{Word}
 use Rattle.answers.proofs.Same.{not-said}
@@ -57,7 +57,7 @@ module _ (c : Call) where
 
   -- a closed window leaves no stable windows that hold their jobs
   shut-none : (count j : ℕ) → Shut c count j → NoneIn c
-  shut-none zero j x = short-none (jobsOf c .n) (c .p) (c .win) (Applies (jobsOf c)) j x
+  shut-none zero j x = too-short-none c j (x .listed) (x .shorter)
   shut-none (suc h) j (y, q) =
       step-none (jobsOf c .n) (c .p) (Applies (jobsOf c)) (c .win) (reached c (suc h)) (reached-step c (suc h) (closing-takes h y))
       (closed-none-left (jobsOf c .n) (c .p) (Applies (jobsOf c)) (reached c (suc h)) _ (y .takes .in-range .job) (lt-ltb _ _ (y .closed)))

@@ -25,7 +25,7 @@ use Rattle.timetable.specs.Table.{Call, jobsOf, Good, refusalOf}
 use Rattle.timetable.proofs.Calls.{good-call, call-good}
 use Rattle.replay.specs.Facts.{jobOf, side, timeOf}
 use Rattle.replay.specs.Replay.{changed, Verdict, holds, clashes, rejected, verdictOn, Checked, finds, judged, refuses, orSix, rows, checked}
-use Rattle.replay.specs.Fate.{reached, Open, Shut, Fate}
+use Rattle.replay.specs.Fate.{reached, Open, Fate}
 use Rattle.replay.specs.Promise.{Checks}
 use Rattle.replay.proofs.Fates.{fate-exactly}
 
@@ -92,13 +92,6 @@ module _ (c : Call) (count : ℕ) where
     -- a verdict with its facts gives its answer
     pub fate-answers : (v : Verdict) → Good c → count ≤ roomOf (c .log) → Fate c count v → a ≡ judged c count v
     fate-answers v g b f = h .answered ∙ good-judged g b ∙ ap (judged c count) (fate-exactly c count v .1 f)
-
-    -- a window is too short (document 02, Item 3): a clash of the lowest such job where no record is claimed, else the first is rejected
-    pub short-unclaimed : Good c → count ≤ roomOf (c .log) → (j : ℕ) → Shut c 0 j → count ≡ 0 → a ≡ finds (said Word.clash (count ∷ j ∷ [])) (c .win)
-    short-unclaimed g b j s e = fate-answers (clashes j) g b (rw e s)
-
-    pub short-claimed : Good c → count ≤ roomOf (c .log) → (j : ℕ) → Shut c 0 j → 0 < count → a ≡ finds (said Word.rejected (0 ∷ 20 ∷ [])) (c .win)
-    short-claimed g b j s d = fate-answers (rejected 0 20) g b (d, inl (j, s, refl))
 
     -- an answer other than a refusal is a verdict with its facts
     verdict-of : (x : Said) → a .says ≡ x → (x .word ≡ Word.refused → ⊥) → Good c × (count ≤ roomOf (c .log)) × (v : Verdict) × Fate c count v × (judged c count v .says ≡ x)

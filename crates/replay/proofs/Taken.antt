@@ -15,11 +15,11 @@ use Rattle.lists.specs.Sums.{total}
 use Rattle.lists.proofs.Tests.{both-true, true-both, only-cong}
 use Rattle.lists.proofs.Sums.{total-cong}
 use Rattle.lists.proofs.Lists.{set-any}
-use Rattle.narrowing.specs.Windows.{Win, Side, early, late, number, sideOf, Long, moved, closes, LowestShort}
+use Rattle.narrowing.specs.Windows.{Win, Side, early, late, number, sideOf, Long, moved, closes, LowestTooShort}
 use Rattle.narrowing.specs.Search.{Move, move}
 use Rattle.narrowing.specs.Run.{Out, settled, clash, short, push, work, run}
 use Rattle.narrowing.proofs.Moves.{side-number}
-use Rattle.narrowing.proofs.Short.{short-exactly, run-by}
+use Rattle.narrowing.proofs.TooShort.{finds-too-short, run-by}
 use Rattle.narrowing.proofs.Runs.{work-ind}
 use Rattle.members.specs.Members.{setWords, has, setOf}
 use Rattle.members.proofs.Sets.{has-setOf, has-beyond}
@@ -117,7 +117,7 @@ unfolding entry
 entry-job J m = refl
 
 -- what the replay of an end's records comes to
-abbrev pub Replays : Jobs → Win → Out → Type 0
+abbrev Replays : Jobs → Win → Out → Type 0
 Replays J W (settled U ms) = (i : ℕ) → replay J W i (map (entry J) ms) ≡ holds U
 Replays J W (clash j ms) = (i : ℕ) → replay J W i (map (entry J) ms) ≡ clashes j
 Replays J W short = Unit {0}
@@ -158,13 +158,13 @@ Judges J W short = Unit {0}
 
 long-judges : (J : Jobs) (W : Win) (o : Out) → Long (J .n) (J .p) W → Replays J W o → Judges J W o
 unfolding verdictOn
-long-judges J W (settled U ms) L f = rw (short-exactly (J .n) (J .p) W none L) (f 0)
-long-judges J W (clash j ms) L f = rw (short-exactly (J .n) (J .p) W none L) (f 0)
+long-judges J W (settled U ms) L f = rw (finds-too-short (J .n) (J .p) W none L) (f 0)
+long-judges J W (clash j ms) L f = rw (finds-too-short (J .n) (J .p) W none L) (f 0)
 long-judges J W short L f = tt
 
-short-judges : (J : Jobs) (W : Win) (j : ℕ) → LowestShort (J .n) (J .p) W j → Judges J W (clash j [])
+too-short-judges : (J : Jobs) (W : Win) (j : ℕ) → LowestTooShort (J .n) (J .p) W j → Judges J W (clash j [])
 unfolding verdictOn
-short-judges J W j s = rw (short-exactly (J .n) (J .p) W (some j) s)
+too-short-judges J W j s = rw (finds-too-short (J .n) (J .p) W (some j) s)
 
 module _ (J : Jobs) (few : J .n ≤ 32 * setWords) where
   good-entry : (W : Win) (j : ℕ) (s : Side) (t : ℕ) → Long (J .n) (J .p) W → j < J .n → Applies J W j s (bound s t) → Small J W → code J W (entry J (move W j s t)) ≡ 0
@@ -188,4 +188,4 @@ module _ (J : Jobs) (few : J .n ≤ 32 * setWords) where
   pub run-judges : (room : ℕ) (W : Win) → ((k : ℕ) → W .l ! k ≤ mostTime) → Judges J W (run (search J) room W)
   unfolding search
   run-judges room W h =
-      run-by (search J) room W (Judges J W) (λ L. long-judges J W (work (search J) room W 0 early) L (work-replays room W L h)) (λ j s. short-judges J W j s)
+      run-by (search J) room W (Judges J W) (λ L. long-judges J W (work (search J) room W 0 early) L (work-replays room W L h)) (λ j s. too-short-judges J W j s)

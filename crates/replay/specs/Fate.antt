@@ -5,9 +5,9 @@ use mathlib.Core.Path.{_≡_}
 use mathlib.Core.List.{List}
 use mathlib.Core.Logic.{_⊎_}
 use Rattle.lists.specs.Lists.{_!_}
-use Rattle.narrowing.specs.Windows.{Win, Long, LowestShort}
+use Rattle.narrowing.specs.Windows.{Win}
 use Rattle.journal.specs.Journal.{recordAt}
-use Rattle.timetable.specs.Table.{Call, jobsOf}
+use Rattle.timetable.specs.Table.{Call, jobsOf, AllLong, TooShort}
 use Rattle.replay.specs.Codes.{Coded}
 use Rattle.replay.specs.Facts.{jobOf, GoodRecord}
 use Rattle.replay.specs.Replay.{changed, Verdict, holds, clashes, rejected}
@@ -35,7 +35,7 @@ Closed c i = reached c (suc i) .l ! jobOf (nth c i) < reached c (suc i) .e ! job
 
 -- no window is too short, and the first i records are good and close none
 pub record Open (c : Call) (i : ℕ) : Type 0 where
-  pub long : Long (jobsOf c .n) (c .p) (c .win)
+  pub long : AllLong c
   pub held : (h : ℕ) → h < i → Takes c h × Held c h
 
 -- record h is the first that closes a window
@@ -46,7 +46,7 @@ pub record Closing (c : Call) (h : ℕ) : Type 0 where
 
 -- job j's window is closed after i records: before any it is the lowest that is too short, else the last of them is the first to close one
 abbrev pub Shut : Call → ℕ → ℕ → Type 0
-Shut c zero j = LowestShort (jobsOf c .n) (c .p) (c .win) j
+Shut c zero j = TooShort c j
 Shut c (suc h) j = Closing c h × (j ≡ jobOf (nth c h))
 
 -- the verdict on so many records

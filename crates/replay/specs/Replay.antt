@@ -6,7 +6,7 @@ use mathlib.Core.List.{List, [], _∷_}
 use mathlib.Core.Option.{Option, none, some}
 use lib.Dec.{ltb}
 use Rattle.lists.specs.Lists.{_!_}
-use Rattle.narrowing.specs.Windows.{Win, moved, closes, lowestShort}
+use Rattle.narrowing.specs.Windows.{Win, moved, closes, lowestTooShort}
 use Rattle.answers.specs.Said.{Word, Said, said}
 use Rattle.journal.specs.Journal.{roomOf, recordAt, records}
 use Rattle.timetable.specs.Time.{Jobs, bound}
@@ -48,14 +48,14 @@ replay J W i (x ∷ xs) =
     orBad i (code J W x) good
 
 -- where a window is too short, it is closed before the first record
-abbrev pub orShort : Option ℕ → List (List ℕ) → Verdict → Verdict
-orShort none xs v = v
-orShort (some j) xs v = closing 0 j xs
+abbrev pub orTooShort : Option ℕ → List (List ℕ) → Verdict → Verdict
+orTooShort none xs v = v
+orTooShort (some j) xs v = closing 0 j xs
 
 -- all records, from the submitted windows
 unfoldable pub verdictOn : Jobs → Win → List (List ℕ) → Verdict
-unfolding lowestShort replay
-verdictOn J W xs = let replayed = replay J W 0 xs in orShort (lowestShort (J .n) (J .p) W) xs replayed
+unfolding lowestTooShort replay
+verdictOn J W xs = let replayed = replay J W 0 xs in orTooShort (lowestTooShort (J .n) (J .p) W) xs replayed
 
 -- what the checker answers and leaves in the windows; the log is only read
 pub record Checked : Type 0 where

@@ -87,9 +87,10 @@ fn on_copies(
     }
 }
 
-// What a log comes to, replayed from the submitted windows. 1 to 3 and 6 refuse the call. Where a window is too short the call is a clash, and a
-// record that is claimed all the same is rejected. Else the first bad record is rejected with its place and code, a last record that closes a window is a
-// clash; otherwise the log holds, and the windows become those that it reaches. Any number may be claimed: it is compared, and never multiplied.
+// What a log comes to, replayed from the submitted windows. 1 to 3 and 6 refuse the call. Where a window is too short, the answer is a clash of the
+// lowest such job if no record is claimed, else the first is rejected with code 20. Where none is, the first bad record is rejected with its place and
+// code, and a last record that closes a window is a clash; if there is neither, the log holds, and the windows become those that it reaches. Any number
+// may be claimed: it is compared, and never multiplied.
 pub fn check_log(
     est: &mut [u32],
     lct: &mut [u32],
@@ -108,12 +109,12 @@ pub fn check_log(
     if journal::room(log) < count {
         return CheckAnswer::Refused(6);
     }
-    let short = joblist::lowest_short(est, lct, dur);
+    let short = joblist::lowest_too_short(est, lct, dur);
     if short < est.len() {
         if 0 < count {
             return CheckAnswer::Rejected(0, 20);
         }
-        return CheckAnswer::Clash(count, short);
+        return CheckAnswer::Clash(0, short);
     }
     on_copies(est, lct, dur, dem, cap, log, count)
 }

@@ -1,14 +1,13 @@
--- The call that a search is asked of, what it looks for, and the time that each of its steps looks at.
+-- The call that a search is asked of, what it asks of its windows, what it looks for, and the time that each of its steps looks at.
 use Prim.Native.Nat.{ℕ, suc, _+_}
 use mathlib.Core.Path.{_≡_}
 use mathlib.Core.Bool.{Bool}
 use mathlib.Core.List.{List, []}
 use mathlib.Core.Option.{Option}
-use Rattle.narrowing.specs.Windows.{Side, early, late, win, Long}
-use Rattle.joblist.specs.Limits.{jobs}
+use Rattle.narrowing.specs.Windows.{Side, early, late, win}
 use Rattle.timetable.specs.Time.{load}
 use Rattle.timetable.specs.Search.{crowded, best}
-use Rattle.timetable.specs.Table.{Call, call, jobsOf, Good}
+use Rattle.timetable.specs.Table.{Call, call, jobsOf, Good, AllLong}
 
 -- the lists lent and the capacity; a log plays no part in a search
 abbrev pub asked : List ℕ → List ℕ → List ℕ → List ℕ → ℕ → Call
@@ -17,7 +16,7 @@ asked est lct dur dem cap = call (win est lct) dur dem cap []
 -- a good list whose windows are all long enough, so that no latest start lies below its earliest
 pub record Workable (c : Call) : Type 0 where
   pub good : Good c
-  pub long : Long (jobs (c .win)) (c .p) (c .win)
+  pub long : AllLong c
 
 -- the demands of the jobs other than j whose sure part holds t
 abbrev pub loadOf : Call → ℕ → ℕ → ℕ

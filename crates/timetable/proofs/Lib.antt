@@ -6,7 +6,7 @@ pub mod Order
 pub mod Reasons
 pub mod Meaning
 pub mod Rows
-pub mod Short
+pub mod TooShort
 pub mod Again
 pub mod Reordered
 pub mod Entries

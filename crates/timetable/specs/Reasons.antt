@@ -27,7 +27,8 @@ pub record Settles (c : Call) (a : After) (n : ℕ) : Type 0 where
   pub led : Led (search (jobsOf c)) (c .win) (logs .moves) (a .win)
   pub most : n ≤ slack (c .p) (c .win) (jobsOf c .n)
 
--- clash: with no record, j is the lowest job whose window is too short; else the last move is job j's and closes its window. There is at most one more
+-- clash: with no record, j is the lowest job whose window is too short; else the last move is job j's and closes its window;
+-- there are at most as many as that sum and one more
 pub record Clashes (c : Call) (a : After) (n j : ℕ) : Type 0 where
   pub logs : Logged c a n
   pub clashed : Clashed (search (jobsOf c)) (c .win) (logs .moves) j

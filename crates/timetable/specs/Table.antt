@@ -2,7 +2,7 @@
 use Prim.Native.Nat.{ℕ, zero, suc}
 use mathlib.Core.List.{List, [], _∷_, map}
 use lib.ListN.{length}
-use Rattle.narrowing.specs.Windows.{Win}
+use Rattle.narrowing.specs.Windows.{Win, Long, LowestTooShort}
 use Rattle.narrowing.specs.Run.{Out, settled, clash, short, run}
 use Rattle.answers.specs.Said.{Word, Said, said}
 use Rattle.joblist.specs.Limits.{Column, jobs, fourLists, supply}
@@ -33,6 +33,13 @@ Good c = GoodList (jobs (c .win)) (fourLists (c .win) (c .p) (c .r)) (supply (c 
 unfoldable pub refusalOf : Call → ℕ
 unfolding refusal
 refusalOf c = refusal (jobs (c .win)) (fourLists (c .win) (c .p) (c .r)) (supply (c .cap))
+
+-- every window is long enough for its job; or j is the lowest job whose window is too short
+abbrev pub AllLong : Call → Type 0
+AllLong c = Long (jobs (c .win)) (c .p) (c .win)
+
+abbrev pub TooShort : Call → ℕ → Type 0
+TooShort c j = LowestTooShort (jobs (c .win)) (c .p) (c .win) j
 
 -- what a call leaves: its answer, the windows and the log
 pub record After : Type 0 where

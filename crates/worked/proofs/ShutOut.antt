@@ -34,7 +34,7 @@ use Rattle.worked.specs.Rows.{job, line, windows}
 use Rattle.worked.specs.Cases.{lent}
 use Rattle.worked.specs.Checks.{with, pair}
 
--- cases 2, 5, 6 and 9 of the runs on the record, the last with an empty log
+-- cases 2, 5 and 6 of the runs on the record
 abbrev case2 : Call
 case2 = lent 5 (job 2 10 3 2 ∷ job 2 7 3 2 ∷ job 2 8 4 2 ∷ []) 1
 
@@ -43,9 +43,6 @@ case5 = lent 1 (job 0 2 2 1 ∷ job 2 4 2 1 ∷ []) 8
 
 abbrev case6 : Call
 case6 = lent 1 (job 0 3 1 2 ∷ []) 3
-
-abbrev case9 : Call
-case9 = lent 1 (job 3 6 4 1 ∷ []) 0
 
 -- ---- refusing every list: with room for the work the answer is settled or clash
 
@@ -57,25 +54,12 @@ room5 : Room case5
 unfolding needs roomOf
 room5 = omega arith
 
-not-refused : (a : After) → (a .says .word ≡ Word.settled) ⊎ (a .says .word ≡ Word.clash) → a .says .word ≡ Word.refused → ⊥
-not-refused a (inl x) e = not-said Word.settled Word.refused (λ z. omega arith) (sym x ∙ e)
-not-refused a (inr x) e = not-said Word.clash Word.refused (λ z. omega arith) (sym x ∙ e)
-
 pub refusing-all : (a : After) → (Good case5 → Narrowest case5 a) → a .says .word ≡ Word.refused → ⊥
-refusing-all a h e = not-refused a (h good5 .decided room5) e
-
--- ---- refusing a list for a window that is too short (02, Item 3), were it for want of room: no record is needed
-
-good9 : Good case9
-unfolding refusalOf
-good9 = good-call case9 refl
-
-room9 : Room case9
-unfolding needs roomOf
-room9 = omega arith
-
-pub refusing-short : (a : After) → (Good case9 → Narrowest case9 a) → a .says .word ≡ Word.refused → ⊥
-refusing-short a h e = not-refused a (h good9 .decided room9) e
+refusing-all a h e = go (h good5 .decided room5)
+  where
+    go : (a .says .word ≡ Word.settled) ⊎ (a .says .word ≡ Word.clash) → ⊥
+    go (inl x) = not-said Word.settled Word.refused (λ z. omega arith) (sym x ∙ e)
+    go (inr x) = not-said Word.clash Word.refused (λ z. omega arith) (sym x ∙ e)
 
 -- ---- settling everything with nothing moved: on case 2 a rule still applies
 

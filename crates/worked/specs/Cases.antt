@@ -1,6 +1,7 @@
 -- Document 01's 'Runs on the record', cases 1 to 12, case 9 as Item 3 of document 02 has it; with capacity 0 and outside answers (numbers from 20:
--- 000's Example 1.27, 004's 4.1 and 4.2, a tie of latest ends), and windows that are too short (from 30). Of narrowing: capacity, jobs as e, l, p, r, the log's room in records; then the answer, each job's e and l, and the words of the
--- counted records. Every word of a log is 9 before. Of the overload check: the jobs, and the pair or none.
+-- 000's Example 1.27, 004's 4.1 and 4.2, a tie of latest ends), and windows that are too short (from 30). Of narrowing: capacity, jobs as e, l, p, r, the
+-- log's room in records; then the answer, each job's e and l, and the words of the counted records. Every word of a log is 9 before. Of the overload
+-- check: the jobs, and the pair or none.
 use Prim.Native.Nat.{ℕ, _*_}
 use mathlib.Core.List.{List, [], _∷_, _++_}
 use lib.ListN.{replicate}
@@ -23,8 +24,7 @@ clashes number cap js room count j ws =
 
 -- a clash without a record: job j's window is too short
 abbrev pub tooShort : ℕ → ℕ → List Job → ℕ → ℕ → Row After
-tooShort number cap js room j =
-    record { number = number; done = narrowed (lent cap js room); due = leaves (said Word.clash (0 ∷ j ∷ [])) (windows js) (upon room []) }
+tooShort number cap js room j = clashes number cap js room 0 j []
 
 abbrev pub refuses : ℕ → ℕ → List Job → ℕ → ℕ → List ℕ → Row After
 refuses number cap js room k log =
@@ -88,4 +88,8 @@ runs =
     overloaded 35 (job 6 9 2 1 ∷ job 5 3 0 1 ∷ []) 5 3 ∷
     overloaded 36 (job 3 6 4 1 ∷ job 0 4 2 1 ∷ job 0 4 2 1 ∷ job 0 4 2 1 ∷ []) 0 4 ∷
     overloaded 37 (job 7 2 1 1 ∷ job 0 4 2 1 ∷ job 0 4 2 1 ∷ job 0 4 2 1 ∷ []) 7 2 ∷
+    -- a = b; a tie of windows that are too short; windows that just hold jobs of duration 0
+    overloaded 38 (job 5 5 1 1 ∷ []) 5 5 ∷
+    overloaded 39 (job 4 3 0 1 ∷ job 6 3 0 1 ∷ job 5 3 1 1 ∷ []) 6 3 ∷
+    fine 40 (job 0 0 0 1 ∷ job 1 1 0 1 ∷ []) ∷
     []

@@ -1,5 +1,5 @@
--- Logs by hand for the checker: what holds, what clashes, refusal 6 and each code 20 to 26 (document 01, 'Answer table'; document 02, Item 3). A row's number is 40 for
--- holds, 41 for clash, the refusal's or the code else; then the capacity, the jobs, the claimed records and the log.
+-- Logs by hand for the checker: what holds, what clashes, refusal 6 and each code 20 to 26 (document 01, 'Answer table'; document 02, Item 3). A row's
+-- number is 40 for holds, 41 for clash, the refusal's or the code else; then the capacity, the jobs, the claimed records and the log.
 use Prim.Native.Nat.{ℕ}
 use mathlib.Core.List.{List, [], _∷_, _++_}
 use Rattle.answers.specs.Said.{Word, said}
@@ -46,7 +46,7 @@ checks =
     refusing 6 5 (job 2 4 3 2 ∷ []) 1 [] ∷
     clashing 5 (job 2 5 3 2 ∷ job 2 4 3 2 ∷ job 9 8 0 0 ∷ []) 0 (line 0 0 4 2 6) 1 ∷
     rejecting 20 0 5 (job 2 4 3 2 ∷ []) 1 (line 0 0 2 0 0) ∷
-    -- its window holds the moved job and its members; another's does not
+    -- the windows of the moved job and of its members hold them; another job's is too short
     rejecting 20 0 5 (job 2 10 3 2 ∷ job 2 7 3 2 ∷ job 2 8 4 2 ∷ job 9 8 0 0 ∷ []) 1 (line 0 0 4 2 6) ∷
     rejecting 20 1 1 four 2 (line 0 0 1 1 2 ++ line 0 0 1 1 2) ∷
     rejecting 21 0 5 two 1 (line 3 0 4 2 6) ∷

@@ -1,7 +1,7 @@
 -- `joblist::closed` meets its contract.
 use mathlib.Core.Path.{sym}
 use borrow.Author.Needs.{needs}
-use Rattle.joblist.proofs.Short.{closes-by, closes-below}
+use Rattle.joblist.proofs.TooShort.{closes-by, closes-below}
 use Rattle.joblist.proofs.closed.Statement.{statement}
 use Rattle.joblist.proofs.closed.Tie as tie
 

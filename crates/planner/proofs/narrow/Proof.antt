@@ -9,7 +9,7 @@ use lib.Seq.{length-take-le}
 use Rattle.narrowing.specs.Windows.{win}
 use Rattle.joblist.specs.Limits.{mostJobs}
 use Rattle.joblist.proofs.Copies.{saved-back}
-use Rattle.joblist.proofs.Short.{answer-short, answer-long}
+use Rattle.joblist.proofs.TooShort.{answer-too-short, answer-long}
 use Rattle.timetable.specs.Table.{Call, call, Good}
 use Rattle.tabling.specs.Search.{Workable}
 use Rattle.planner.proofs.Answered.{accepted, refused, clashed}
@@ -25,7 +25,7 @@ good : (d : tie.Else1) → Good (called d)
 good d = accepted (called d) _ (d .before .refusal .ensures) (d .if1 .left)
 
 workable : (d : tie.Else2) → Workable (called (d .before .before .before .before))
-workable d = record { good = good (d .before .before .before .before); long = answer-long _ _ _ _ (d .before .lowest-short .ensures) (d .if2 .left) }
+workable d = record { good = good (d .before .before .before .before); long = answer-long _ _ _ _ (d .before .lowest-too-short .ensures) (d .if2 .left) }
 
 few : (d : tie.Else2) → length (d .before .before .before .before .before .before .before .before .before .before .before .before .before .args .est .now) ≤ mostJobs
 few d = workable d .good .few
@@ -47,8 +47,8 @@ same-length-2 c = search needs
 returns : tie.Need-returns
 returns c = refused _ _ (c .before .refusal .ensures) (c .if1 .taken)
 
-lowest-short-requires : tie.Need-lowest-short-requires
-lowest-short-requires c κs = let g = good (c .before .before) in (g .sized .1 .0, g .sized .1 .1 .0)
+lowest-too-short-requires : tie.Need-lowest-too-short-requires
+lowest-too-short-requires c κs = let g = good (c .before .before) in (g .sized .1 .0, g .sized .1 .1 .0)
 
 same-length-3 : tie.Need-same-length-3
 same-length-3 c = search needs
@@ -57,7 +57,7 @@ same-length-4 : tie.Need-same-length-4
 same-length-4 c = search needs
 
 returns-2 : tie.Need-returns-2
-returns-2 c = clashed (called (c .before .before .before .before)) (good (c .before .before .before .before)) _ (answer-short _ _ _ _ (c .before .lowest-short .ensures) (c .if2 .taken))
+returns-2 c = clashed (called (c .before .before .before .before)) (good (c .before .before .before .before)) _ (answer-too-short _ _ _ _ (c .before .lowest-too-short .ensures) (c .if2 .taken))
 
 save-requires : tie.Need-save-requires
 save-requires c κs = (few (c .before .before), search needs)
@@ -106,7 +106,7 @@ narrow-spec =
     same-length
     same-length-2
     returns
-    lowest-short-requires
+    lowest-too-short-requires
     same-length-3
     same-length-4
     returns-2

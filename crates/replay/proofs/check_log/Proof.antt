@@ -4,11 +4,11 @@ use native.Mathlib.Omega.{arith}
 use mathlib.Core.Path.{sym, _∙_}
 use borrow.Author.Needs.{needs}
 use Rattle.narrowing.specs.Windows.{win}
-use Rattle.joblist.proofs.Short.{answer-short, answer-long}
+use Rattle.joblist.proofs.TooShort.{answer-too-short, answer-long}
 use Rattle.journal.specs.Journal.{roomOf}
 use Rattle.timetable.proofs.Calls.{good-call, call-good}
 use Rattle.timetable.specs.Table.{Call, call, Good, refusalOf}
-use Rattle.replay.proofs.Answered.{promised, row-refused, row-six, row-short, row-claimed, row-judged}
+use Rattle.replay.proofs.Answered.{promised, row-refused, row-six, row-too-short, row-claimed, row-judged}
 use Rattle.replay.proofs.check_log.Statement.{statement}
 use Rattle.replay.proofs.check_log.Tie as tie
 
@@ -57,8 +57,8 @@ returns-2 c =
     let n = c .before .before .before .before .before .before .before .before .before .before .before .args .count in
     promised k n _ (row-six k n (call-good k (good (c .before .before))) (omega (arith, c .before .room .ensures, c .if2 .taken)))
 
-lowest-short-requires : tie.Need-lowest-short-requires
-lowest-short-requires c κs = let g = good (c .before .before .before .before) in (g .sized .1 .0, g .sized .1 .1 .0)
+lowest-too-short-requires : tie.Need-lowest-too-short-requires
+lowest-too-short-requires c κs = let g = good (c .before .before .before .before) in (g .sized .1 .0, g .sized .1 .1 .0)
 
 same-length-5 : tie.Need-same-length-5
 same-length-5 c = search needs
@@ -70,7 +70,7 @@ returns-3 : tie.Need-returns-3
 returns-3 c =
     let k = called (c .before .before .before .before .before .before .before) in
     let n = c .before .before .before .before .before .before .before .before .before .before .before .before .before .before .before .before .args .count in
-    let s = answer-short _ _ _ _ (c .before .before .lowest-short .ensures) (c .before .if3 .taken) in
+    let s = answer-too-short _ _ _ _ (c .before .before .lowest-too-short .ensures) (c .before .if3 .taken) in
     promised k n _ (row-claimed k n (good (c .before .before .before .before .before .before .before)) (enough (c .before .before .before .before .before)) _ s (omega (arith, c .if4 .taken)))
 
 same-length-7 : tie.Need-same-length-7
@@ -83,8 +83,8 @@ returns-4 : tie.Need-returns-4
 returns-4 c =
     let k = called (c .before .before .before .before .before .before .before) in
     let n = c .before .before .before .before .before .before .before .before .before .before .before .before .before .before .before .before .args .count in
-    let s = answer-short _ _ _ _ (c .before .before .lowest-short .ensures) (c .before .if3 .taken) in
-    promised k n _ (row-short k n (good (c .before .before .before .before .before .before .before)) (enough (c .before .before .before .before .before)) _ s (omega (arith, c .if4 .left)))
+    let s = answer-too-short _ _ _ _ (c .before .before .lowest-too-short .ensures) (c .before .if3 .taken) in
+    promised k n _ (row-too-short k n (good (c .before .before .before .before .before .before .before)) (enough (c .before .before .before .before .before)) _ s (omega (arith, c .if4 .left)))
 
 on-copies-requires : tie.Need-on-copies-requires
 on-copies-requires c κs =
@@ -101,7 +101,7 @@ returns-5 : tie.Need-returns-5
 returns-5 c =
     let k = called (c .before .before .before .before .before .before .before .before .before .before .before .before .before) in
     let n = c .before .before .before .before .before .before .before .before .before .before .before .before .before .before .before .before .before .before .before .before .before .before .args .count in
-    let long = answer-long _ _ _ _ (c .before .before .before .before .before .before .before .before .lowest-short .ensures) (c .before .before .before .before .before .before .before .if3 .left) in
+    let long = answer-long _ _ _ _ (c .before .before .before .before .before .before .before .before .lowest-too-short .ensures) (c .before .before .before .before .before .before .before .if3 .left) in
     promised k n _ (c .before .before .before .before .on-copies .ensures ∙ row-judged k n (good (c .before .before .before .before .before .before .before .before .before .before .before .before .before)) (enough (c .before .before .before .before .before .before .before .before .before .before .before)) long)
 
 pub check-log-spec : {M : Type 1} → statement M
@@ -116,7 +116,7 @@ check-log-spec =
     same-length-3
     same-length-4
     returns-2
-    lowest-short-requires
+    lowest-too-short-requires
     same-length-5
     same-length-6
     returns-3

@@ -1,13 +1,13 @@
--- `joblist::lowest_short` meets its contract. Invariant: no window before i is too short. The measure is what is left of the list.
+-- `joblist::lowest_too_short` meets its contract. Invariant: no window before i is too short. The measure is what is left of the list.
 use Prim.Native.Nat.{_≤_, _-_}
 use native.Mathlib.Omega.{arith}
 use mathlib.Core.Path.{sym, _∙_}
 use lib.ListN.{length}
 use borrow.Author.Needs.{needs}
 use Rattle.narrowing.specs.Windows.{win, Long}
-use Rattle.joblist.proofs.Short.{long-none, long-more, short-at, short-nowhere}
-use Rattle.joblist.proofs.lowest_short.Statement.{statement}
-use Rattle.joblist.proofs.lowest_short.Tie as tie
+use Rattle.joblist.proofs.TooShort.{long-none, long-more, too-short-at, too-short-nowhere}
+use Rattle.joblist.proofs.lowest_too_short.Statement.{statement}
+use Rattle.joblist.proofs.lowest_too_short.Tie as tie
 
 abbrev Inv-loop : tie.InvT-loop
 Inv-loop est lct dur i₀ i = (i ≤ length est) × Long i dur (win est lct)
@@ -24,7 +24,7 @@ closed-requires c κs = let b = c .loop-test .taken in (b, omega (arith, c .befo
 returns : tie.Need-returns Inv-loop μ-loop
 returns c =
     let a = c .before .before .before .before .before .before .before .args in
-    short-at _ (a .dur .now) (win (a .est .now) (a .lct .now)) (c .before .before .before .loop .i) (c .before .before .loop-test .taken) (c .before .before .before .loop .inv .1) (sym (c .before .closed .ensures) ∙ c .if1 .taken)
+    too-short-at _ (a .dur .now) (win (a .est .now) (a .lct .now)) (c .before .before .before .loop .i) (c .before .before .loop-test .taken) (c .before .before .before .loop .inv .1) (sym (c .before .closed .ensures) ∙ c .if1 .taken)
 
 add-i : tie.Need-add-i Inv-loop μ-loop
 add-i c = search needs
@@ -40,10 +40,10 @@ loop-again c =
 returns-2 : tie.Need-returns-2 Inv-loop μ-loop
 returns-2 c =
     let a = c .before .before .before .before .before .args in
-    short-nowhere _ (a .dur .now) (win (a .est .now) (a .lct .now)) (c .before .loop .i) (omega arith) (c .before .loop .inv .1)
+    too-short-nowhere _ (a .dur .now) (win (a .est .now) (a .lct .now)) (c .before .loop .i) (omega arith) (c .before .loop .inv .1)
 
-pub lowest-short-spec : {M : Type 1} → statement M
-lowest-short-spec =
+pub lowest-too-short-spec : {M : Type 1} → statement M
+lowest-too-short-spec =
     tie.close
     (tie.spec
     Inv-loop

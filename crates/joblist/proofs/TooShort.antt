@@ -9,8 +9,8 @@ use mathlib.Core.Option.{Option, none, some}
 use lib.Dec.{ltb}
 use borrow.Author.Tests.{lt-ltb, le-ltb, ltb-true, ltb-false}
 use Rattle.lists.specs.Searches.{foundOr}
-use Rattle.narrowing.specs.Windows.{Win, Long, LowestShort, lowestShort, closes}
-use Rattle.narrowing.proofs.Short.{ShortSays, short-is, short-exactly}
+use Rattle.narrowing.specs.Windows.{Win, Long, LowestTooShort, lowestTooShort, closes}
+use Rattle.narrowing.proofs.TooShort.{TooShortSays, too-short-is, finds-too-short}
 
 -- l - e < p is l < e + p where e ≤ l
 pub closes-by : (e l p : ℕ) → e ≤ l → ltb (l - e) p ≡ ltb l (e + p)
@@ -34,24 +34,24 @@ long-more p W i L c k b = elim (ℕ-discrete k i) [ yes e ↦ rw e (ltb-false _ 
 
 module _ (n : ℕ) (p : List ℕ) (W : Win) where
   -- or job i's is
-  pub short-at : (i : ℕ) → i < n → Long i p W → closes p W i ≡ true → i ≡ foundOr n (lowestShort n p W)
-  short-at i b L c = rw (short-exactly n p W (some i) (record { listed = b; short = ltb-true _ _ c; before = L }))
+  pub too-short-at : (i : ℕ) → i < n → Long i p W → closes p W i ≡ true → i ≡ foundOr n (lowestTooShort n p W)
+  too-short-at i b L c = rw (finds-too-short n p W (some i) (record { listed = b; shorter = ltb-true _ _ c; before = L }))
 
   -- or there is no other job
-  pub short-nowhere : (i : ℕ) → i ≡ n → Long i p W → i ≡ foundOr n (lowestShort n p W)
-  short-nowhere i e L = rw (e, short-exactly n p W none (rw e at L))
+  pub too-short-nowhere : (i : ℕ) → i ≡ n → Long i p W → i ≡ foundOr n (lowestTooShort n p W)
+  too-short-nowhere i e L = rw (e, finds-too-short n p W none (rw e at L))
 
   -- the answer read
-  pub answer-short : (r : ℕ) → r ≡ foundOr n (lowestShort n p W) → r < n → LowestShort n p W r
-  answer-short r e b = go (lowestShort n p W) (short-is n p W) e
+  pub answer-too-short : (r : ℕ) → r ≡ foundOr n (lowestTooShort n p W) → r < n → LowestTooShort n p W r
+  answer-too-short r e b = go (lowestTooShort n p W) (too-short-is n p W) e
     where
-      go : (x : Option ℕ) → ShortSays n p W x → r ≡ foundOr n x → LowestShort n p W r
+      go : (x : Option ℕ) → TooShortSays n p W x → r ≡ foundOr n x → LowestTooShort n p W r
       go none L q = absurd (omega arith)
       go (some j) s q = rw q s
 
-  pub answer-long : (r : ℕ) → r ≡ foundOr n (lowestShort n p W) → n ≤ r → Long n p W
-  answer-long r e b = go (lowestShort n p W) (short-is n p W) e
+  pub answer-long : (r : ℕ) → r ≡ foundOr n (lowestTooShort n p W) → n ≤ r → Long n p W
+  answer-long r e b = go (lowestTooShort n p W) (too-short-is n p W) e
     where
-      go : (x : Option ℕ) → ShortSays n p W x → r ≡ foundOr n x → Long n p W
+      go : (x : Option ℕ) → TooShortSays n p W x → r ≡ foundOr n x → Long n p W
       go none L q = L
       go (some j) s q = absurd (omega (arith, s .listed))
