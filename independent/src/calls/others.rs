@@ -33,8 +33,9 @@ fn overloaded(random: &mut Random) -> Times {
     lists::good_for_one(random)
 }
 
-/// Lists with windows that are too short: alone, beside an overloaded set, or
-/// one behind it, so that the pair is the set's.
+/// Mostly lists with windows that are too short, often beside an overloaded set
+/// of other jobs. A job put behind has no part in the pair of a set that ends
+/// before it; a tie may make windows long enough again.
 fn with_short(random: &mut Random) -> Times {
     let mut times = match random.below(2) {
         0 => overloaded(random),

@@ -1,6 +1,7 @@
 //! The tester's demands on small lists, by brute force over schedules, windows
 //! and orders; a window that is too short holds no start and no other window.
 
+use super::short::assert_named;
 use super::{run, small_lists, windows};
 use crate::answers::Answer;
 use crate::joblist::{Supply, Times};
@@ -157,15 +158,22 @@ fn every_log_written_is_taken_to_the_same_end() {
 #[test]
 fn the_count_is_at_most_the_slack_and_one_more_in_a_clash() {
     let mut random = Random::new(6);
+    let mut too_short = 0;
     for _ in 0..3_000 {
         let (times, supply) = small_lists(&mut random);
         let slack = |k: usize| times.lct[k].checked_sub(times.est[k] + times.dur[k]);
-        let most: Option<u32> = (0..times.est.len()).map(slack).sum();
-        let Some(most) = most else { continue };
+        let slacks: Vec<Option<u32>> = (0..times.est.len()).map(slack).collect();
+        if let Some(lowest) = slacks.iter().position(Option::is_none) {
+            assert_named(lowest, &times, &supply);
+            too_short += 1;
+            continue;
+        }
+        let most: u32 = slacks.into_iter().flatten().sum();
         match run(&times, &supply).0 {
             Answer::Settled(count) => assert!(count <= most as usize),
             Answer::Clash(count, _) => assert!(count <= most as usize + 1),
             _ => panic!("a good list with room"),
         }
     }
+    assert!(too_short > 100);
 }

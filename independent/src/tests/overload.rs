@@ -1,7 +1,7 @@
 //! The overload check: ties, refusals, and all sets against the pair.
 
 use crate::answers::Answer;
-use crate::joblist::{good_jobs, lists, lowest_too_short, Supply, Times};
+use crate::joblist::{good_jobs, lists, lowest_too_short, Job, Supply, Times};
 use crate::overload::{overload, pair, some_set_is_overloaded};
 use crate::random::Random;
 
@@ -10,18 +10,35 @@ pub fn times_of(jobs: &[(u32, u32, u32)]) -> Times {
     lists(1, &quads).0
 }
 
+fn jobs_of(times: &Times) -> Vec<Job> {
+    good_jobs(times, &Supply::of_one(times.est.len())).unwrap()
+}
+
+/// Both are those of a non-empty set, and it is overloaded (02, Item 3).
+fn assert_of_a_set(jobs: &[Job], a: i64, b: i64) {
+    let lies_within = |job: &&Job| job.e >= a && job.l <= b;
+    let set: Vec<&Job> = jobs.iter().filter(lies_within).collect();
+    assert_eq!(set.iter().map(|job| job.e).min(), Some(a));
+    assert_eq!(set.iter().map(|job| job.l).max(), Some(b));
+    assert!(a + set.iter().map(|job| job.p).sum::<i64>() > b);
+}
+
+pub fn assert_overload(a: i64, b: i64, jobs: &[(u32, u32, u32)]) {
+    let times = times_of(jobs);
+    assert_eq!(overload(&times), Answer::Overload(a, b));
+    assert_of_a_set(&jobs_of(&times), a, b);
+}
+
 #[test]
 fn all_jobs_of_a_tie_count() {
-    let times = times_of(&[(1, 2, 1), (0, 2, 2), (1, 2, 1)]);
-    assert_eq!(overload(&times), Answer::Overload(1, 2));
+    assert_overload(1, 2, &[(1, 2, 1), (0, 2, 2), (1, 2, 1)]);
 }
 
 #[test]
 fn the_least_end_comes_before_the_greatest_start() {
     let late = [(8, 9, 1), (8, 9, 1)];
     let early = [(0, 3, 2), (1, 3, 2)];
-    let times = times_of(&[late, early].concat());
-    assert_eq!(overload(&times), Answer::Overload(0, 3));
+    assert_overload(0, 3, &[late, early].concat());
 }
 
 #[test]
@@ -44,7 +61,7 @@ fn refusals_come_in_order() {
 #[test]
 fn all_sets_agree_with_the_pair() {
     let mut random = Random::new(7);
-    let mut overloaded = 0;
+    let (mut overloaded, mut a_above_b) = (0, 0);
     for round in 0..1_500 {
         let jobs = if round % 50 == 0 {
             12
@@ -59,12 +76,16 @@ fn all_sets_agree_with_the_pair() {
             let l = e + p + random.between(0, 4);
             times.push(e, l.saturating_sub(random.pick(&short)), p);
         }
-        let jobs = good_jobs(&times, &Supply::of_one(times.est.len())).unwrap();
+        let jobs = jobs_of(&times);
         let found = pair(&jobs);
         assert_eq!(found.is_some(), some_set_is_overloaded(&jobs));
-        let fit = lowest_too_short(&jobs).is_none();
-        assert!(found.is_none_or(|(a, b)| a < b || !fit));
-        overloaded += usize::from(found.is_some());
+        if let Some((a, b)) = found {
+            assert_of_a_set(&jobs, a, b);
+            assert!(a < b || lowest_too_short(&jobs).is_some());
+            overloaded += 1;
+            a_above_b += usize::from(a > b);
+        }
     }
     assert!(overloaded > 200 && overloaded < 1_300);
+    assert!(a_above_b > 100);
 }

@@ -1,7 +1,7 @@
 //! Windows that are too short, by hand: narrowing, the checker and the overload
 //! check (02, Item 3).
 
-use super::overload::times_of;
+use super::overload::{assert_overload, times_of};
 use crate::answers::Answer;
 use crate::joblist::{lists, Supply, Times};
 use crate::overload::overload;
@@ -14,23 +14,27 @@ type Quad = (u32, u32, u32, u32);
 /// Whatever the log, narrowing names this job without a record and leaves
 /// windows and log; so does the checker where no record is claimed, and where
 /// there are some it rejects the first.
-fn assert_clash(job: usize, cap: u32, jobs: &[Quad]) {
-    let (times, supply) = lists(cap, jobs);
+pub fn assert_named(job: usize, times: &Times, supply: &Supply) {
     for length in [0, 1, 11, 12, 13, 40] {
         let (mut after, mut log) = (times.clone(), vec![9; length]);
-        let answer = narrow(&mut after, &supply, &mut log);
+        let answer = narrow(&mut after, supply, &mut log);
         assert_eq!(answer, Answer::Clash(0, job));
-        assert_eq!((&after, log), (&times, vec![9; length]));
+        assert_eq!((&after, log), (times, vec![9; length]));
         for count in 0..=length / RECORD_WORDS {
-            let answer = check(&mut after, &supply, count as u64, &vec![9; length]);
+            let answer = check(&mut after, supply, count as u64, &vec![9; length]);
             let expected = match count {
                 0 => Answer::Clash(0, job),
                 _ => Answer::Rejected(0, 20),
             };
             assert_eq!(answer, expected);
-            assert_eq!(after, times);
+            assert_eq!(&after, times);
         }
     }
+}
+
+fn assert_clash(job: usize, cap: u32, jobs: &[Quad]) {
+    let (times, supply) = lists(cap, jobs);
+    assert_named(job, &times, &supply);
 }
 
 #[test]
@@ -94,8 +98,8 @@ fn a_record_that_would_be_taken_without_the_short_window_is_rejected_too() {
     assert_eq!((answer, times), (Answer::Rejected(0, 20), submitted));
 }
 
-/// Refused so by narrowing, by the checker whatever is claimed, and by the
-/// overload check where it reads the fault.
+/// Refused so by narrowing and, whatever is claimed, by the checker; windows and
+/// log stay.
 fn assert_refused(number: u32, times: &Times, supply: &Supply) {
     let (mut after, mut log) = (times.clone(), [9; 12]);
     let refused = Answer::Refused(number);
@@ -130,14 +134,11 @@ fn refusals_1_to_3_come_before_a_short_window() {
 #[test]
 fn refusal_6_comes_before_a_short_window() {
     let (mut times, supply) = lists(1, &[(3, 6, 4, 1)]);
+    let submitted = times.clone();
     for (count, length) in [(1, 0), (1, 11), (2, 23), (3, 24), (u64::MAX, 40)] {
         let answer = check(&mut times, &supply, count, &vec![9; length]);
-        assert_eq!(answer, Answer::Refused(6));
+        assert_eq!((answer, &times), (Answer::Refused(6), &submitted));
     }
-}
-
-fn assert_overload(a: i64, b: i64, jobs: &[(u32, u32, u32)]) {
-    assert_eq!(overload(&times_of(jobs)), Answer::Overload(a, b));
 }
 
 #[test]
@@ -154,7 +155,13 @@ fn a_is_the_start_of_a_job_that_ends_by_b() {
     assert_overload(5, 3, &[(6, 9, 2), (5, 3, 0)]);
     assert_overload(2, 1, &[(9, 8, 0), (2, 1, 0)]);
     assert_overload(0, 2, &[(1, 4, 1), (0, 2, 3)]);
+}
+
+#[test]
+fn a_pair_that_takes_in_no_job_is_no_overload() {
     assert_eq!(overload(&times_of(&[(0, 0, 0), (1, 1, 0)])), Answer::None);
+    let more_than_few: Vec<_> = (0..40).map(|k| (k, k, 0)).collect();
+    assert_eq!(overload(&times_of(&more_than_few)), Answer::None);
 }
 
 #[test]
