@@ -1,6 +1,6 @@
 -- The words that the desk's contracts are said in, handed on, so that a user who names the desk can cite them.
-pub use Rattle.narrowing.specs.Windows.{Win, win}
-pub use Rattle.timetable.specs.Table.{Call, call, Good, After, leaves}
+pub use Rattle.narrowing.specs.Windows.{Win, win, Long}
+pub use Rattle.timetable.specs.Table.{Call, call, Good, AllLong, TooShort, After, leaves}
 pub use Rattle.timetable.specs.Promise.{Scheduled, StableIn, LargestIn, NoneIn, Kept, Narrowest, Narrows}
 pub use Rattle.timetable.specs.Reasons.{Reasons}
 pub use Rattle.journal.specs.Journal.{recordAt}
