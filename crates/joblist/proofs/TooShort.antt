@@ -33,11 +33,11 @@ unfolding Long
 long-more p W i L c k b = elim (ℕ-discrete k i) [ yes e ↦ rw e (ltb-false _ _ c) | no e ↦ L k (omega arith) ]
 
 module _ (n : ℕ) (p : List ℕ) (W : Win) where
-  -- or job i's is
+  -- job i's window is the first that is too short
   pub too-short-at : (i : ℕ) → i < n → Long i p W → closes p W i ≡ true → i ≡ foundOr n (lowestTooShort n p W)
   too-short-at i b L c = rw (finds-too-short n p W (some i) (record { listed = b; shorter = ltb-true _ _ c; before = L }))
 
-  -- or there is no other job
+  -- no job is left
   pub too-short-nowhere : (i : ℕ) → i ≡ n → Long i p W → i ≡ foundOr n (lowestTooShort n p W)
   too-short-nowhere i e L = rw (e, finds-too-short n p W none (rw e at L))
 

@@ -119,21 +119,27 @@ module _ (c : Call) where
   fate-at : (a b : ℕ) → a ≡ b → (v : Verdict) → Fate c a v → Fate c b v
   fate-at a b e v f = subst (λ (n : ℕ). Fate c n v) e f
 
+  -- a window is closed after i records, and m more are claimed
+  shut-fate : (i j m : ℕ) → Shut c i j → Fate c (i + m) (closing i j (records (c .log) i m))
+  shut-fate i j zero x =
+      let e : i ≡ i + 0 = omega arith in
+      rw (closing-one i j) (subst (λ (n : ℕ). Shut c n j) e x)
+  shut-fate i j (suc m) x = rw (closing-more i j m) (omega arith, inl (j, x, refl))
+
   fate-from : (m i : ℕ) → Open c i → Fate c (i + m) (from i m)
   fate-from zero i o =
       let e : i ≡ i + 0 = omega arith in
       fate-at i (i + 0) e (from i 0) (rw (at-none i) (refl, o))
   fate-from (suc m) i o = go (code J (reached c i) (nth c i)) refl (λ q. fate-from m (suc i) q)
     where
-      last : (n : ℕ) → n ≡ m → Closing c i → Fate c (i + suc n) (closing (suc i) (jobOf (nth c i)) (records (c .log) (suc i) n))
-      last zero e x = let z : suc i ≡ i + 1 = omega arith in rw (closing-one (suc i) (jobOf (nth c i)), ← z) (x, refl)
-      last (suc n) e x = rw (closing-more (suc i) (jobOf (nth c i)) n) (omega arith, inl (jobOf (nth c i), (x, refl), refl))
-
       by-window : (b : Bool) → closes (c .p) (reached c (suc i)) (jobOf (nth c i)) ≡ b → Takes c i → (Open c (suc i) → Fate c (suc i + m) (from (suc i) m))
           → Fate c (i + suc m) (from i (suc m))
       by-window true e t f =
           let q : Closed c i = ltb-true (reached c (suc i) .l ! jobOf (nth c i)) _ e in
-          rw (at-closed i m t q) (last m refl (record { before = o; takes = t; closed = q }))
+          let d : suc i + m ≡ i + suc m = omega arith in
+          rw (at-closed i m t q)
+          (fate-at (suc i + m) (i + suc m) d (closing (suc i) (jobOf (nth c i)) (records (c .log) (suc i) m))
+          (shut-fate (suc i) (jobOf (nth c i)) m (record { before = o; takes = t; closed = q }, refl)))
       by-window false e t f =
           let q : Held c i = ltb-false (reached c (suc i) .l ! jobOf (nth c i)) _ e in
           let d : suc i + m ≡ i + suc m = omega arith in
@@ -145,10 +151,6 @@ module _ (c : Call) where
           rw (at-bad i m k e)
           (omega arith, inr (o, code-exactly J (reached c i) (nth c i) (suc k) .0 e, λ z. omega arith))
 
-  closing-fate : (j m : ℕ) → TooShort c j → Fate c m (closing 0 j (records (c .log) 0 m))
-  closing-fate j zero x = rw (closing-one 0 j) x
-  closing-fate j (suc m) x = rw (closing-more 0 j m) (omega arith, inl (j, x, refl))
-
   verdict-fate : (count : ℕ) → Fate c count (verdict count)
   verdict-fate count = go (lowestTooShort (J .n) (c .p) (c .win)) (too-short-is (J .n) (c .p) (c .win))
     where
@@ -156,7 +158,9 @@ module _ (c : Call) where
       go none L =
           let z : 0 + count ≡ count = omega arith in
           rw (long-verdict count L) (fate-at (0 + count) count z (from 0 count) (fate-from count 0 (record { long = L; held = λ h b. absurd (omega arith) })))
-      go (some j) x = rw (too-short-verdict count j x) (closing-fate j count x)
+      go (some j) x =
+          let z : 0 + count ≡ count = omega arith in
+          rw (too-short-verdict count j x) (fate-at (0 + count) count z (closing 0 j (records (c .log) 0 count)) (shut-fate 0 j count x))
 
   -- the verdict on the first so many records
   pub fate-exactly : (count : ℕ) (v : Verdict) → (verdictOn (jobsOf c) (c .win) (records (c .log) 0 count) ≡ v) ↔ Fate c count v
