@@ -1,7 +1,9 @@
 -- Two answers that say the same are the same Rattle value: each is read back from what it says. And the words are apart.
 use Prim.Native.Nat.{ℕ}
+use native.Mathlib.Omega.{arith}
 use mathlib.Core.Path.{_≡_, refl, sym, ap, _∙_}
 use mathlib.Core.List.{List}
+use mathlib.Core.Logic.{_⊎_, inl, inr}
 use Rattle.lists.specs.Lists.{_!_}
 use Rattle.answers.specs.declared.Answer.{Answer}
 use Rattle.answers.specs.declared.CheckAnswer.{CheckAnswer}
@@ -25,6 +27,11 @@ not-said v w f e = f (ap (λ (x : Word). told x) e)
 
 pub said-apart : {A : Type 0} (v w : Word) (ns ms : List ℕ) → (told v ≡ told w → ⊥) → said v ns ≡ said w ms → A
 said-apart v w ns ms f e = absurd (not-said v w f (ap (λ (x : Said). x .word) e))
+
+-- settled or clash is no refusal
+pub not-refused : (w : Word) → (w ≡ Word.settled) ⊎ (w ≡ Word.clash) → w ≡ Word.refused → ⊥
+not-refused w (inl x) e = not-said Word.settled Word.refused (λ z. omega arith) (sym x ∙ e)
+not-refused w (inr x) e = not-said Word.clash Word.refused (λ z. omega arith) (sym x ∙ e)
 
 -- what can be read back is the same where what is said is
 read-back : {A : Type 0} (say : A → Said) (heard : Said → A) → ((a : A) → heard (say a) ≡ a) → (a b : A) → say a ≡ say b → a ≡ b

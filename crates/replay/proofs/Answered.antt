@@ -11,7 +11,7 @@ use Rattle.narrowing.proofs.TooShort.{finds-too-short}
 use Rattle.joblist.specs.Limits.{jobs}
 use Rattle.answers.specs.Said.{Word, said}
 use Rattle.journal.specs.Journal.{roomOf, records}
-use Rattle.timetable.specs.Table.{Call, Good, AllLong, TooShort, refusalOf}
+use Rattle.timetable.specs.Table.{Call, Good, AllLong, refusalOf}
 use Rattle.tabling.proofs.Good.{durations-sized}
 use Rattle.replay.specs.declared.Ended.{Ended}
 use Rattle.replay.specs.Replay.{Verdict, holds, clashes, rejected, replay, verdictOn, Checked, finds, judged, refuses, rows, checked}
@@ -20,7 +20,6 @@ use Rattle.replay.specs.Lent.{jobsIn}
 use Rattle.replay.specs.Ended.{verdict}
 use Rattle.replay.proofs.Meaning.{checks}
 use Rattle.replay.proofs.Rows.{good-judged}
-use Rattle.replay.proofs.TooShort.{too-short-unclaimed, too-short-claimed}
 
 -- ---- the end of a replay that left the windows U
 
@@ -54,16 +53,8 @@ module _ (c : Call) (count : ℕ) where
   unfolding checked rows
   row-six e h = rw (e, lt-ltb (roomOf (c .log)) count h)
 
-  module _ (g : Good c) (h : count ≤ roomOf (c .log)) where
-    -- a window is too short
-    pub row-too-short : (j : ℕ) → TooShort c j → count ≡ 0 → finds (said Word.clash (0 ∷ j ∷ [])) (c .win) ≡ checked c count
-    row-too-short j s e = sym (too-short-unclaimed c count (checked c count) (checks c count) g j s e)
-
-    pub row-claimed : (j : ℕ) → TooShort c j → 0 < count → finds (said Word.rejected (0 ∷ 20 ∷ [])) (c .win) ≡ checked c count
-    row-claimed j s b = sym (too-short-claimed c count (checked c count) (checks c count) g j s b h)
-
-    -- none is: the verdict is the replay's
-    pub row-judged : AllLong c
-        → judged c count (replay (jobsIn (length (c .p)) (c .p) (c .r) (c .cap)) (c .win) 0 (records (c .log) 0 count)) ≡ checked c count
-    unfolding verdictOn
-    row-judged L = rw (durations-sized g, good-judged c count g h, finds-too-short (jobs (c .win)) (c .p) (c .win) none L)
+  -- no window is too short: the verdict is the replay's
+  pub row-judged : Good c → count ≤ roomOf (c .log) → AllLong c
+      → judged c count (replay (jobsIn (length (c .p)) (c .p) (c .r) (c .cap)) (c .win) 0 (records (c .log) 0 count)) ≡ checked c count
+  unfolding verdictOn
+  row-judged g h L = rw (durations-sized g, good-judged c count g h, finds-too-short (jobs (c .win)) (c .p) (c .win) none L)

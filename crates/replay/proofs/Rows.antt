@@ -14,7 +14,7 @@ use Rattle.lists.specs.Lists.{_!_}
 use Rattle.narrowing.specs.Windows.{Win, win, Side, early, late, moved}
 use Rattle.answers.specs.declared.CheckAnswer.{CheckAnswer}
 use Rattle.answers.specs.Said.{Word, Said, said, saysCheck}
-use Rattle.answers.proofs.Same.{check-same, not-said}
+use Rattle.answers.proofs.Same.{check-same, not-said, said-apart}
 use Rattle.joblist.specs.Limits.{jobs, fourLists, supply}
 use Rattle.joblist.specs.GoodList.{Given}
 use Rattle.joblist.proofs.Refusals.{refusal-exactly}
@@ -105,16 +105,13 @@ module _ (c : Call) (count : ℕ) where
         go (six g b q) = absurd (not-refused 6 q)
         go (judges g b q) = (g, b, verdict, fate-exactly c count verdict .0 refl, says-of (judged c count verdict) q x e)
 
-    apart : (v w : Word) (ns ms : List ℕ) → (v ≡ w → ⊥) → said v ns ≡ said w ms → ⊥
-    apart v w ns ms f e = f (ap (λ (y : Said). y .word) e)
-
     pub holds-exactly : (a .says ≡ said Word.holds (count ∷ [])) ↔ (Good c × (count ≤ roomOf (c .log)) × Open c count)
     holds-exactly = (there, λ x. ap (λ (y : Checked). y .says) (fate-answers (holds _) (x .0) (x .1) (refl, x .2)))
       where
         by : (v : Verdict) → Fate c count v → judged c count v .says ≡ said Word.holds (count ∷ []) → Open c count
         by (holds U) f e = f .1
-        by (clashes j) f e = absurd (apart _ _ _ _ (not-said Word.clash Word.holds (λ z. omega arith)) e)
-        by (rejected i k) f e = absurd (apart _ _ _ _ (not-said Word.rejected Word.holds (λ z. omega arith)) e)
+        by (clashes j) f e = said-apart Word.clash Word.holds _ _ (λ z. omega arith) e
+        by (rejected i k) f e = said-apart Word.rejected Word.holds _ _ (λ z. omega arith) e
 
         there : a .says ≡ said Word.holds (count ∷ []) → Good c × (count ≤ roomOf (c .log)) × Open c count
         there e = let r = verdict-of _ e (not-said Word.holds Word.refused (λ z. omega arith)) in (r .0, r .1, by (r .2) (r .3) (r .4))
@@ -125,12 +122,12 @@ module _ (c : Call) (count : ℕ) where
       where
         by : (v : Verdict) → Fate c count v → a ≡ judged c count v → (n ≡ count) × (a .win ≡ reached c count)
         by (holds U) f q = (sym (ap (λ (y : Said). y .numbers ! 0) (says-of _ q _ e)), ap (λ (y : Checked). y .win) q ∙ f .0)
-        by (clashes j) f q = absurd (apart _ _ _ _ (not-said Word.clash Word.holds (λ z. omega arith)) (says-of _ q _ e))
-        by (rejected i k) f q = absurd (apart _ _ _ _ (not-said Word.rejected Word.holds (λ z. omega arith)) (says-of _ q _ e))
+        by (clashes j) f q = said-apart Word.clash Word.holds _ _ (λ z. omega arith) (says-of _ q _ e)
+        by (rejected i k) f q = said-apart Word.rejected Word.holds _ _ (λ z. omega arith) (says-of _ q _ e)
 
         go : Case a → (n ≡ count) × (a .win ≡ reached c count)
-        go (tested k d q) = absurd (apart _ _ _ _ (not-said Word.refused Word.holds (λ z. omega arith)) (says-of _ q _ e))
-        go (six g b q) = absurd (apart _ _ _ _ (not-said Word.refused Word.holds (λ z. omega arith)) (says-of _ q _ e))
+        go (tested k d q) = said-apart Word.refused Word.holds _ _ (λ z. omega arith) (says-of _ q _ e)
+        go (six g b q) = said-apart Word.refused Word.holds _ _ (λ z. omega arith) (says-of _ q _ e)
         go (judges g b q) = by verdict (fate-exactly c count verdict .0 refl) q
 
     -- any other answer leaves the windows as submitted
@@ -151,9 +148,9 @@ module _ (c : Call) (count : ℕ) where
     clash-exactly j = (there, λ x. ap (λ (y : Checked). y .says) (fate-answers (clashes j) (x .0) (x .1) (x .2)))
       where
         by : (v : Verdict) → Fate c count v → judged c count v .says ≡ said Word.clash (count ∷ j ∷ []) → Fate c count (clashes j)
-        by (holds U) f e = absurd (apart _ _ _ _ (not-said Word.holds Word.clash (λ z. omega arith)) e)
+        by (holds U) f e = said-apart Word.holds Word.clash _ _ (λ z. omega arith) e
         by (clashes i) f e = subst (λ (m : ℕ). Fate c count (clashes m)) (ap (λ (y : Said). y .numbers ! 1) e) f
-        by (rejected i k) f e = absurd (apart _ _ _ _ (not-said Word.rejected Word.clash (λ z. omega arith)) e)
+        by (rejected i k) f e = said-apart Word.rejected Word.clash _ _ (λ z. omega arith) e
 
         there : a .says ≡ said Word.clash (count ∷ j ∷ []) → Good c × (count ≤ roomOf (c .log)) × Fate c count (clashes j)
         there e = let r = verdict-of _ e (not-said Word.clash Word.refused (λ z. omega arith)) in (r .0, r .1, by (r .2) (r .3) (r .4))
@@ -162,8 +159,8 @@ module _ (c : Call) (count : ℕ) where
     rejected-exactly i k = (there, λ x. ap (λ (y : Checked). y .says) (fate-answers (rejected i k) (x .0) (x .1) (x .2)))
       where
         by : (v : Verdict) → Fate c count v → judged c count v .says ≡ said Word.rejected (i ∷ k ∷ []) → Fate c count (rejected i k)
-        by (holds U) f e = absurd (apart _ _ _ _ (not-said Word.holds Word.rejected (λ z. omega arith)) e)
-        by (clashes j) f e = absurd (apart _ _ _ _ (not-said Word.clash Word.rejected (λ z. omega arith)) e)
+        by (holds U) f e = said-apart Word.holds Word.rejected _ _ (λ z. omega arith) e
+        by (clashes j) f e = said-apart Word.clash Word.rejected _ _ (λ z. omega arith) e
         by (rejected m d) f e =
             subst (λ (x : ℕ). Fate c count (rejected i x)) (ap (λ (y : Said). y .numbers ! 1) e)
             (subst (λ (x : ℕ). Fate c count (rejected x d)) (ap (λ (y : Said). y .numbers ! 0) e) f)

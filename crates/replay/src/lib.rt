@@ -17,6 +17,9 @@ ghost use Rattle.replay.specs.Promise.{Checks};
 ghost use Rattle.replay.specs.Lent.{jobsIn};
 ghost use Rattle.replay.specs.Ended.{verdict};
 
+// The code of a record where a window was closed before it.
+const CLOSED: u32 = 20;
+
 // How a replay ends: all records are taken; the last one closed the window of a job; the place and code of the first bad one.
 enum Ended {
     Holds,
@@ -49,7 +52,7 @@ fn replayed(
         i += 1;
         if joblist::closed(est, lct, dur, job) {
             if i < count {
-                return Ended::Rejected(i, 20);
+                return Ended::Rejected(i, CLOSED);
             }
             return Ended::Clashes(job);
         }
@@ -112,7 +115,7 @@ pub fn check_log(
     let short = joblist::lowest_too_short(est, lct, dur);
     if short < est.len() {
         if 0 < count {
-            return CheckAnswer::Rejected(0, 20);
+            return CheckAnswer::Rejected(0, CLOSED);
         }
         return CheckAnswer::Clash(0, short);
     }

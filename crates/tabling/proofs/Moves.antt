@@ -31,11 +31,7 @@ pub found-none : (x : Option ℕ) → found x ≡ Found.Nothing → x ≡ none
 found-none none h = refl
 found-none (some u) h = cc
 
--- the numbers of the two sides
-pub side-of-number : (s : Side) → sideOf (number s) ≡ s
-side-of-number early = refl
-side-of-number late = refl
-
+-- the number of a side from its number
 pub number-of-side : (k : ℕ) → k ≤ 1 → number (sideOf k) ≡ k
 number-of-side zero h = refl
 number-of-side (suc k) h = omega arith

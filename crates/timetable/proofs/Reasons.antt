@@ -2,7 +2,7 @@
 use Prim.Native.Nat.{ℕ, zero, suc, _≤_}
 use native.Mathlib.Omega.{arith}
 use mathlib.Core.Path.{_≡_, refl, ap, subst}
-use mathlib.Core.List.{List, [], _∷_}
+use mathlib.Core.List.{[], _∷_}
 use lib.ListN.{length}
 use Rattle.lists.specs.Lists.{_!_}
 use Rattle.narrowing.specs.Windows.{early}
@@ -11,8 +11,8 @@ use Rattle.narrowing.specs.Led.{Clashed, Reached}
 use Rattle.narrowing.specs.Run.{Out, settled, clash, short, run, movesOf}
 use Rattle.narrowing.proofs.Runs.{Bounded, run-chosen, run-bounded}
 use Rattle.narrowing.proofs.Again.{run-reached}
-use Rattle.answers.specs.Said.{Word, Said, said}
-use Rattle.answers.proofs.Same.{not-said}
+use Rattle.answers.specs.Said.{Word, Said}
+use Rattle.answers.proofs.Same.{said-apart}
 use Rattle.journal.specs.Journal.{roomOf}
 use Rattle.timetable.specs.Time.{Jobs, Applies}
 use Rattle.timetable.specs.Search.{search}
@@ -20,9 +20,6 @@ use Rattle.timetable.specs.Table.{Call, jobsOf, Good, refusalOf, ended, 
 use Rattle.timetable.specs.Reasons.{Logged, Settles, Clashes, Reasons}
 use Rattle.timetable.proofs.Calls.{good-call, whole}
 use Rattle.timetable.proofs.Law.{lawful, searches}
-
-apart : (v w : Word) (ns ms : List ℕ) → (v ≡ w → ⊥) → said v ns ≡ said w ms → ⊥
-apart v w ns ms f e = f (ap (λ (x : Said). x .word) e)
 
 module _ (c : Call) where
   abbrev J : Jobs
@@ -36,11 +33,11 @@ module _ (c : Call) where
         settled = λ n e.
             let z : length ms ≡ n = ap (λ (y : Said). y .numbers ! 0) e in
             record { logs = record { moves = ms; many = z; log = refl; chosen = x }; led = r; most = omega (arith, b .0) };
-        clash = λ n j e. absurd (apart _ _ _ _ (not-said Word.settled Word.clash (λ q. omega arith)) e);
+        clash = λ n j e. said-apart Word.settled Word.clash _ _ (λ q. omega arith) e;
       }
   ended-reasons (clash i ms) x b r =
       record {
-        settled = λ n e. absurd (apart _ _ _ _ (not-said Word.clash Word.settled (λ q. omega arith)) e);
+        settled = λ n e. said-apart Word.clash Word.settled _ _ (λ q. omega arith) e;
         clash = λ n j e.
             let z : length ms ≡ n = ap (λ (y : Said). y .numbers ! 0) e in
             record {
@@ -51,8 +48,8 @@ module _ (c : Call) where
       }
   ended-reasons short x b r =
       record {
-        settled = λ n e. absurd (apart _ _ _ _ (not-said Word.refused Word.settled (λ q. omega arith)) e);
-        clash = λ n j e. absurd (apart _ _ _ _ (not-said Word.refused Word.clash (λ q. omega arith)) e);
+        settled = λ n e. said-apart Word.refused Word.settled _ _ (λ q. omega arith) e;
+        clash = λ n j e. said-apart Word.refused Word.clash _ _ (λ q. omega arith) e;
       }
 
   pub reasons-by : (k : ℕ) → refusalOf c ≡ k → Reasons c (tabled c k)
@@ -65,6 +62,6 @@ module _ (c : Call) where
       (run-reached (search J) (Applies J) (searches J) (roomOf (c .log)) (c .win))
   reasons-by (suc k) e =
       record {
-        settled = λ n e. absurd (apart _ _ _ _ (not-said Word.refused Word.settled (λ q. omega arith)) e);
-        clash = λ n j e. absurd (apart _ _ _ _ (not-said Word.refused Word.clash (λ q. omega arith)) e);
+        settled = λ n e. said-apart Word.refused Word.settled _ _ (λ q. omega arith) e;
+        clash = λ n j e. said-apart Word.refused Word.clash _ _ (λ q. omega arith) e;
       }

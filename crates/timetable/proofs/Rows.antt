@@ -101,7 +101,7 @@ module _ (c : Call) where
     says-of : (b : After) → a ≡ b → (x : Said) → a .says ≡ x → b .says ≡ x
     says-of b e x q = sym (ap (λ (y : After). y .says) e) ∙ q
 
-    -- refusal k, 1 to 5
+    -- refusal k: 1 to 3, or 5
     refused-row : (k : ℕ) → a .says ≡ said Word.refused (k ∷ []) → RefusedRow c k
     unfolding ended refusalOf
     refused-row k e = go (cased a h)

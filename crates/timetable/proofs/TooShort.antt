@@ -3,9 +3,9 @@
 -- stable windows that are long enough.
 use Prim.Native.Nat.{ℕ, _+_, _<_}
 use native.Mathlib.Omega.{arith}
-use mathlib.Core.Path.{_≡_, sym, ap, _∙_}
+use mathlib.Core.Path.{_≡_, ap, _∙_}
 use mathlib.Core.List.{List, [], _∷_}
-use mathlib.Core.Logic.{_⊎_, inl, inr, _↔_}
+use mathlib.Core.Logic.{inl, inr, _↔_}
 use lib.ListN.{length}
 use borrow.Author.Tests.{lt-ltb}
 use Rattle.lists.specs.Lists.{_!_}
@@ -15,7 +15,7 @@ use Rattle.narrowing.specs.Run.{Out}
 use Rattle.narrowing.proofs.Steps.{closed-none-left}
 use Rattle.narrowing.proofs.TooShort.{run-too-short, needed-none}
 use Rattle.answers.specs.Said.{Word, said}
-use Rattle.answers.proofs.Same.{not-said}
+use Rattle.answers.proofs.Same.{not-refused}
 use Rattle.joblist.specs.Limits.{jobs}
 use Rattle.journal.specs.Journal.{roomOf, logged, flat}
 use Rattle.timetable.specs.Time.{Applies}
@@ -41,11 +41,7 @@ too-short-needs c j s = needed-none (search (jobsOf c)) (c .win) j s
 
 -- so demand 3 alone shuts out that such a list is refused
 pub too-short-decided : (c : Call) (a : After) → Good c → Narrowest c a → (j : ℕ) → TooShort c j → a .says .word ≡ Word.refused → ⊥
-too-short-decided c a g h j s e = go (h .decided (omega (arith, too-short-needs c j s)))
-  where
-    go : (a .says .word ≡ Word.settled) ⊎ (a .says .word ≡ Word.clash) → ⊥
-    go (inl x) = not-said Word.settled Word.refused (λ z. omega arith) (sym x ∙ e)
-    go (inr x) = not-said Word.clash Word.refused (λ z. omega arith) (sym x ∙ e)
+too-short-decided c a g h j s e = not-refused (a .says .word) (h .decided (omega (arith, too-short-needs c j s))) e
 
 -- ---- of the answer
 

@@ -6,7 +6,6 @@ use native.Mathlib.Decide.{decLt}
 use mathlib.Core.Path.{_≡_, refl, sym, ap, subst, _∙_}
 use mathlib.Core.Bool.{Bool, true, false}
 use mathlib.Core.List.{List, [], _∷_, _++_}
-use mathlib.Core.Logic.{_⊎_, inl, inr}
 use mathlib.Core.Option.{Option, some}
 use lib.ListN.{length}
 use Rattle.lists.specs.Lists.{_!_}
@@ -26,7 +25,7 @@ use Rattle.timetable.specs.Reasons.{Reasons}
 use Rattle.timetable.specs.Promise.{Scheduled, needs, Room, Kept, Narrowest, Narrows}
 use Rattle.timetable.proofs.Facts.{crowded-yes, runs-yes}
 use Rattle.timetable.proofs.Calls.{good-call}
-use Rattle.answers.proofs.Same.{not-said}
+use Rattle.answers.proofs.Same.{not-said, not-refused}
 use Rattle.replay.specs.Replay.{Checked}
 use Rattle.replay.specs.Fate.{reached}
 use Rattle.replay.specs.Promise.{taken, Reasoned, TakesLogs}
@@ -55,11 +54,7 @@ unfolding needs roomOf
 room5 = omega arith
 
 pub refusing-all : (a : After) → (Good case5 → Narrowest case5 a) → a .says .word ≡ Word.refused → ⊥
-refusing-all a h e = go (h good5 .decided room5)
-  where
-    go : (a .says .word ≡ Word.settled) ⊎ (a .says .word ≡ Word.clash) → ⊥
-    go (inl x) = not-said Word.settled Word.refused (λ z. omega arith) (sym x ∙ e)
-    go (inr x) = not-said Word.clash Word.refused (λ z. omega arith) (sym x ∙ e)
+refusing-all a h e = not-refused (a .says .word) (h good5 .decided room5) e
 
 -- ---- settling everything with nothing moved: on case 2 a rule still applies
 

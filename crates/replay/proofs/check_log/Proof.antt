@@ -8,7 +8,10 @@ use Rattle.joblist.proofs.TooShort.{answer-too-short, answer-long}
 use Rattle.journal.specs.Journal.{roomOf}
 use Rattle.timetable.proofs.Calls.{good-call, call-good}
 use Rattle.timetable.specs.Table.{Call, call, Good, refusalOf}
-use Rattle.replay.proofs.Answered.{promised, row-refused, row-six, row-too-short, row-claimed, row-judged}
+use Rattle.replay.specs.Replay.{checked}
+use Rattle.replay.proofs.Answered.{promised, row-refused, row-six, row-judged}
+use Rattle.replay.proofs.Meaning.{checks}
+use Rattle.replay.proofs.TooShort.{too-short-unclaimed, too-short-claimed}
 use Rattle.replay.proofs.check_log.Statement.{statement}
 use Rattle.replay.proofs.check_log.Tie as tie
 
@@ -71,7 +74,7 @@ returns-3 c =
     let k = called (c .before .before .before .before .before .before .before) in
     let n = c .before .before .before .before .before .before .before .before .before .before .before .before .before .before .before .before .args .count in
     let s = answer-too-short _ _ _ _ (c .before .before .lowest-too-short .ensures) (c .before .if3 .taken) in
-    promised k n _ (row-claimed k n (good (c .before .before .before .before .before .before .before)) (enough (c .before .before .before .before .before)) _ s (omega (arith, c .if4 .taken)))
+    promised k n _ (sym (too-short-claimed k n (checked k n) (checks k n) (good (c .before .before .before .before .before .before .before)) _ s (omega (arith, c .if4 .taken)) (enough (c .before .before .before .before .before))))
 
 same-length-7 : tie.Need-same-length-7
 same-length-7 c = search needs
@@ -84,7 +87,7 @@ returns-4 c =
     let k = called (c .before .before .before .before .before .before .before) in
     let n = c .before .before .before .before .before .before .before .before .before .before .before .before .before .before .before .before .args .count in
     let s = answer-too-short _ _ _ _ (c .before .before .lowest-too-short .ensures) (c .before .if3 .taken) in
-    promised k n _ (row-too-short k n (good (c .before .before .before .before .before .before .before)) (enough (c .before .before .before .before .before)) _ s (omega (arith, c .if4 .left)))
+    promised k n _ (sym (too-short-unclaimed k n (checked k n) (checks k n) (good (c .before .before .before .before .before .before .before)) _ s (omega (arith, c .if4 .left))))
 
 on-copies-requires : tie.Need-on-copies-requires
 on-copies-requires c κs =
