@@ -5,8 +5,8 @@ use mathlib.Core.Bool.{Bool, true, false, cond}
 use mathlib.Core.List.{List, [], _∷_, _++_}
 use lib.ListN.{length, take, drop, replicate}
 use lib.Dec.{ltb}
-use Rattle.lists.specs.Lists.{Every}
-use Rattle.members.specs.Members.{setWords, onesOf}
+use Rattle.lists.specs.Lists.{_!_, Every}
+use Rattle.members.specs.Members.{setWords, has, onesOf}
 
 -- the places of the words before the member set, and their number
 abbrev pub jobWord : ℕ
@@ -35,6 +35,16 @@ written job side time set = job ∷ side ∷ time ∷ onesOf set ∷ set
 -- the member set of a record
 abbrev pub setOfRecord : List ℕ → List ℕ
 setOfRecord x = drop headWords x
+
+-- a record's job and time; whether k is among its members
+abbrev pub jobOf : List ℕ → ℕ
+jobOf x = x ! jobWord
+
+abbrev pub timeOf : List ℕ → ℕ
+timeOf x = x ! timeWord
+
+abbrev pub isMember : List ℕ → ℕ → Bool
+isMember x = has (setOfRecord x)
 
 -- the records that a log can hold, whatever the remainder
 unfoldable pub roomOf : List ℕ → ℕ

@@ -1,5 +1,4 @@
 pub mod Going
-pub mod Named
 pub mod Turns
 pub mod Written
 pub mod Reached

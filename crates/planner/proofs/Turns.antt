@@ -15,8 +15,9 @@ use Rattle.tabling.specs.Found.{found}
 use Rattle.tabling.specs.Search.{asked, Workable}
 use Rattle.tabling.proofs.Moves.{found-some, best-applies, time-small}
 use Rattle.planner.specs.declared.rounds.Place.{Place}
-use Rattle.planner.specs.Work.{recordOf, timeAt, Moves}
-use Rattle.planner.proofs.Named.{entry-cap}
+use Rattle.writer.specs.Record.{recordOf}
+use Rattle.planner.specs.Work.{timeAt, Moves}
+use Rattle.writer.proofs.Named.{entry-cap}
 
 module _ (e l p r : List ℕ) (cap : ℕ) (log : List ℕ) (at : Place) (t : ℕ) (x : Found) where
   abbrev here : Call

@@ -1,32 +1,22 @@
--- What the parts of narrowing say: the record of a move, one turn of the work at a place of a round, and what the whole work leaves, by how the
--- defined run ends.
+-- What the parts of narrowing say: one turn of the work at a place of a round, and what the whole work leaves, by how the defined run ends.
 use Prim.Native.Nat.{ℕ, _≤_, _<_}
 use mathlib.Core.Path.{_≡_}
 use mathlib.Core.Bool.{true, false}
 use mathlib.Core.List.{List, map}
 use mathlib.Core.Option.{Option, none, some}
 use lib.ListN.{length}
-use Rattle.narrowing.specs.Windows.{Win, Side, moved, closes, sideOf}
-use Rattle.narrowing.specs.Search.{move}
+use Rattle.narrowing.specs.Windows.{Win, moved, closes, sideOf}
 use Rattle.narrowing.specs.Run.{Out, settled, clash, short, run}
-use Rattle.members.specs.Members.{setWords, setOf}
 use Rattle.answers.specs.declared.Answer.{Answer}
 use Rattle.journal.specs.Journal.{roomOf, logged, rewritten}
 use Rattle.timetable.specs.Time.{bound}
-use Rattle.timetable.specs.Search.{search, member, entry}
+use Rattle.timetable.specs.Search.{search, entry}
 use Rattle.timetable.specs.Table.{Call, jobsOf}
 use Rattle.tabling.specs.Search.{nextTime}
+use Rattle.writer.specs.Record.{recordOf}
 use Rattle.planner.specs.declared.rounds.Place.{Place}
 use Rattle.planner.specs.declared.rounds.Turn.{Turn}
 use Rattle.planner.specs.declared.rounds.Turn.the-variants.{Rests, Moved, Closed, Full}
-
--- the writer's members of a move of job j at time t, on the windows of c
-abbrev pub membersOf : Call → ℕ → ℕ → List ℕ
-membersOf c j t = setOf setWords (member (jobsOf c) (c .win) j t)
-
--- the record of the move of job j's side s at time t
-abbrev pub recordOf : Call → ℕ → Side → ℕ → List ℕ
-recordOf c j s t = entry (jobsOf c) (move (c .win) j s t)
 
 -- the time at which a rule moves the place's side next
 abbrev pub timeAt : Call → Place → Option ℕ

@@ -1,5 +1,4 @@
-// Narrowing (document 01, 'Answer table'; document 02, Item 3): the call, on copies of the windows. `rounds` does the work, `reason` writes its records.
-mod reason;
+// Narrowing (document 01, 'Answer table'; document 02, Item 3): the call, on copies of the windows. `rounds` does the work.
 mod rounds;
 
 use answers::Answer;

@@ -1,5 +1,4 @@
 // The work (document 01, 'Order of work'): rounds over the jobs by rising number, for each job side 0 until it rests, then side 1.
-use crate::reason;
 use answers::Answer;
 ghost use mathlib.Core.Path.{_≡_};
 ghost use Prim.Native.Nat.{ℕ, _<_, _≤_};
@@ -86,7 +85,7 @@ fn take_turn(
             if journal::room(log) <= count {
                 return Turn::Full;
             }
-            reason::note(est, lct, dur, dem, job, side, t, log, count);
+            writer::note(est, lct, dur, dem, job, side, t, log, count);
             tabling::shift(est, lct, job, side, t);
             if joblist::closed(est, lct, dur, job) {
                 return Turn::Closed;

@@ -13,7 +13,7 @@ use Rattle.narrowing.specs.Rounds.{Choice, Chosen}
 use Rattle.narrowing.proofs.Moves.{side-number, long-around}
 use Rattle.narrowing.proofs.Steps.{stable-respects}
 use Rattle.answers.specs.Said.{Word, Said, said}
-use Rattle.journal.specs.Journal.{roomOf, recordAt, logged}
+use Rattle.journal.specs.Journal.{jobOf, timeOf, roomOf, recordAt, logged}
 use Rattle.journal.proofs.Records.{logged-room, logged-record}
 use Rattle.timetable.specs.Time.{Jobs, Applies, bound}
 use Rattle.timetable.specs.Search.{search, entry}
@@ -23,8 +23,8 @@ use Rattle.timetable.proofs.Entries.{entries-are, entries-count}
 use Rattle.timetable.proofs.Law.{lawful}
 use Rattle.timetable.proofs.Rows.{settled-row}
 use Rattle.timetable.proofs.Again.{same-jobs, good-again, long-again, word}
-use Rattle.replay.specs.Codes.{Coded}
-use Rattle.replay.specs.Facts.{jobOf, side, timeOf, OwnTrue, StatedTrue, Idles, GoodRecord}
+use Rattle.judge.specs.Codes.{Coded}
+use Rattle.judge.specs.Facts.{side, OwnTrue, StatedTrue, Idles, GoodRecord}
 use Rattle.replay.specs.Replay.{rejected, Checked, finds, judged}
 use Rattle.replay.specs.Fate.{Fate, reached, nth}
 use Rattle.replay.specs.Promise.{Checks}

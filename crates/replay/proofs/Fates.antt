@@ -11,14 +11,14 @@ use borrow.Author.Tests.{ltb-true, ltb-false, lt-ltb, le-ltb}
 use Rattle.lists.specs.Lists.{_!_}
 use Rattle.narrowing.specs.Windows.{Win, closes, lowestTooShort}
 use Rattle.narrowing.proofs.TooShort.{TooShortSays, too-short-is, finds-too-short}
-use Rattle.journal.specs.Journal.{records}
+use Rattle.journal.specs.Journal.{jobOf, records}
 use Rattle.timetable.specs.Time.{Jobs}
 use Rattle.timetable.specs.Table.{Call, jobsOf, AllLong, TooShort}
-use Rattle.replay.specs.Codes.{Coded, code}
-use Rattle.replay.specs.Facts.{jobOf, GoodRecord}
+use Rattle.judge.specs.Codes.{Coded, code}
+use Rattle.judge.specs.Facts.{GoodRecord}
 use Rattle.replay.specs.Replay.{changed, Verdict, holds, clashes, rejected, closing, orBad, orClosed, replay, verdictOn}
 use Rattle.replay.specs.Fate.{nth, reached, Takes, Held, Closed, Open, Closing, Shut, Fate}
-use Rattle.replay.proofs.Codes.{code-exactly, good-record, record-good}
+use Rattle.judge.proofs.Codes.{code-exactly, good-record, record-good}
 
 module _ (c : Call) where
   abbrev J : Jobs

@@ -12,16 +12,16 @@ use borrow.Author.Tests.{ltb-false}
 use Rattle.lists.specs.Lists.{_!_}
 use Rattle.narrowing.specs.Windows.{Win, Side, early, late, moved, closes}
 use Rattle.joblist.specs.Limits.{mostTime}
-use Rattle.journal.specs.Journal.{recordAt, records}
+use Rattle.journal.specs.Journal.{jobOf, timeOf, recordAt, records}
 use Rattle.timetable.specs.Time.{bound}
 use Rattle.timetable.specs.Table.{call, Good}
 use Rattle.tabling.proofs.Good.{durations-sized, end-most}
 use Rattle.tabling.proofs.Moves.{moved-good}
-use Rattle.replay.specs.Facts.{jobOf, side, timeOf, InRange}
-use Rattle.replay.specs.Codes.{code}
+use Rattle.judge.specs.Facts.{side, InRange}
+use Rattle.judge.specs.Codes.{code}
 use Rattle.replay.specs.Replay.{changed, Verdict, holds, clashes, rejected, closing, orBad, orClosed, replay}
-use Rattle.replay.specs.Lent.{jobsIn}
-use Rattle.replay.proofs.Codes.{good-record}
+use Rattle.judge.specs.Lent.{jobsIn}
+use Rattle.judge.proofs.Codes.{good-record}
 
 pub record Going (p r : List ℕ) (cap : ℕ) (log : List ℕ) (count : ℕ) (from W : Win) (i : ℕ) : Type 0 where
   pub within : i ≤ count

@@ -1,4 +1,3 @@
-pub mod Codes
 pub mod Fates
 pub mod Sound
 pub mod Meaning
@@ -7,7 +6,5 @@ pub mod Logs
 pub mod Rows
 pub mod TooShort
 pub mod Again
-pub mod Steps
-pub mod Chain
 pub mod Going
 pub mod Answered

@@ -15,12 +15,11 @@ use Rattle.timetable.proofs.TooShort.{too-short-none}
 use Rattle.narrowing.proofs.Schedules.{step-schedule, none-schedule}
 use Rattle.answers.specs.Said.{Word}
 use Rattle.answers.proofs.Same.{not-said}
-use Rattle.journal.specs.Journal.{roomOf, records}
+use Rattle.journal.specs.Journal.{jobOf, roomOf, records}
 use Rattle.timetable.specs.Time.{Applies, Fits}
 use Rattle.timetable.specs.Table.{Call, jobsOf, refusalOf}
 use Rattle.timetable.specs.Promise.{Scheduled, NoneIn}
 use Rattle.timetable.proofs.Exact.{exact}
-use Rattle.replay.specs.Facts.{jobOf}
 use Rattle.replay.specs.Replay.{Verdict, holds, clashes, rejected, verdictOn, Checked, judged, refuses, orSix, rows, checked}
 use Rattle.replay.specs.Fate.{reached, Takes, Closing, Fate, Shut}
 use Rattle.replay.specs.Promise.{taken, Reasoned, Checks}

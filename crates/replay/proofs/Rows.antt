@@ -18,12 +18,12 @@ use Rattle.answers.proofs.Same.{check-same, not-said, said-apart}
 use Rattle.joblist.specs.Limits.{jobs, fourLists, supply}
 use Rattle.joblist.specs.GoodList.{Given}
 use Rattle.joblist.proofs.Refusals.{refusal-exactly}
-use Rattle.journal.specs.Journal.{recordWords, roomOf, records}
+use Rattle.journal.specs.Journal.{recordWords, jobOf, timeOf, roomOf, records}
 use Rattle.journal.proofs.Records.{room-short}
 use Rattle.timetable.specs.Time.{bound}
 use Rattle.timetable.specs.Table.{Call, jobsOf, Good, refusalOf}
 use Rattle.timetable.proofs.Calls.{good-call, call-good}
-use Rattle.replay.specs.Facts.{jobOf, side, timeOf}
+use Rattle.judge.specs.Facts.{side}
 use Rattle.replay.specs.Replay.{changed, Verdict, holds, clashes, rejected, verdictOn, Checked, finds, judged, refuses, orSix, rows, checked}
 use Rattle.replay.specs.Fate.{reached, Open, Fate}
 use Rattle.replay.specs.Promise.{Checks}

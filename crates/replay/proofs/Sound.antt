@@ -15,12 +15,13 @@ use Rattle.lists.proofs.Sums.{total-le, total-others}
 use Rattle.narrowing.specs.Windows.{Win, Side, early, late, moved}
 use Rattle.narrowing.specs.Rules.{Step}
 use Rattle.narrowing.proofs.Steps.{step-refl, step-trans, step-move}
+use Rattle.journal.specs.Journal.{jobOf, timeOf, isMember}
 use Rattle.timetable.specs.Time.{Jobs, Runs, runs, Sure, sure, load, Crowded, Early, Late, Applies, bound}
 use Rattle.timetable.specs.Reason.{OwnFact, Stated, namedDrawn, Changed, Implied, Within}
 use Rattle.timetable.specs.Table.{Call, jobsOf}
 use Rattle.timetable.proofs.Facts.{yes-sure, yes-runs}
 use Rattle.timetable.proofs.Law.{lawful}
-use Rattle.replay.specs.Facts.{jobOf, side, timeOf, isMember, named, OwnTrue, Tightens, GoodRecord}
+use Rattle.judge.specs.Facts.{side, named, OwnTrue, Tightens, GoodRecord}
 use Rattle.replay.specs.Replay.{changed}
 use Rattle.replay.specs.Fate.{reached, Takes, Open}
 

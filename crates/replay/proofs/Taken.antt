@@ -24,15 +24,15 @@ use Rattle.narrowing.proofs.Runs.{work-ind}
 use Rattle.members.specs.Members.{setWords, has, setOf}
 use Rattle.members.proofs.Sets.{has-setOf, has-beyond}
 use Rattle.joblist.specs.Limits.{mostTime}
-use Rattle.journal.specs.Journal.{setOfRecord}
+use Rattle.journal.specs.Journal.{setOfRecord, jobOf, timeOf, isMember}
 use Rattle.timetable.specs.Time.{Jobs, Sure, sure, load, Crowded, Applies, bound}
 use Rattle.timetable.specs.Search.{search, Member, member, entry}
 use Rattle.timetable.proofs.Facts.{sure-yes, yes-sure, member-yes, yes-member}
 use Rattle.timetable.proofs.Law.{searches}
-use Rattle.replay.specs.Facts.{jobOf, side, timeOf, isMember, named, OwnTrue, Tightens, GoodRecord}
-use Rattle.replay.specs.Codes.{code}
+use Rattle.judge.specs.Facts.{side, named, OwnTrue, Tightens, GoodRecord}
+use Rattle.judge.specs.Codes.{code}
 use Rattle.replay.specs.Replay.{changed, Verdict, holds, clashes, replay, verdictOn}
-use Rattle.replay.proofs.Codes.{record-good}
+use Rattle.judge.proofs.Codes.{record-good}
 
 number-most : (s : Side) → number s ≤ 1
 number-most early = omega arith

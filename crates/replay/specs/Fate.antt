@@ -6,10 +6,10 @@ use mathlib.Core.List.{List}
 use mathlib.Core.Logic.{_⊎_}
 use Rattle.lists.specs.Lists.{_!_}
 use Rattle.narrowing.specs.Windows.{Win}
-use Rattle.journal.specs.Journal.{recordAt}
+use Rattle.journal.specs.Journal.{jobOf, recordAt}
 use Rattle.timetable.specs.Table.{Call, jobsOf, AllLong, TooShort}
-use Rattle.replay.specs.Codes.{Coded}
-use Rattle.replay.specs.Facts.{jobOf, GoodRecord}
+use Rattle.judge.specs.Codes.{Coded}
+use Rattle.judge.specs.Facts.{GoodRecord}
 use Rattle.replay.specs.Replay.{changed, Verdict, holds, clashes, rejected}
 
 -- record i of the call's log

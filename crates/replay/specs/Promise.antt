@@ -4,10 +4,11 @@ use mathlib.Core.Path.{_≡_}
 use mathlib.Core.List.{List, [], _∷_}
 use Rattle.lists.specs.Lists.{_!_}
 use Rattle.answers.specs.Said.{Word, Said, said}
+use Rattle.journal.specs.Journal.{jobOf, timeOf, isMember}
 use Rattle.timetable.specs.Table.{Call, call, jobsOf, After}
 use Rattle.timetable.specs.Promise.{Scheduled, Narrows}
 use Rattle.timetable.specs.Reason.{Stated, Implied, Within}
-use Rattle.replay.specs.Facts.{jobOf, side, timeOf, isMember}
+use Rattle.judge.specs.Facts.{side}
 use Rattle.replay.specs.Replay.{Checked, finds, checked}
 use Rattle.replay.specs.Fate.{nth, reached}
 

@@ -8,11 +8,11 @@ use lib.Dec.{ltb}
 use Rattle.lists.specs.Lists.{_!_}
 use Rattle.narrowing.specs.Windows.{Win, moved, closes, lowestTooShort}
 use Rattle.answers.specs.Said.{Word, Said, said}
-use Rattle.journal.specs.Journal.{roomOf, recordAt, records}
+use Rattle.journal.specs.Journal.{jobOf, timeOf, roomOf, recordAt, records}
 use Rattle.timetable.specs.Time.{Jobs, bound}
 use Rattle.timetable.specs.Table.{Call, jobsOf, refusalOf}
-use Rattle.replay.specs.Facts.{jobOf, side, timeOf}
-use Rattle.replay.specs.Codes.{code}
+use Rattle.judge.specs.Facts.{side}
+use Rattle.judge.specs.Codes.{code}
 
 -- the windows after a record: one bound of its job moves, to t + 1 on side 0 and to t on side 1
 unfoldable pub changed : Win → List ℕ → Win

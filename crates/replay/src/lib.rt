@@ -1,9 +1,5 @@
 // The checker (document 01, 'Answer table'; document 02, Item 3): it replays a log from the submitted windows, and rewrites them only where the log holds.
 use answers::CheckAnswer;
-
-mod facts;
-mod judge;
-
 ghost use mathlib.Core.Path.{_≡_};
 ghost use mathlib.Core.List.{[]};
 ghost use Prim.Native.Nat.{_≤_};
@@ -14,7 +10,7 @@ ghost use Rattle.journal.specs.Journal.{roomOf, records};
 ghost use Rattle.timetable.specs.Table.{call, Good};
 ghost use Rattle.replay.specs.Replay.{replay, finds, judged};
 ghost use Rattle.replay.specs.Promise.{Checks};
-ghost use Rattle.replay.specs.Lent.{jobsIn};
+ghost use Rattle.judge.specs.Lent.{jobsIn};
 ghost use Rattle.replay.specs.Ended.{verdict};
 
 // The code of a record where a window was closed before it.

@@ -1,0 +1,137 @@
+-- The tests of a record as the code makes them: bit by bit of its member set, job by job of the demands named.
+use Prim.Native.Nat.{ℕ, zero, suc, _+_, _*_, _≤_, _<_}
+use native.Mathlib.Omega.{arith}
+use native.Mathlib.Decide.{decLt}
+use native.Mathlib.Numerals.{add-one}
+use mathlib.Core.Path.{_≡_, refl, _∙_}
+use mathlib.Core.Bool.{Bool, true, false, not}
+use mathlib.Core.List.{List, []}
+use lib.Dec.{leb, ltb, eqb}
+use lib.ListN.{length, List·getD-eq-default}
+use borrow.Author.Tests.{lt-ltb, le-ltb}
+use Rattle.lists.specs.Lists.{_!_}
+use Rattle.lists.specs.Tests.{both, where?, only, every}
+use Rattle.lists.specs.Sums.{total}
+use Rattle.lists.proofs.Tests.{every-at}
+use Rattle.lists.proofs.Sums.{total-suc}
+use Rattle.narrowing.specs.Windows.{Win, sideOf}
+use Rattle.members.specs.Members.{has}
+use Rattle.journal.specs.Journal.{setOfRecord, jobOf, timeOf}
+use Rattle.timetable.specs.Time.{sure}
+use Rattle.judge.specs.Facts.{side, named}
+use Rattle.judge.specs.Codes.{takesPart, partners, ownTrue, statedTrue, tightens}
+use Rattle.judge.specs.Lent.{jobsIn}
+
+-- ---- a test at every number below m, from 0 up
+
+pub every-none : (f : ℕ → Bool) → every f 0 ≡ true
+unfolding every
+every-none f = refl
+
+pub every-more : (f : ℕ → Bool) (k : ℕ) → every f k ≡ true → f k ≡ true → every f (k + 1) ≡ true
+unfolding every
+every-more f k h q = rw (add-one, q, h)
+
+-- where it fails below m
+pub every-fault : (f : ℕ → Bool) (m k : ℕ) → k < m → f k ≡ false → every f m ≡ false
+every-fault f m k b h = go (every f m) refl
+  where
+    go : (x : Bool) → every f m ≡ x → every f m ≡ false
+    go false e = e
+    go true e = let q = every-at f m e k b in cc
+
+-- the number of the bits looked at is the number of bits
+pub every-end : (f : ℕ → Bool) (m k : ℕ) → k ≤ m → m ≤ k → every f k ≡ true → every f m ≡ true
+every-end f m k a b h = let e : m ≡ k = omega arith in rw e h
+
+both-false : (a : Bool) → both a false ≡ false
+both-false true = refl
+both-false false = refl
+
+-- ---- sides: any number but 0 is side 1
+
+pub own-early : (p : List ℕ) (W : Win) (j s t : ℕ) → s ≡ 0 → ltb t (W .e ! j + p ! j) ≡ ownTrue p W j (sideOf s) t
+own-early p W j s t h = rw h
+
+pub own-late : (p : List ℕ) (W : Win) (j s t : ℕ) → (s ≡ 0 → ⊥) → leb (W .l ! j) (t + p ! j) ≡ ownTrue p W j (sideOf s) t
+own-late p W j zero t h = absurd (h refl)
+own-late p W j (suc s) t h = refl
+
+pub tightens-early : (W : Win) (j s t : ℕ) → s ≡ 0 → leb (W .e ! j) t ≡ tightens W j (sideOf s) t
+tightens-early W j s t h = rw h
+
+pub tightens-late : (W : Win) (j s t : ℕ) → (s ≡ 0 → ⊥) → ltb t (W .l ! j) ≡ tightens W j (sideOf s) t
+tightens-late W j zero t h = absurd (h refl)
+tightens-late W j (suc s) t h = refl
+
+-- ---- 22
+
+-- beyond the list there is neither a duration nor a demand
+own-part : (p r : List ℕ) (j : ℕ) → takesPart (jobsIn (length p) p r 0) j ≡ both (leb 1 (p ! j)) (leb 1 (r ! j))
+unfolding takesPart
+own-part p r j =
+    elim (decLt j (length p)) [
+      | yes h ↦ rw (lt-ltb j (length p) h)
+      | no h ↦ let z : length p ≤ j = omega arith in rw (le-ltb j (length p) z, List·getD-eq-default p 0 {n = j} z)
+    ]
+
+-- what is asked of bit k of the set s
+abbrev pub partnerAt : List ℕ → List ℕ → ℕ → List ℕ → ℕ → Bool
+partnerAt p r j s k = where? (has s k) (both (takesPart (jobsIn (length p) p r 0) k) (not (eqb k j)))
+
+module _ (p r x s : List ℕ) (is : s ≡ setOfRecord x) where
+  partners-is : partners (jobsIn (length p) p r 0) x
+      ≡ both (takesPart (jobsIn (length p) p r 0) (jobOf x)) (every (partnerAt p r (jobOf x) s) (32 * length s))
+  unfolding partners
+  partners-is = rw (is, own-part p r (jobOf x))
+
+  pub partners-own : takesPart (jobsIn (length p) p r 0) (jobOf x) ≡ false → partners (jobsIn (length p) p r 0) x ≡ false
+  partners-own h = partners-is ∙ rw h
+
+  pub partners-fault : (k : ℕ) → k < 32 * length s → partnerAt p r (jobOf x) s k ≡ false → partners (jobsIn (length p) p r 0) x ≡ false
+  partners-fault k b h = partners-is ∙ rw (every-fault (partnerAt p r (jobOf x) s) (32 * length s) k b h) (both-false (takesPart (jobsIn (length p) p r 0) (jobOf x)))
+
+  pub partners-all : takesPart (jobsIn (length p) p r 0) (jobOf x) ≡ true → every (partnerAt p r (jobOf x) s) (32 * length s) ≡ true
+      → partners (jobsIn (length p) p r 0) x ≡ true
+  partners-all h q = partners-is ∙ rw (h, q)
+
+-- ---- the demands named
+
+abbrev pub shareAt : List ℕ → List ℕ → ℕ → ℕ
+shareAt r s k = only (has s k) (r ! k)
+
+pub share-most : (r s : List ℕ) (k : ℕ) → shareAt r s k ≤ r ! k
+share-most r s k = go (has s k)
+  where
+    go : (b : Bool) → only b (r ! k) ≤ r ! k
+    go true = omega arith
+    go false = omega arith
+
+pub named-more : (r s : List ℕ) (k : ℕ) → total (shareAt r s) (k + 1) ≡ total (shareAt r s) k + shareAt r s k
+named-more r s k = rw add-one (total-suc (shareAt r s) k)
+
+pub named-is : (r x s : List ℕ) → s ≡ setOfRecord x → total (shareAt r s) (length r) ≡ named (jobsIn (length r) [] r 0) x
+unfolding named
+named-is r x s is = rw is
+
+-- ---- 25
+
+-- what is asked of bit k of the set s
+abbrev pub trueAt : List ℕ → Win → List ℕ → ℕ → ℕ → Bool
+trueAt p W s t k = where? (has s k) (sure p W k t)
+
+module _ (p : List ℕ) (W : Win) (x s : List ℕ) (is : s ≡ setOfRecord x) where
+  stated-is : statedTrue (jobsIn 0 p [] 0) W x ≡ both (ownTrue p W (jobOf x) (side x) (timeOf x)) (every (trueAt p W s (timeOf x)) (32 * length s))
+  unfolding statedTrue
+  stated-is = rw is
+
+  pub stated-own : ownTrue p W (jobOf x) (side x) (timeOf x) ≡ false → statedTrue (jobsIn 0 p [] 0) W x ≡ false
+  stated-own h = stated-is ∙ rw h
+
+  pub stated-fault : (k : ℕ) → k < 32 * length s → trueAt p W s (timeOf x) k ≡ false → statedTrue (jobsIn 0 p [] 0) W x ≡ false
+  stated-fault k b h =
+      stated-is ∙ rw (every-fault (trueAt p W s (timeOf x)) (32 * length s) k b h) (both-false (ownTrue p W (jobOf x) (side x) (timeOf x)))
+
+  pub stated-all : ownTrue p W (jobOf x) (side x) (timeOf x) ≡ true → every (trueAt p W s (timeOf x)) (32 * length s) ≡ true
+      → statedTrue (jobsIn 0 p [] 0) W x ≡ true
+  stated-all h q = stated-is ∙ rw (h, q)

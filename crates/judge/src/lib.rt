@@ -1,0 +1,163 @@
+// What a record has to be on the windows reached so far (document 01, 'Answer table', codes 21 to 26): a function for each test, in their order.
+mod facts;
+
+ghost use mathlib.Core.Path.{_≡_};
+ghost use mathlib.Core.Bool.{not};
+ghost use mathlib.Core.List.{[]};
+ghost use Prim.Native.Nat.{ℕ, _+_, _*_, _≤_, _<_};
+ghost use lib.Dec.{eqb, ltb};
+ghost use lib.ListN.{length};
+ghost use Rattle.lists.specs.Lists.{_!_};
+ghost use Rattle.lists.specs.Tests.{both, where?, only};
+ghost use Rattle.narrowing.specs.Windows.{win};
+ghost use Rattle.members.specs.Members.{has, onesOf};
+ghost use Rattle.joblist.specs.Limits.{mostDemand, mostJobs};
+ghost use Rattle.journal.specs.Journal.{countWord, recordWords, setOfRecord, jobOf, timeOf};
+ghost use Rattle.timetable.specs.Table.{call, Good};
+ghost use Rattle.judge.specs.Facts.{side, named};
+ghost use Rattle.judge.specs.Codes.{inRange, takesPart, partners, tightens, code};
+ghost use Rattle.judge.specs.Lent.{jobsIn};
+
+// 21: the job is in a list of n jobs, the side is 0 or 1, and the time is within its limit.
+fn in_range(n: usize, words: &[u32]) -> bool
+    requires { ⌜ length (now words) ≡ recordWords ⌝ }
+    ensures { λ r. ⌜ r ≡ inRange (jobsIn n [] [] 0) (now (words .entry)) ⌝ }
+{
+    if n <= (words[journal::JOB] as usize) {
+        return false;
+    }
+    if 1 < words[journal::SIDE] {
+        return false;
+    }
+    words[journal::TIME] <= joblist::TIME
+}
+
+// Whether k is in the list, with a duration and a demand.
+fn takes_part(dur: &[u32], dem: &[u32], k: usize) -> bool
+    requires { ⌜ length (now dem) ≡ length (now dur) ⌝ }
+    ensures { λ r. ⌜ r ≡ takesPart (jobsIn (length (now (dur .entry))) (now (dur .entry)) (now (dem .entry)) 0) k ⌝ }
+{
+    if dur.len() <= k {
+        return false;
+    }
+    if dur[k] < 1 {
+        return false;
+    }
+    1 <= dem[k]
+}
+
+// Whether k, if it is a member, takes part and is not the moved job.
+fn partner(dur: &[u32], dem: &[u32], job: usize, set: &[u32], k: usize) -> bool
+    requires { ⌜ length (now dem) ≡ length (now dur) ⌝ }
+    ensures { λ r. ⌜ r ≡ where? (has (now (set .entry)) k) (both (takesPart (jobsIn (length (now (dur .entry))) (now (dur .entry)) (now (dem .entry)) 0) k) (not (eqb k job))) ⌝ }
+{
+    if !members::has(set, k) {
+        return true;
+    }
+    if !takes_part(dur, dem, k) {
+        return false;
+    }
+    k != job
+}
+
+// 22: the moved job and every member take part, and the moved job is no member. Every bit of the set is looked at.
+fn partners(dur: &[u32], dem: &[u32], words: &[u32]) -> bool
+    requires { ⌜ (length (now dem) ≡ length (now dur)) × (length (now words) ≡ recordWords) ⌝ }
+    ensures { λ r. ⌜ r ≡ partners (jobsIn (length (now (dur .entry))) (now (dur .entry)) (now (dem .entry)) 0) (now (words .entry)) ⌝ }
+{
+    let job = words[journal::JOB] as usize;
+    if !takes_part(dur, dem, job) {
+        return false;
+    }
+    let set = journal::set_of(words);
+    let mut k = 0;
+    while k < members::BITS * set.len() {
+        if !partner(dur, dem, job, set, k) {
+            return false;
+        }
+        k += 1;
+    }
+    true
+}
+
+// 23: the count word is the number of ones.
+fn counted(words: &[u32]) -> bool
+    requires { ⌜ length (now words) ≡ recordWords ⌝ }
+    ensures { λ r. ⌜ r ≡ eqb (now (words .entry) ! countWord) (onesOf (setOfRecord (now (words .entry)))) ⌝ }
+{
+    let ones = members::count(journal::set_of(words));
+    words[journal::COUNT] == ones
+}
+
+// What job k adds to the demands named.
+fn share(dem: &[u32], set: &[u32], k: usize) -> u32
+    requires { ⌜ k < length (now dem) ⌝ }
+    ensures { λ r. ⌜ r ≡ only (has (now (set .entry)) k) (now (dem .entry) ! k) ⌝ }
+{
+    if members::has(set, k) {
+        return dem[k];
+    }
+    0
+}
+
+// The demands of the members.
+fn named(dem: &[u32], words: &[u32]) -> u32
+    requires { ⌜ (length (now dem) ≤ mostJobs) × ((k : ℕ) → now dem ! k ≤ mostDemand) × (length (now words) ≡ recordWords) ⌝ }
+    ensures { λ r. ⌜ (r ≡ named (jobsIn (length (now (dem .entry))) [] (now (dem .entry)) 0) (now (words .entry))) × (r ≤ mostDemand * mostJobs) ⌝ }
+{
+    let set = journal::set_of(words);
+    let mut sum: u32 = 0;
+    let mut k = 0;
+    while k < dem.len() {
+        sum += share(dem, set, k);
+        k += 1;
+    }
+    sum
+}
+
+// 24: the demands named, members' and moved job's together, exceed the capacity.
+fn exceeds(dem: &[u32], cap: u32, words: &[u32]) -> bool
+    requires { ⌜ (length (now dem) ≤ mostJobs) × ((k : ℕ) → now dem ! k ≤ mostDemand) × (length (now words) ≡ recordWords) × (jobOf (now words) < length (now dem)) ⌝ }
+    ensures { λ r. ⌜ r ≡ ltb cap (named (jobsIn (length (now (dem .entry))) [] (now (dem .entry)) 0) (now (words .entry)) + now (dem .entry) ! jobOf (now (words .entry))) ⌝ }
+{
+    let sum = named(dem, words);
+    cap < sum + dem[words[journal::JOB] as usize]
+}
+
+// 26: the change tightens.
+fn tightens(est: &[u32], lct: &[u32], words: &[u32]) -> bool
+    requires { ⌜ (length (now words) ≡ recordWords) × (jobOf (now words) < length (now est)) × (jobOf (now words) < length (now lct)) ⌝ }
+    ensures { λ r. ⌜ r ≡ tightens (win (now (est .entry)) (now (lct .entry))) (jobOf (now (words .entry))) (side (now (words .entry))) (timeOf (now (words .entry))) ⌝ }
+{
+    let job = words[journal::JOB] as usize;
+    if words[journal::SIDE] == 0 {
+        return est[job] <= words[journal::TIME];
+    }
+    words[journal::TIME] < lct[job]
+}
+
+// The code of the first test that a record fails on the windows reached, and 0 where it is good.
+pub fn code_of(est: &[u32], lct: &[u32], dur: &[u32], dem: &[u32], cap: u32, words: &[u32]) -> u32
+    requires { ⌜ Good (call (win (now est) (now lct)) (now dur) (now dem) cap []) × (length (now words) ≡ recordWords) ⌝ }
+    ensures { λ r. ⌜ r ≡ code (jobsIn (length (now (dur .entry))) (now (dur .entry)) (now (dem .entry)) cap) (win (now (est .entry)) (now (lct .entry))) (now (words .entry)) ⌝ }
+{
+    if !in_range(dur.len(), words) {
+        return 21;
+    }
+    if !partners(dur, dem, words) {
+        return 22;
+    }
+    if !counted(words) {
+        return 23;
+    }
+    if !exceeds(dem, cap, words) {
+        return 24;
+    }
+    if !facts::stated_true(est, lct, dur, words) {
+        return 25;
+    }
+    if !tightens(est, lct, words) {
+        return 26;
+    }
+    0
+}

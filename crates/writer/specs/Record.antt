@@ -1,0 +1,16 @@
+-- What the writer puts down of a move (document 01, 'Log records').
+use Prim.Native.Nat.{ℕ}
+use mathlib.Core.List.{List}
+use Rattle.narrowing.specs.Windows.{Side}
+use Rattle.narrowing.specs.Search.{move}
+use Rattle.members.specs.Members.{setWords, setOf}
+use Rattle.timetable.specs.Search.{member, entry}
+use Rattle.timetable.specs.Table.{Call, jobsOf}
+
+-- the writer's members of a move of job j at time t, on the windows of c
+abbrev pub membersOf : Call → ℕ → ℕ → List ℕ
+membersOf c j t = setOf setWords (member (jobsOf c) (c .win) j t)
+
+-- the record of the move of job j's side s at time t
+abbrev pub recordOf : Call → ℕ → Side → ℕ → List ℕ
+recordOf c j s t = entry (jobsOf c) (move (c .win) j s t)
