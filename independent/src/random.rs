@@ -37,4 +37,13 @@ impl Random {
     pub fn pick<T: Clone>(&mut self, from: &[T]) -> T {
         from[self.below(from.len())].clone()
     }
+
+    /// The numbers below `length` in any order.
+    pub fn order(&mut self, length: usize) -> Vec<usize> {
+        let mut order: Vec<usize> = (0..length).collect();
+        for k in (1..length).rev() {
+            order.swap(k, self.below(k + 1));
+        }
+        order
+    }
 }

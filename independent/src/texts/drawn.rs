@@ -8,7 +8,6 @@ use crate::project::{Project, ProjectJob};
 use crate::random::Random;
 use crate::texts::faults;
 use crate::texts::lent::{call as made_call, exact, variations, Lengths};
-use crate::texts::networks::shuffled;
 use crate::texts::whole::{needs, Needs};
 
 /// Mostly up to `usual`, once in a while the limit or one more.
@@ -65,7 +64,7 @@ fn project(random: &mut Random) -> Project {
     let order = match random.below(3) {
         0 => (0..jobs).collect(),
         1 => (0..jobs).rev().collect(),
-        _ => shuffled(random, jobs),
+        _ => random.order(jobs),
     };
     let mut project = Project {
         caps: demands(random, resources),

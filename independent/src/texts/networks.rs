@@ -11,14 +11,6 @@ use crate::written;
 
 const SIZES: [usize; 6] = [2, 32, 33, 64, 65, MOST_JOBS];
 
-pub fn shuffled(random: &mut Random, jobs: usize) -> Vec<usize> {
-    let mut order: Vec<usize> = (0..jobs).collect();
-    for k in (1..jobs).rev() {
-        order.swap(k, random.below(k + 1));
-    }
-    order
-}
-
 /// Jobs in the order given, each before one in `thin` of those behind it.
 fn network(random: &mut Random, order: &[usize], thin: usize, longest: u32) -> Project {
     let mut project = Project {
@@ -46,7 +38,7 @@ fn with_cycle(random: &mut Random, mut project: Project, order: &[usize]) -> Pro
 
 /// As many successors as a text may have without a cycle, most of them twice.
 fn fullest(random: &mut Random) -> Project {
-    let order = shuffled(random, MOST_JOBS);
+    let order = random.order(MOST_JOBS);
     let mut project = network(random, &order, 1, 10);
     for job in &mut project.jobs {
         let once = job.successors.clone();
@@ -72,7 +64,7 @@ fn about_the_room(project: &Project) -> [Call; 2] {
 
 /// No horizon is long enough for the chain of 256 durations at their limit.
 fn longest_chain(random: &mut Random) -> Project {
-    let order = shuffled(random, MOST_JOBS);
+    let order = random.order(MOST_JOBS);
     let mut project = network(random, &order, 8, 0);
     project
         .jobs
@@ -85,7 +77,7 @@ fn of_size(random: &mut Random, jobs: usize) -> Vec<Call> {
     let along: Vec<usize> = (0..jobs).collect();
     let against: Vec<usize> = (0..jobs).rev().collect();
     let mut calls = Vec::new();
-    for order in [along, against, shuffled(random, jobs)] {
+    for order in [along, against, random.order(jobs)] {
         for thin in [1, 3, jobs] {
             let project = network(random, &order, thin, 3_900);
             calls.extend(about_the_chain(&text(&project)));
