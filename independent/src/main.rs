@@ -15,6 +15,7 @@ mod patterson;
 mod project;
 mod random;
 mod reading;
+mod reasons;
 mod record;
 mod replay;
 mod text;

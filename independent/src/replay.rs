@@ -1,9 +1,10 @@
 //! The checker: replays a log from the submitted windows, record by record,
-//! with refusal 6 and the codes 20 to 26 in their order (01, "Log records"
-//! for what a record says, "Answer table" for the codes; 02, Item 3).
+//! with refusal 6 and the codes 20 to 27 in their order (01, "Log records"
+//! for what a record says, "Answer table" for the codes; 02, Items 3 and 7).
 
 use crate::answers::Answer;
 use crate::joblist::{good_jobs, lowest_too_short, Job, Supply, Times, MOST_TIME};
+use crate::reasons::named;
 use crate::record::{room, shown, Record};
 use crate::timetable::Side;
 
@@ -78,14 +79,17 @@ impl Replay {
 
         unless(record.count != record.members.ones(), 23)?;
 
-        let named: i64 = members.iter().map(|&k| self.jobs[k].r).sum();
-        unless(named + self.jobs[j].r <= self.cap, 24)?;
+        let named = named(&self.jobs, j, &record.members);
+        unless(named <= self.cap, 24)?;
 
         let untrue = |&k: &usize| !is_true_of_member(&self.jobs[k], t);
         let moved_untrue = !is_true_of_moved(&self.jobs[j], side, t);
         unless(moved_untrue || members.iter().any(untrue), 25)?;
 
         unless(!tightens(&self.jobs[j], side, t), 26)?;
+
+        let spare = |&k: &usize| named - self.jobs[k].r > self.cap;
+        unless(members.iter().any(spare), 27)?;
         Ok((j, side, t))
     }
 

@@ -1,9 +1,10 @@
 //! Narrowing, tick by tick: sure parts, crowded times, the two time-tabling
 //! rules, the order of work and the writer's records (01, "Job lists", "The
-//! two time-tabling rules", "Log records", "Answer table"; 02, Item 3).
+//! two time-tabling rules", "Log records", "Answer table"; 02, Items 3 and 7).
 
 use crate::answers::Answer;
 use crate::joblist::{good_jobs, lowest_too_short, Job, Supply, Times};
+use crate::reasons::{lean, Naming};
 use crate::record::{room, Members, Record, RECORD_WORDS};
 
 #[derive(Clone, Copy, Debug, PartialEq, Eq)]
@@ -63,6 +64,17 @@ fn time_to_move(jobs: &[Job], cap: i64, j: usize, side: Side) -> Option<i64> {
     }
 }
 
+/// The record that moves this side of job j at time t for these members.
+pub fn record(j: usize, side: Side, t: i64, members: Members) -> Record {
+    Record {
+        job: u32::try_from(j).expect("at most 256 jobs"),
+        side: side.word(),
+        time: u32::try_from(t).expect("a time in a window"),
+        count: members.ones(),
+        members,
+    }
+}
+
 /// Why the work stops before no rule applies.
 enum Stop {
     Closed(usize),
@@ -73,29 +85,19 @@ struct Work {
     jobs: Vec<Job>,
     cap: i64,
     room: usize,
+    naming: Naming,
     records: Vec<Record>,
 }
 
 impl Work {
-    fn record(&self, j: usize, side: Side, t: i64) -> Record {
-        let mut members = Members::default();
-        sure_others(&self.jobs, j, t).for_each(|k| members.put(k));
-        Record {
-            job: u32::try_from(j).expect("at most 256 jobs"),
-            side: side.word(),
-            time: u32::try_from(t).expect("a crowded time lies in a window"),
-            count: members.ones(),
-            members,
-        }
-    }
-
     /// One side of one job, again and again until its rule doesn't apply.
     fn narrow_side(&mut self, j: usize, side: Side) -> Result<(), Stop> {
         while let Some(t) = time_to_move(&self.jobs, self.cap, j, side) {
             if self.records.len() == self.room {
                 return Err(Stop::NoRoom);
             }
-            self.records.push(self.record(j, side, t));
+            let members = (self.naming)(&self.jobs, self.cap, j, t);
+            self.records.push(record(j, side, t, members));
             self.jobs[j] = side.moved(self.jobs[j], t);
             if self.jobs[j].is_too_short() {
                 return Err(Stop::Closed(j));
@@ -127,6 +129,16 @@ impl Work {
 
 /// Narrows the windows; what becomes of windows and log is the answer table's.
 pub fn narrow(times: &mut Times, supply: &Supply, log: &mut [u32]) -> Answer {
+    narrow_naming(lean, times, supply, log)
+}
+
+/// Narrows the windows and names the members of every record in this way.
+pub fn narrow_naming(
+    naming: Naming,
+    times: &mut Times,
+    supply: &Supply,
+    log: &mut [u32],
+) -> Answer {
     let jobs = match good_jobs(times, supply) {
         Ok(jobs) => jobs,
         Err(number) => return Answer::Refused(number),
@@ -138,6 +150,7 @@ pub fn narrow(times: &mut Times, supply: &Supply, log: &mut [u32]) -> Answer {
         jobs,
         cap: i64::from(supply.cap),
         room: room(log),
+        naming,
         records: Vec::new(),
     };
     match work.narrow_all() {

@@ -39,7 +39,7 @@ fn wanted() -> BTreeSet<String> {
         "check holds, check holds 0, check clash, check clash 0",
         "check refused 1, check refused 2, check refused 3, check refused 6",
         "check rejected 20, check rejected 21, check rejected 22, check rejected 23",
-        "check rejected 24, check rejected 25, check rejected 26",
+        "check rejected 24, check rejected 25, check rejected 26, check rejected 27",
         "record shown 0, record shown 12",
         "overload none, overload overload",
         "overload refused 1, overload refused 2, overload refused 3",

@@ -71,18 +71,16 @@ fn a_limit_below_zero_is_no_restriction() {
 }
 
 #[test]
-fn fewer_members_or_another_time_hold_too() {
+fn other_members_or_another_time_hold_too() {
     let (times, supply) = lists(1, &[(0, 12, 3, 1), (0, 4, 4, 1), (0, 4, 4, 1)]);
     let other_time = [0, 0, 1, 1, 4, 0, 0, 0, 0, 0, 0, 0];
-    let all_members = [0, 0, 3, 2, 6, 0, 0, 0, 0, 0, 0, 0];
-    let alone = [2, 1, 0, 1, 2, 0, 0, 0, 0, 0, 0, 0];
+    let other_member = [0, 0, 3, 1, 2, 0, 0, 0, 0, 0, 0, 0];
+    let closing = [2, 1, 0, 1, 2, 0, 0, 0, 0, 0, 0, 0];
     assert_eq!(checked(&times, &supply, &[other_time]), Answer::Holds(1));
-    assert_eq!(
-        checked(&times, &supply, &[other_time, all_members]),
-        Answer::Holds(2)
-    );
-    let closing = [other_time, all_members, alone];
-    assert_eq!(checked(&times, &supply, &closing), Answer::Clash(3, 2));
+    let both = [other_time, other_member];
+    assert_eq!(checked(&times, &supply, &both), Answer::Holds(2));
+    let all = [other_time, other_member, closing];
+    assert_eq!(checked(&times, &supply, &all), Answer::Clash(3, 2));
 }
 
 #[test]

@@ -8,6 +8,8 @@ mod checking;
 mod codes;
 mod demands;
 mod layouts;
+mod lean;
+mod lean_runs;
 mod lines;
 mod narrowing;
 mod overload;
@@ -16,6 +18,7 @@ mod patterson;
 mod reading;
 mod short;
 mod short_calls;
+mod spare;
 mod texts;
 
 use crate::answers::Answer;
