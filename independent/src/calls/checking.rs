@@ -1,66 +1,13 @@
 //! Calls that check: the writer's own logs, foreign logs that hold or clash,
-//! and either of them with records spoiled for each of the codes.
+//! and either of them with other members or records spoiled for each of the
+//! codes.
 
-use crate::calls::narrowing::{busy_lists, ragged, words};
-use crate::calls::{faults, short};
-use crate::joblist::{good_jobs, Supply, Times, MOST_TIME};
+use crate::calls::narrowing::{busy_crowds, busy_lists, ragged, words};
+use crate::calls::{faults, foreign, naming, short};
+use crate::joblist::{Supply, Times, MOST_TIME};
 use crate::lines::Call;
 use crate::random::Random;
-use crate::record::{room, Members, Record, MEMBER_BITS, RECORD_WORDS};
-use crate::replay::Replay;
-use crate::timetable::{sure_others, Side};
-
-/// A true reason to move a job drawn at random, if there is one at the time
-/// drawn, with members left out as long as the rest exceeds the capacity.
-fn foreign_record(random: &mut Random, reached: &Replay, supply: &Supply) -> Option<Record> {
-    let jobs = &reached.jobs;
-    let j = random.below(jobs.len());
-    let job = jobs[j];
-    let duration = usize::try_from(job.p).ok().filter(|&p| p > 0)?;
-    let ahead = random.below(duration) as i64;
-    let (side, time) = match random.below(2) {
-        0 => (Side::Start, job.e + ahead),
-        _ => (Side::End, job.l - job.p + ahead),
-    };
-    let mut members = Members::default();
-    let mut named = job.r;
-    for k in sure_others(jobs, j, time) {
-        members.put(k);
-        named += jobs[k].r;
-    }
-    for k in members.numbers() {
-        if named - jobs[k].r > i64::from(supply.cap) && !random.one_in(3) {
-            members.drop(k);
-            named -= jobs[k].r;
-        }
-    }
-    let record = Record {
-        job: j as u32,
-        side: side.word(),
-        time: u32::try_from(time).ok()?,
-        count: members.ones(),
-        members,
-    };
-    reached.clone().take(&record).ok().map(|()| record)
-}
-
-/// A log by another hand, in another order and with other times and members.
-fn foreign_records(random: &mut Random, times: &Times, supply: &Supply) -> Vec<Record> {
-    let jobs = good_jobs(times, supply).unwrap_or_default();
-    let mut reached = Replay::new(jobs, supply);
-    let mut records = Vec::new();
-    let tries = if reached.jobs.is_empty() { 0 } else { 40 };
-    for _ in 0..tries {
-        if reached.closed.is_some() {
-            break;
-        }
-        if let Some(record) = foreign_record(random, &reached, supply) {
-            reached.take(&record).expect("it was taken before");
-            records.push(record);
-        }
-    }
-    records
-}
+use crate::record::{room, Record, MEMBER_BITS, RECORD_WORDS};
 
 fn other_word(random: &mut Random, word: u32) -> u32 {
     match random.below(6) {
@@ -153,14 +100,30 @@ fn claimed_of_short(random: &mut Random, records: usize, log: &[u32]) -> u64 {
     }
 }
 
-pub fn call(random: &mut Random) -> Call {
-    let (mut times, mut supply, mut records) = busy_lists(random);
+/// Lists and the records of a log that is mostly good or has one fault, of the
+/// members named or of any other kind.
+fn logged(random: &mut Random) -> (Times, Supply, Vec<Record>) {
+    let renamed = random.one_in(3);
+    let (times, supply, mut records) = match random.below(4) {
+        0..=2 if renamed => busy_crowds(random),
+        _ => busy_lists(random),
+    };
     if random.one_in(3) {
-        records = foreign_records(random, &times, &supply);
+        records = foreign::records(random, &times, &supply);
     }
-    for _ in 0..random.pick(&[0, 1, 1, 1, 2]) {
+    let mut spoilt = random.pick(&[0, 1, 1, 1, 2]);
+    if renamed {
+        naming::rename(random, &times, &supply, &mut records);
+        spoilt = random.pick(&[0, 0, 0, 0, 0, 1]);
+    }
+    for _ in 0..spoilt {
         spoil(random, &mut records, times.est.len());
     }
+    (times, supply, records)
+}
+
+pub fn call(random: &mut Random) -> Call {
+    let (mut times, mut supply, records) = logged(random);
     let mut log: Vec<u32> = records.iter().flat_map(Record::words).collect();
     let beyond = random.pick(&[0, 0, 1, 2]) * RECORD_WORDS + ragged(random);
     log.extend(words(random, beyond));

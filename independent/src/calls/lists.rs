@@ -1,6 +1,7 @@
 //! Good job lists of every size whose windows hold their jobs: crowded and
 //! empty ones, few long jobs, times and demands up to their limits.
 
+use crate::calls::crowds;
 use crate::calls::shapes::{self, Shape};
 use crate::joblist::{Supply, Times, MOST_DEMAND, MOST_TIME};
 use crate::random::Random;
@@ -107,8 +108,9 @@ pub fn good(random: &mut Random) -> (Times, Supply) {
         return at_the_limits(random);
     }
     let shape = shapes::any(random);
-    let (mut times, mut supply) = match random.below(5) {
-        0..=2 if shape.duration <= LONGEST_PACKED => packed(random, &shape),
+    let (mut times, mut supply) = match random.below(12) {
+        0..=1 => crowds::any(random).drawn(random),
+        2..=7 if shape.duration <= LONGEST_PACKED => packed(random, &shape),
         _ => drawn(random, &shape),
     };
     moved_up(random, &mut times);

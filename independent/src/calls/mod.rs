@@ -2,8 +2,11 @@
 //! answer, refusal and code comes up, and so do lines that cannot be read.
 
 mod checking;
+pub mod crowds;
 mod faults;
+mod foreign;
 mod lists;
+mod naming;
 mod narrowing;
 pub mod odd;
 mod others;

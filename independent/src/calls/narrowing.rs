@@ -1,7 +1,7 @@
 //! Calls that narrow, with a log of just the room needed, less or more.
 
 use crate::answers::Answer;
-use crate::calls::{faults, lists, short};
+use crate::calls::{crowds, faults, lists, short};
 use crate::joblist::{Supply, Times};
 use crate::lines::Call;
 use crate::random::Random;
@@ -23,18 +23,32 @@ fn own_records(times: &Times, supply: &Supply) -> Option<Vec<Record>> {
     }
 }
 
-/// Lists with the records of their run; more often than not there are some.
-pub fn busy_lists(random: &mut Random) -> (Times, Supply, Vec<Record>) {
+/// Lists drawn in this way, with the records of their run; more often than not
+/// there are some.
+fn busy(
+    random: &mut Random,
+    draw: impl Fn(&mut Random) -> (Times, Supply),
+) -> (Times, Supply, Vec<Record>) {
     for _ in 0..4 {
-        let (times, supply) = lists::good(random);
+        let (times, supply) = draw(random);
         match own_records(&times, &supply) {
             Some(records) if !records.is_empty() => return (times, supply, records),
             _ => {}
         }
     }
-    let (times, supply) = lists::good(random);
+    let (times, supply) = draw(random);
     let records = own_records(&times, &supply).unwrap_or_default();
     (times, supply, records)
+}
+
+/// Good lists of any kind.
+pub fn busy_lists(random: &mut Random) -> (Times, Supply, Vec<Record>) {
+    busy(random, lists::good)
+}
+
+/// Lists whose reasons have members to spare.
+pub fn busy_crowds(random: &mut Random) -> (Times, Supply, Vec<Record>) {
+    busy(random, |random| crowds::any(random).drawn(random))
 }
 
 /// Words as a former user may have left them.

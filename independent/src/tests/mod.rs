@@ -9,6 +9,7 @@ mod codes;
 mod demands;
 mod layouts;
 mod lean;
+mod lean_calls;
 mod lean_runs;
 mod lines;
 mod narrowing;
