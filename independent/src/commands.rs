@@ -1,7 +1,7 @@
 //! What the program does for each of its commands.
 
 use crate::lines::Call;
-use crate::{calls, cases, instances, layouts, lines, make, texts};
+use crate::{calls, cases, instances, layouts, lines, make, names, texts};
 use std::io::{self, BufWriter, Write};
 use std::path::Path;
 use std::str::FromStr;
@@ -15,6 +15,7 @@ pub const USAGE: &str = "usage:
   independent chain FILE                       the longest chain of either kind of file
   independent make SEED JOBS LAYOUT            an instance of 30, 60, 90 or 120 jobs as rcp or sm
   independent instance-calls DIR               calls for the files of a folder and made instances
+  independent names DIR                        how many names shorter reasons spare, by families of lists
   independent text-calls DIR SEED COUNT        calls of the Patterson reader, COUNT of them drawn";
 
 fn number<T: FromStr>(word: &str) -> Result<T, String> {
@@ -75,6 +76,7 @@ pub fn run(words: &[&str]) -> Result<(), String> {
         ["instance-calls", dir] => {
             instances::folder_calls(Path::new(dir), |calls| output.calls(calls))?;
         }
+        ["names", dir] => output.lines(names::lines(Path::new(dir))?)?,
         ["text-calls", dir, seed, count] => {
             let published = text_of(&format!("{dir}/{}", texts::PUBLISHED))?;
             let (seed, count) = (number(seed)?, number(count)?);

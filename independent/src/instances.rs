@@ -2,11 +2,12 @@
 //! job-shop, and all calls for a folder of published files and made ones.
 
 use crate::answers::Answer;
-use crate::joblist::{Supply, Times};
+use crate::joblist::{Job, Supply, Times};
 use crate::lines::Call;
 use crate::project::Project;
-use crate::record::RECORD_WORDS;
-use crate::timetable::narrow;
+use crate::reasons::{dropped, full, lean, Naming};
+use crate::record::{Members, RECORD_WORDS};
+use crate::timetable::narrow_naming;
 use crate::{layouts, make};
 use std::path::{Path, PathBuf};
 
@@ -14,10 +15,11 @@ use std::path::{Path, PathBuf};
 const MOST_ROOM: usize = 2_000;
 const MADE: u64 = 100;
 
-/// The count and the words of the run's records; none where they are too many.
-fn run_log(times: &Times, supply: &Supply) -> (usize, Vec<u32>) {
+/// The count and the words of the run's records, their members named in this
+/// way; none where they are too many.
+pub fn run_log(naming: Naming, times: &Times, supply: &Supply) -> (usize, Vec<u32>) {
     let mut log = vec![0; MOST_ROOM * RECORD_WORDS];
-    match narrow(&mut times.clone(), supply, &mut log) {
+    match narrow_naming(naming, &mut times.clone(), supply, &mut log) {
         Answer::Settled(count) | Answer::Clash(count, _) => {
             log.truncate(count * RECORD_WORDS);
             (count, log)
@@ -26,43 +28,68 @@ fn run_log(times: &Times, supply: &Supply) -> (usize, Vec<u32>) {
     }
 }
 
+/// 01's members, the spare ones dropped by falling number.
+fn falling(jobs: &[Job], cap: i64, j: usize, t: i64) -> Members {
+    let members = full(jobs, cap, j, t);
+    let order: Vec<usize> = members.numbers().into_iter().rev().collect();
+    dropped(jobs, cap, j, members, &order)
+}
+
+fn demands(project: &Project, resource: usize) -> Vec<u32> {
+    let demands = project.jobs.iter().map(|job| job.demands[resource]);
+    demands.collect()
+}
+
 /// The times of the jobs that ask for the resource.
-fn asking(project: &Project, times: &Times, resource: usize) -> Times {
+fn asking(times: &Times, demands: &[u32]) -> Times {
     let mut asking = Times::default();
-    for (k, job) in project.jobs.iter().enumerate() {
-        if job.demands[resource] >= 1 {
-            asking.push(times.est[k], times.lct[k], times.dur[k]);
-        }
+    for k in (0..demands.len()).filter(|&k| demands[k] >= 1) {
+        asking.push(times.est[k], times.lct[k], times.dur[k]);
     }
     asking
 }
 
+/// The lists for one resource.
+fn lists(project: &Project, resource: usize, horizon: u32) -> Result<(Times, Supply), String> {
+    let cap = *project.caps.get(resource).ok_or("no such resource")?;
+    let dem = demands(project, resource);
+    Ok((project.windows(horizon)?, Supply { cap, dem }))
+}
+
 /// Narrowing with room for a record more than the run has, the check of the
-/// run's own log, and the overload check.
+/// run's own log, those of the logs that name other members, as 01 has them and
+/// as dropping by falling number leaves them, and the overload check.
+fn list_calls(times: Times, supply: Supply) -> Vec<Call> {
+    let (count, log) = run_log(lean, &times, &supply);
+    let checked = |log: Vec<u32>| Call::Check(times.clone(), supply.clone(), count as u64, log);
+    let empty = vec![0; log.len() + RECORD_WORDS];
+    let mut calls = vec![
+        Call::Narrow(times.clone(), supply.clone(), empty),
+        checked(log.clone()),
+    ];
+    let others = [full as Naming, falling];
+    let others = others.map(|naming| run_log(naming, &times, &supply).1);
+    let others = others.into_iter().filter(|other| other != &log);
+    calls.extend(others.map(checked));
+    calls.push(Call::Overload(asking(&times, &supply.dem)));
+    calls
+}
+
+/// The calls for one resource.
 pub fn resource_calls(
     project: &Project,
     resource: usize,
     horizon: u32,
 ) -> Result<Vec<Call>, String> {
-    let cap = *project.caps.get(resource).ok_or("no such resource")?;
-    let times = project.windows(horizon)?;
-    let dem = project.jobs.iter().map(|job| job.demands[resource]);
-    let dem = dem.collect();
-    let supply = Supply { cap, dem };
-    let (count, log) = run_log(&times, &supply);
-    let empty = vec![0; log.len() + RECORD_WORDS];
-    Ok(vec![
-        Call::Narrow(times.clone(), supply.clone(), empty),
-        Call::Check(times.clone(), supply, count as u64, log),
-        Call::Overload(asking(project, &times, resource)),
-    ])
+    let (times, supply) = lists(project, resource, horizon)?;
+    Ok(list_calls(times, supply))
 }
 
 /// The overload check of every machine.
 pub fn machine_calls(project: &Project, horizon: u32) -> Result<Vec<Call>, String> {
     let times = project.windows(horizon)?;
     let machines = 0..project.caps.len();
-    let call = |machine| Call::Overload(asking(project, &times, machine));
+    let call = |machine| Call::Overload(asking(&times, &demands(project, machine)));
     Ok(machines.map(call).collect())
 }
 
@@ -70,16 +97,17 @@ fn horizon(value: u64) -> Result<u32, String> {
     u32::try_from(value).map_err(|_| "the horizon is too long".to_string())
 }
 
-/// Every resource, with the longest chain as horizon, a tenth and a half above it.
-fn project_calls(project: &Project) -> Result<Vec<Call>, String> {
+/// The lists for every resource, with the longest chain as horizon, a tenth and
+/// a half above it.
+pub fn project_lists(project: &Project) -> Result<Vec<(Times, Supply)>, String> {
     let chain = project.longest_chain()?;
-    let mut calls = Vec::new();
+    let mut all = Vec::new();
     for long in [chain, chain + chain.div_ceil(10), chain + chain.div_ceil(2)] {
         for resource in 0..project.caps.len() {
-            calls.extend(resource_calls(project, resource, horizon(long)?)?);
+            all.push(lists(project, resource, horizon(long)?)?);
         }
     }
-    Ok(calls)
+    Ok(all)
 }
 
 /// The least horizon ruled out neither by a chain nor by the work of a whole
@@ -90,7 +118,7 @@ fn least_horizon(project: &Project) -> Result<u64, String> {
     let times = project.windows(horizon(chain)?)?;
     let mut least = chain;
     for machine in 0..project.caps.len() {
-        let work = asking(project, &times, machine);
+        let work = asking(&times, &demands(project, machine));
         let total: u64 = work.dur.iter().map(|&duration| u64::from(duration)).sum();
         let before = u64::from(work.est.iter().min().copied().unwrap_or(0));
         let after = chain - u64::from(work.lct.iter().max().copied().unwrap_or(0));
@@ -133,24 +161,42 @@ fn files(dir: &Path, ending: &str) -> Result<Vec<PathBuf>, String> {
     Ok(paths)
 }
 
-/// Hands over all calls: the published instances, a hundred made ones of each
-/// size, half of them in either layout, and the job-shop files.
-pub fn folder_calls(
+/// Hands over the published instances and a hundred made ones of each size, half
+/// of them in either layout, each with the name of its family.
+pub fn folder_projects(
     dir: &Path,
-    mut hand_over: impl FnMut(Vec<Call>) -> Result<(), String>,
+    mut hand_over: impl FnMut(&str, Project) -> Result<(), String>,
 ) -> Result<(), String> {
     for ending in ["rcp", "sm"] {
         for path in files(dir, ending)? {
-            hand_over(project_calls(&layouts::instance(&file_text(&path)?)?)?)?;
+            hand_over(
+                "published instances",
+                layouts::instance(&file_text(&path)?)?,
+            )?;
         }
     }
     for jobs in [30, 60, 90, 120] {
         for seed in 1..=MADE {
             let layout = if seed % 2 == 0 { "sm" } else { "rcp" };
             let text = make::text(seed, jobs, layout)?;
-            hand_over(project_calls(&layouts::instance(&text)?)?)?;
+            hand_over("made instances", layouts::instance(&text)?)?;
         }
     }
+    Ok(())
+}
+
+/// Hands over all calls: those of the published and made instances, and those
+/// of the job-shop files.
+pub fn folder_calls(
+    dir: &Path,
+    mut hand_over: impl FnMut(Vec<Call>) -> Result<(), String>,
+) -> Result<(), String> {
+    folder_projects(dir, |_, project| {
+        for (times, supply) in project_lists(&project)? {
+            hand_over(list_calls(times, supply))?;
+        }
+        Ok(())
+    })?;
     for path in files(&dir.join("jobshop"), "txt")? {
         hand_over(jobshop_calls(&layouts::jobshop(&file_text(&path)?)?)?)?;
     }

@@ -10,6 +10,7 @@ mod joblist;
 mod layouts;
 mod lines;
 mod make;
+mod names;
 mod overload;
 mod patterson;
 mod project;

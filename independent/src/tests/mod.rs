@@ -12,6 +12,7 @@ mod lean;
 mod lean_calls;
 mod lean_runs;
 mod lines;
+mod names;
 mod narrowing;
 mod overload;
 mod paths;
