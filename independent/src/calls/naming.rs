@@ -11,19 +11,14 @@ use std::cmp::Reverse;
 /// The members in one of the orders in which spare ones may be dropped.
 fn order(random: &mut Random, jobs: &[Job], members: &Members) -> Vec<usize> {
     let rising = members.numbers();
+    let any: Vec<usize> = random.order(rising.len());
     let mut order = rising.clone();
     match random.below(5) {
         0 => {}
         1 => order.reverse(),
         2 => order.sort_by_key(|&k| jobs[k].r),
         3 => order.sort_by_key(|&k| Reverse(jobs[k].r)),
-        _ => {
-            order = random
-                .order(rising.len())
-                .iter()
-                .map(|&k| rising[k])
-                .collect()
-        }
+        _ => order = any.iter().map(|&place| rising[place]).collect(),
     }
     order
 }
