@@ -1,6 +1,7 @@
 -- The chain of codes as the code makes it, each test over what it looks at; and what a record has once 21 and 22 have passed, so that the later
 -- tests can look its jobs up.
-use Prim.Native.Nat.{ℕ, _+_}
+use Prim.Native.Nat.{ℕ}
+use native.Mathlib.Omega.{arith}
 use mathlib.Core.Path.{_≡_}
 use mathlib.Core.Bool.{true}
 use mathlib.Core.List.{List, []}
@@ -13,28 +14,37 @@ use Rattle.members.specs.Members.{onesOf}
 use Rattle.journal.specs.Journal.{countWord, recordWords, setOfRecord, jobOf, timeOf}
 use Rattle.timetable.specs.Table.{call, Good}
 use Rattle.judge.specs.Facts.{side, InRange, named}
-use Rattle.judge.specs.Codes.{inRange, takesPart, partners, statedTrue, tightens, code}
-use Rattle.judge.specs.Lent.{jobsIn, Timed, Placed}
+use Rattle.judge.specs.Codes.{inRange, takesPart, partners, statedTrue, tightens, lean, code}
+use Rattle.judge.specs.Lent.{jobsIn, Timed, Drawn, Placed}
 use Rattle.judge.proofs.Codes.{range-judged, partners-judged}
 
-named-any : (n cap : ℕ) (p r x : List ℕ) → length r ≡ n → named (jobsIn n p r cap) x ≡ named (jobsIn (length r) [] r 0) x
-unfolding named
-named-any n cap p r x e = rw e
+-- ---- the chain from each code on, each test over what it looks at
 
--- each test over what it looks at
-abbrev pub Chain : ℕ → Win → List ℕ → List ℕ → List ℕ → Type 0
-Chain cap W p r x =
-    code (jobsIn (length p) p r cap) W x
-    ≡ unless (inRange (jobsIn (length p) [] [] 0) x) 21
-    (unless (partners (jobsIn (length p) p r 0) x) 22
-    (unless (eqb (x ! countWord) (onesOf (setOfRecord x))) 23
-    (unless (ltb cap (named (jobsIn (length r) [] r 0) x + r ! jobOf x)) 24
-    (unless (statedTrue (jobsIn 0 p [] 0) W x) 25
-    (unless (tightens W (jobOf x) (side x) (timeOf x)) 26 0)))))
+module _ (cap : ℕ) (W : Win) (p r x : List ℕ) where
+  abbrev pub from27 : ℕ
+  from27 = unless (lean (jobsIn (length r) [] r cap) x) 27 0
 
-pub code-is : (cap : ℕ) (W : Win) (p r x : List ℕ) → length r ≡ length p → Chain cap W p r x
-unfolding code inRange partners takesPart statedTrue
-code-is cap W p r x e = rw (named-any (length p) cap p r x e)
+  abbrev pub from26 : ℕ
+  from26 = unless (tightens W (jobOf x) (side x) (timeOf x)) 26 from27
+
+  abbrev pub from25 : ℕ
+  from25 = unless (statedTrue (jobsIn 0 p [] 0) W x) 25 from26
+
+  abbrev pub from24 : ℕ
+  from24 = unless (ltb cap (named (jobsIn (length r) [] r 0) x)) 24 from25
+
+  abbrev pub from23 : ℕ
+  from23 = unless (eqb (x ! countWord) (onesOf (setOfRecord x))) 23 from24
+
+  abbrev pub from22 : ℕ
+  from22 = unless (partners (jobsIn (length p) p r 0) x) 22 from23
+
+  abbrev pub from21 : ℕ
+  from21 = unless (inRange (jobsIn (length p) [] [] 0) x) 21 from22
+
+  pub code-is : length r ≡ length p → code (jobsIn (length p) p r cap) W x ≡ from21
+  unfolding code inRange partners takesPart statedTrue lean
+  code-is e = rw e
 
 -- ---- after 21 and 22
 
@@ -48,6 +58,10 @@ placed n p r x h q w = record {
   time = ranged n x h .time;
   members = λ k m. partners-judged (jobsIn n p r 0) (win [] []) x .passed q .members k m .0 .listed;
 }
+
+-- the demands of a good list
+pub drawn : (W : Win) (p r : List ℕ) (cap : ℕ) → Good (call W p r cap []) → Drawn r
+drawn W p r cap g = record { few = omega (arith, g .few, g .sized .1 .1 .1 .0); small = g .within .1 .1 .1 .0 }
 
 -- good lists are good without their demands
 pub timed : (W : Win) (p r : List ℕ) (cap : ℕ) → Good (call W p r cap []) → Timed W p

@@ -1,24 +1,26 @@
 -- Each code's test with its fact and its fault; a code is given exactly when 01 says so and no code before it is.
-use Prim.Native.Nat.{ℕ, zero, suc, _+_, _*_, _≤_, _<_}
+use Prim.Native.Nat.{ℕ, suc, _+_, _*_, _≤_, _<_}
 use native.Mathlib.Omega.{arith}
-use mathlib.Core.Path.{_≡_, refl, sym, ap, subst, _∙_}
-use mathlib.Core.Bool.{Bool, true, false, not}
+use mathlib.Core.Path.{_≡_, refl}
+use mathlib.Core.Bool.{Bool, true, not}
 use mathlib.Core.List.{List}
 use mathlib.Core.Logic.{_⊎_, inl, inr, _↔_}
 use lib.ListN.{length}
-use lib.Dec.{ltb, leb, eqb}
+use lib.Dec.{leb, eqb}
 use Rattle.lists.specs.Lists.{_!_}
-use Rattle.lists.specs.Tests.{both, where?, every, unless}
+use Rattle.lists.specs.Tests.{both, where?, every}
+use Rattle.lists.specs.Sets.{totalOf}
+use Rattle.lists.specs.Spares.{without}
 use Rattle.lists.proofs.Judged.{Judged, judged-as, judged-both, judged-leb, judged-eqb, judged-every, judged-ltb, judged-not, judged-where}
 use Rattle.lists.proofs.Chains.{unless-exactly}
 use Rattle.narrowing.specs.Windows.{Win, Side, early, late}
-use Rattle.members.specs.Members.{has, onesOf}
+use Rattle.members.specs.Members.{onesOf}
 use Rattle.members.proofs.Sets.{has-within}
 use Rattle.joblist.specs.Limits.{mostTime}
 use Rattle.journal.specs.Journal.{sideWord, countWord, setOfRecord, jobOf, timeOf, isMember}
 use Rattle.timetable.specs.Time.{Jobs, Sure, sure}
-use Rattle.judge.specs.Codes.{Coded, inRange, takesPart, partners, ownTrue, statedTrue, tightens, code}
-use Rattle.judge.specs.Facts.{side, named, InRange, TakesPart, Partners, Counted, Exceeds, OwnTrue, StatedTrue, Tightens, GoodRecord, OutOfRange, Idle, BadPartner, OwnFalse, Untrue, Idles}
+use Rattle.judge.specs.Codes.{Coded, inRange, takesPart, partners, ownTrue, statedTrue, tightens, lean, code}
+use Rattle.judge.specs.Facts.{side, named, InRange, TakesPart, Partners, OwnTrue, StatedTrue, Tightens, Lean, GoodRecord, OutOfRange, Idle, BadPartner, OwnFalse, Untrue, Idles, HasSpare}
 
 -- ---- the tests of the codes
 
@@ -120,6 +122,16 @@ module _ (J : Jobs) (W : Win) (x : List ℕ) where
   tightens-judged early = judged-leb (W .e ! jobOf x) (timeOf x)
   tightens-judged late = judged-ltb (timeOf x) (W .l ! jobOf x)
 
+  lean-judged : Judged (Lean J x) (HasSpare J x) (lean J x)
+  unfolding lean
+  lean-judged =
+      judged-as
+      (judged-members (λ k. without-it k ≤ J .cap) (λ k. J .cap < without-it k) (λ k. leb (without-it k) (J .cap)) (λ k. judged-leb (without-it k) (J .cap)))
+      (λ f. f) (λ q. (q .0, record { member = q .1; still = q .2 })) (λ f q. omega (arith, f (q .0) (q .1 .member), q .1 .still))
+    where
+      without-it : ℕ → ℕ
+      without-it k = totalOf (J .n) (J .r) (without (isMember x) k) + J .r ! jobOf x
+
   -- ---- the code
 
   pub code-exactly : (k : ℕ) → (code J W x ≡ k) ↔ Coded J W x k
@@ -128,9 +140,10 @@ module _ (J : Jobs) (W : Win) (x : List ℕ) where
       unless-exactly range-judged 21 _ k
       (unless-exactly partners-judged 22 _ k
       (unless-exactly (judged-eqb (x ! countWord) (onesOf (setOfRecord x))) 23 _ k
-      (unless-exactly (judged-ltb (J .cap) (named J x + J .r ! jobOf x)) 24 _ k
+      (unless-exactly (judged-ltb (J .cap) (named J x)) 24 _ k
       (unless-exactly stated-judged 25 _ k
-      (unless-exactly (tightens-judged (side x)) 26 0 k ((λ h. h), (λ h. h)))))))
+      (unless-exactly (tightens-judged (side x)) 26 _ k
+      (unless-exactly lean-judged 27 0 k ((λ h. h), (λ h. h))))))))
 
   -- 0 is a good record
   pub good-record : code J W x ≡ 0 → GoodRecord J W x
@@ -146,9 +159,10 @@ module _ (J : Jobs) (W : Win) (x : List ℕ) where
       go (inr (r, inr (a, inr (b, inl q)))) = absurd (zero-not 23 (q .1))
       go (inr (r, inr (a, inr (b, inr (c, inl q))))) = absurd (zero-not 24 (q .1))
       go (inr (r, inr (a, inr (b, inr (c, inr (d, inl q)))))) = absurd (zero-not 25 (q .1))
-      go (inr (r, inr (a, inr (b, inr (c, inr (d, inr q)))))) =
-          record { in-range = r; partners = a; counted = b; exceeds = c; stated = d; tightens = q .0 }
+      go (inr (r, inr (a, inr (b, inr (c, inr (d, inr (e, inl q))))))) = absurd (zero-not 26 (q .1))
+      go (inr (r, inr (a, inr (b, inr (c, inr (d, inr (e, inr q))))))) =
+          record { in-range = r; partners = a; counted = b; exceeds = c; stated = d; tightens = e; lean = q .0 }
 
   pub record-good : GoodRecord J W x → code J W x ≡ 0
   record-good g =
-      code-exactly 0 .1 (inr (g .in-range, inr (g .partners, inr (g .counted, inr (g .exceeds, inr (g .stated, inr (g .tightens, refl)))))))
+      code-exactly 0 .1 (inr (g .in-range, inr (g .partners, inr (g .counted, inr (g .exceeds, inr (g .stated, inr (g .tightens, inr (g .lean, refl))))))))

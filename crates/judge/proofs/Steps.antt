@@ -1,5 +1,5 @@
--- The tests of a record as the code makes them: bit by bit of its member set, job by job of the demands named.
-use Prim.Native.Nat.{ℕ, zero, suc, _+_, _*_, _≤_, _<_}
+-- The tests of a record as the code makes them: bit by bit of its member set, job by job of the demands of its members.
+use Prim.Native.Nat.{ℕ, zero, suc, _+_, _*_, _-_, _≤_, _<_}
 use native.Mathlib.Omega.{arith}
 use native.Mathlib.Decide.{decLt}
 use native.Mathlib.Numerals.{add-one}
@@ -12,14 +12,17 @@ use borrow.Author.Tests.{lt-ltb, le-ltb}
 use Rattle.lists.specs.Lists.{_!_}
 use Rattle.lists.specs.Tests.{both, where?, only, every}
 use Rattle.lists.specs.Sums.{total}
+use Rattle.lists.specs.Sets.{totalOf}
+use Rattle.lists.specs.Spares.{without}
 use Rattle.lists.proofs.Tests.{every-at}
 use Rattle.lists.proofs.Sums.{total-suc}
+use Rattle.lists.proofs.Spares.{without-total}
 use Rattle.narrowing.specs.Windows.{Win, sideOf}
 use Rattle.members.specs.Members.{has}
-use Rattle.journal.specs.Journal.{setOfRecord, jobOf, timeOf}
+use Rattle.journal.specs.Journal.{setOfRecord, jobOf, timeOf, isMember}
 use Rattle.timetable.specs.Time.{sure}
-use Rattle.judge.specs.Facts.{side, named}
-use Rattle.judge.specs.Codes.{takesPart, partners, ownTrue, statedTrue, tightens}
+use Rattle.judge.specs.Facts.{side, membersDraw, named}
+use Rattle.judge.specs.Codes.{takesPart, partners, ownTrue, statedTrue, tightens, lean}
 use Rattle.judge.specs.Lent.{jobsIn}
 
 -- ---- a test at every number below m, from 0 up
@@ -95,7 +98,7 @@ module _ (p r x s : List ℕ) (is : s ≡ setOfRecord x) where
       → partners (jobsIn (length p) p r 0) x ≡ true
   partners-all h q = partners-is ∙ rw (h, q)
 
--- ---- the demands named
+-- ---- the demands of the members
 
 abbrev pub shareAt : List ℕ → List ℕ → ℕ → ℕ
 shareAt r s k = only (has s k) (r ! k)
@@ -107,12 +110,12 @@ share-most r s k = go (has s k)
     go true = omega arith
     go false = omega arith
 
-pub named-more : (r s : List ℕ) (k : ℕ) → total (shareAt r s) (k + 1) ≡ total (shareAt r s) k + shareAt r s k
-named-more r s k = rw add-one (total-suc (shareAt r s) k)
+pub draw-more : (r s : List ℕ) (k : ℕ) → total (shareAt r s) (k + 1) ≡ total (shareAt r s) k + shareAt r s k
+draw-more r s k = rw add-one (total-suc (shareAt r s) k)
 
-pub named-is : (r x s : List ℕ) → s ≡ setOfRecord x → total (shareAt r s) (length r) ≡ named (jobsIn (length r) [] r 0) x
-unfolding named
-named-is r x s is = rw is
+pub draw-is : (r x s : List ℕ) → s ≡ setOfRecord x → total (shareAt r s) (length r) ≡ membersDraw (jobsIn (length r) [] r 0) x
+unfolding totalOf
+draw-is r x s is = rw is
 
 -- ---- 25
 
@@ -135,3 +138,38 @@ module _ (p : List ℕ) (W : Win) (x s : List ℕ) (is : s ≡ setOfRecord x) wh
   pub stated-all : ownTrue p W (jobOf x) (side x) (timeOf x) ≡ true → every (trueAt p W s (timeOf x)) (32 * length s) ≡ true
       → statedTrue (jobsIn 0 p [] 0) W x ≡ true
   stated-all h q = stated-is ∙ rw (h, q)
+
+-- ---- 27
+
+-- what is asked of bit k of the set s
+abbrev pub neededAt : List ℕ → ℕ → ℕ → List ℕ → ℕ → Bool
+neededAt r cap j s k = where? (has s k) (leb (totalOf (length r) r (without (has s) k) + r ! j) cap)
+
+module _ (r : List ℕ) (cap : ℕ) (x s : List ℕ) (is : s ≡ setOfRecord x) where
+  lean-is : lean (jobsIn (length r) [] r cap) x ≡ every (neededAt r cap (jobOf x) s) (32 * length s)
+  unfolding lean
+  lean-is = rw is
+
+  pub lean-fault : (k : ℕ) → k < 32 * length s → neededAt r cap (jobOf x) s k ≡ false → lean (jobsIn (length r) [] r cap) x ≡ false
+  lean-fault k b h = lean-is ∙ every-fault (neededAt r cap (jobOf x) s) (32 * length s) k b h
+
+  pub lean-all : every (neededAt r cap (jobOf x) s) (32 * length s) ≡ true → lean (jobsIn (length r) [] r cap) x ≡ true
+  lean-all h = lean-is ∙ h
+
+  module _ (k : ℕ) (inside : isMember x k ≡ true → k < length r) (all : ℕ) (all-is : all ≡ named (jobsIn (length r) [] r 0) x) where
+    taken-away : has s k ≡ true → all ≡ totalOf (length r) r (without (has s) k) + r ! jobOf x + r ! k
+    taken-away h =
+        let a : all ≡ totalOf (length r) r (has s) + r ! jobOf x = rw is all-is in
+        omega (arith, a, without-total (length r) r (has s) k (inside (rw is at h)) h)
+
+    -- a member is in the list, and its demand is among those named
+    pub member-named : has s k ≡ true → (k < length r) × (r ! k ≤ all)
+    member-named h = (inside (rw is at h), omega (arith, taken-away h))
+
+    -- its demand taken away, those without it are left
+    pub needed-is : where? (has s k) (leb (all - r ! k) cap) ≡ neededAt r cap (jobOf x) s k
+    needed-is = go (has s k) refl
+      where
+        go : (b : Bool) → has s k ≡ b → where? (has s k) (leb (all - r ! k) cap) ≡ neededAt r cap (jobOf x) s k
+        go true e = let z : all - r ! k ≡ totalOf (length r) r (without (has s) k) + r ! jobOf x = omega (arith, taken-away e) in rw z
+        go false e = rw e

@@ -1,4 +1,4 @@
--- The tests of codes 21 to 26 in their order (document 01, 'Answer table'), and when a code is given; `Facts` has what each test stands for.
+-- The tests of codes 21 to 27 in their order (document 01, 'Answer table'; document 02, Item 7), and when a code is given; `Facts` has what each test stands for.
 use Prim.Native.Nat.{ℕ, _+_, _≤_}
 use mathlib.Core.Path.{_≡_}
 use mathlib.Core.Bool.{Bool, not}
@@ -7,12 +7,14 @@ use mathlib.Core.Logic.{_⊎_}
 use lib.Dec.{ltb, leb, eqb}
 use Rattle.lists.specs.Lists.{_!_}
 use Rattle.lists.specs.Tests.{both, where?, unless, every}
+use Rattle.lists.specs.Sets.{totalOf}
+use Rattle.lists.specs.Spares.{without}
 use Rattle.narrowing.specs.Windows.{Win, Side, early, late}
 use Rattle.members.specs.Members.{has, onesOf, places}
 use Rattle.joblist.specs.Limits.{mostTime}
 use Rattle.journal.specs.Journal.{sideWord, countWord, setOfRecord, jobOf, timeOf, isMember}
 use Rattle.timetable.specs.Time.{Jobs, sure}
-use Rattle.judge.specs.Facts.{side, named, InRange, Partners, Counted, Exceeds, StatedTrue, Tightens, OutOfRange, BadPartner, Untrue, Idles}
+use Rattle.judge.specs.Facts.{side, named, InRange, Partners, Counted, Exceeds, StatedTrue, Tightens, Lean, OutOfRange, BadPartner, Untrue, Idles, HasSpare}
 
 -- 21: job in the list, side at most 1, time at most its limit
 unfoldable pub inRange : Jobs → List ℕ → Bool
@@ -45,16 +47,22 @@ abbrev pub tightens : Win → ℕ → Side → ℕ → Bool
 tightens W j early t = leb (W .e ! j) t
 tightens W j late t = ltb t (W .l ! j)
 
+-- 27: every member is needed
+unfoldable pub lean : Jobs → List ℕ → Bool
+unfolding every has totalOf
+lean J x = every (λ k. where? (isMember x k) (leb (totalOf (J .n) (J .r) (without (isMember x) k) + J .r ! jobOf x) (J .cap))) (places (setOfRecord x))
+
 -- the code of the first test that fails, and 0 where none does
 unfoldable pub code : Jobs → Win → List ℕ → ℕ
-unfolding inRange partners onesOf named statedTrue
+unfolding inRange partners onesOf totalOf statedTrue lean
 code J W x =
     unless (inRange J x) 21
     (unless (partners J x) 22
     (unless (eqb (x ! countWord) (onesOf (setOfRecord x))) 23
-    (unless (ltb (J .cap) (named J x + J .r ! jobOf x)) 24
+    (unless (ltb (J .cap) (named J x)) 24
     (unless (statedTrue J W x) 25
-    (unless (tightens W (jobOf x) (side x) (timeOf x)) 26 0)))))
+    (unless (tightens W (jobOf x) (side x) (timeOf x)) 26
+    (unless (lean J x) 27 0))))))
 
 -- when code k is given: its fault is there and the facts of the codes before it hold; 0 stands for a good record
 abbrev pub Coded : Jobs → Win → List ℕ → ℕ → Type 0
@@ -62,6 +70,7 @@ Coded J W x k =
     (OutOfRange J x × (21 ≡ k)) ⊎ (InRange J x
     × ((BadPartner J x × (22 ≡ k)) ⊎ (Partners J x
     × (((Counted x → ⊥) × (23 ≡ k)) ⊎ (Counted x
-    × (((named J x + J .r ! jobOf x ≤ J .cap) × (24 ≡ k)) ⊎ (Exceeds J x
+    × (((named J x ≤ J .cap) × (24 ≡ k)) ⊎ (Exceeds J x
     × ((Untrue J W x × (25 ≡ k)) ⊎ (StatedTrue J W x
-    × ((Idles W (jobOf x) (side x) (timeOf x) × (26 ≡ k)) ⊎ (Tightens W (jobOf x) (side x) (timeOf x) × (0 ≡ k))))))))))))
+    × ((Idles W (jobOf x) (side x) (timeOf x) × (26 ≡ k)) ⊎ (Tightens W (jobOf x) (side x) (timeOf x)
+    × ((HasSpare J x × (27 ≡ k)) ⊎ (Lean J x × (0 ≡ k))))))))))))))

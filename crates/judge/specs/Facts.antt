@@ -1,15 +1,15 @@
--- What a record has to be on the windows reached so far (document 01, 'Answer table', codes 21 to 26): the fact that each code asks for, and the
--- fault that it finds.
+-- What a record has to be on the windows reached so far (document 01, 'Answer table', codes 21 to 26; document 02, Item 7, code 27): the fact that
+-- each code asks for, and the fault that it finds.
 use Prim.Native.Nat.{ℕ, _+_, _≤_, _<_}
 use mathlib.Core.Path.{_≡_}
-use mathlib.Core.Bool.{Bool, true}
+use mathlib.Core.Bool.{true}
 use mathlib.Core.List.{List}
 use mathlib.Core.Logic.{_⊎_}
 use Rattle.lists.specs.Lists.{_!_}
-use Rattle.lists.specs.Tests.{only}
-use Rattle.lists.specs.Sums.{total}
+use Rattle.lists.specs.Sets.{totalOf}
+use Rattle.lists.specs.Spares.{Spare, NoneSpare}
 use Rattle.narrowing.specs.Windows.{Win, Side, early, late, sideOf}
-use Rattle.members.specs.Members.{has, onesOf}
+use Rattle.members.specs.Members.{onesOf}
 use Rattle.joblist.specs.Limits.{mostTime}
 use Rattle.journal.specs.Journal.{sideWord, countWord, setOfRecord, jobOf, timeOf, isMember}
 use Rattle.timetable.specs.Time.{Jobs, Sure}
@@ -18,10 +18,12 @@ use Rattle.timetable.specs.Time.{Jobs, Sure}
 abbrev pub side : List ℕ → Side
 side x = sideOf (x ! sideWord)
 
--- the demands of the members
-unfoldable pub named : Jobs → List ℕ → ℕ
-unfolding total has
-named J x = total (λ k. only (isMember x k) (J .r ! k)) (J .n)
+-- the demands of the members; and named, members' and moved job's together
+abbrev pub membersDraw : Jobs → List ℕ → ℕ
+membersDraw J x = totalOf (J .n) (J .r) (isMember x)
+
+abbrev pub named : Jobs → List ℕ → ℕ
+named J x = membersDraw J x + J .r ! jobOf x
 
 -- ---- facts
 
@@ -49,7 +51,7 @@ Counted x = x ! countWord ≡ onesOf (setOfRecord x)
 
 -- 24: the demands named, members' and moved job's together, exceed the capacity
 abbrev pub Exceeds : Jobs → List ℕ → Type 0
-Exceeds J x = J .cap < named J x + J .r ! jobOf x
+Exceeds J x = J .cap < named J x
 
 -- the moved job's own fact on the windows W: on side 0 it starts no earlier than t - p + 1, on side 1 no later than t
 abbrev pub OwnTrue : List ℕ → Win → ℕ → Side → ℕ → Type 0
@@ -66,6 +68,10 @@ abbrev pub Tightens : Win → ℕ → Side → ℕ → Type 0
 Tightens W j early t = W .e ! j ≤ t
 Tightens W j late t = t < W .l ! j
 
+-- 27: no member is spare, so that without any one of them the demands named do not exceed the capacity
+abbrev pub Lean : Jobs → List ℕ → Type 0
+Lean J x = NoneSpare (J .n) (J .r) (J .r ! jobOf x) (J .cap) (isMember x)
+
 -- a good record
 pub record GoodRecord (J : Jobs) (W : Win) (x : List ℕ) : Type 0 where
   pub in-range : InRange J x
@@ -74,6 +80,7 @@ pub record GoodRecord (J : Jobs) (W : Win) (x : List ℕ) : Type 0 where
   pub exceeds : Exceeds J x
   pub stated : StatedTrue J W x
   pub tightens : Tightens W (jobOf x) (side x) (timeOf x)
+  pub lean : Lean J x
 
 -- ---- faults, each the contrary of its fact
 
@@ -102,3 +109,7 @@ Untrue J W x =
 abbrev pub Idles : Win → ℕ → Side → ℕ → Type 0
 Idles W j early t = t < W .e ! j
 Idles W j late t = W .l ! j ≤ t
+
+-- a member is spare: without it the demands named still exceed the capacity
+abbrev pub HasSpare : Jobs → List ℕ → Type 0
+HasSpare J x = (k : ℕ) × Spare (J .n) (J .r) (J .r ! jobOf x) (J .cap) (isMember x) k

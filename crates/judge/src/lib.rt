@@ -1,4 +1,6 @@
-// What a record has to be on the windows reached so far (document 01, 'Answer table', codes 21 to 26): a function for each test, in their order.
+// What a record has to be on the windows reached so far (document 01, 'Answer table', codes 21 to 26; document 02, Item 7, code 27): a function
+// for each test, in their order.
+mod demands;
 mod facts;
 
 ghost use mathlib.Core.Path.{_≡_};
@@ -89,41 +91,6 @@ fn counted(words: &[u32]) -> bool
     words[journal::COUNT] == ones
 }
 
-// What job k adds to the demands named.
-fn share(dem: &[u32], set: &[u32], k: usize) -> u32
-    requires { ⌜ k < length (now dem) ⌝ }
-    ensures { λ r. ⌜ r ≡ only (has (now (set .entry)) k) (now (dem .entry) ! k) ⌝ }
-{
-    if members::has(set, k) {
-        return dem[k];
-    }
-    0
-}
-
-// The demands of the members.
-fn named(dem: &[u32], words: &[u32]) -> u32
-    requires { ⌜ (length (now dem) ≤ mostJobs) × ((k : ℕ) → now dem ! k ≤ mostDemand) × (length (now words) ≡ recordWords) ⌝ }
-    ensures { λ r. ⌜ (r ≡ named (jobsIn (length (now (dem .entry))) [] (now (dem .entry)) 0) (now (words .entry))) × (r ≤ mostDemand * mostJobs) ⌝ }
-{
-    let set = journal::set_of(words);
-    let mut sum: u32 = 0;
-    let mut k = 0;
-    while k < dem.len() {
-        sum += share(dem, set, k);
-        k += 1;
-    }
-    sum
-}
-
-// 24: the demands named, members' and moved job's together, exceed the capacity.
-fn exceeds(dem: &[u32], cap: u32, words: &[u32]) -> bool
-    requires { ⌜ (length (now dem) ≤ mostJobs) × ((k : ℕ) → now dem ! k ≤ mostDemand) × (length (now words) ≡ recordWords) × (jobOf (now words) < length (now dem)) ⌝ }
-    ensures { λ r. ⌜ r ≡ ltb cap (named (jobsIn (length (now (dem .entry))) [] (now (dem .entry)) 0) (now (words .entry)) + now (dem .entry) ! jobOf (now (words .entry))) ⌝ }
-{
-    let sum = named(dem, words);
-    cap < sum + dem[words[journal::JOB] as usize]
-}
-
 // 26: the change tightens.
 fn tightens(est: &[u32], lct: &[u32], words: &[u32]) -> bool
     requires { ⌜ (length (now words) ≡ recordWords) × (jobOf (now words) < length (now est)) × (jobOf (now words) < length (now lct)) ⌝ }
@@ -150,7 +117,7 @@ pub fn code_of(est: &[u32], lct: &[u32], dur: &[u32], dem: &[u32], cap: u32, wor
     if !counted(words) {
         return 23;
     }
-    if !exceeds(dem, cap, words) {
+    if !demands::exceeds(dem, cap, words) {
         return 24;
     }
     if !facts::stated_true(est, lct, dur, words) {
@@ -158,6 +125,9 @@ pub fn code_of(est: &[u32], lct: &[u32], dur: &[u32], dem: &[u32], cap: u32, wor
     }
     if !tightens(est, lct, words) {
         return 26;
+    }
+    if !demands::lean(dem, cap, words) {
+        return 27;
     }
     0
 }

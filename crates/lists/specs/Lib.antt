@@ -4,4 +4,5 @@ pub mod Sums
 pub mod Searches
 pub mod Turns
 pub mod Sets
+pub mod Spares
 pub mod Orders

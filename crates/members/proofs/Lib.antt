@@ -1,4 +1,5 @@
 pub mod Bits
 pub mod Sets
+pub mod Spares
 pub mod Writing
 pub mod Examples

@@ -94,6 +94,12 @@ has-setOf w f k h =
 pub has-beyond : (w : ℕ) (f : ℕ → Bool) (k : ℕ) → 32 * w ≤ k → has (setOf w f) k ≡ false
 has-beyond w f k h = has-past (setOf w f) k (omega (arith, setOf-length w f))
 
+pub has-given : (w : ℕ) (f : ℕ → Bool) (k : ℕ) → has (setOf w f) k ≡ true → f k ≡ true
+has-given w f k h = sym (has-setOf w f k (omega (arith, has-within (setOf w f) k h, setOf-length w f))) ∙ h
+
+pub has-sub : (w : ℕ) (f g : ℕ → Bool) → ((k : ℕ) → f k ≡ true → g k ≡ true) → (k : ℕ) → has (setOf w f) k ≡ true → has (setOf w g) k ≡ true
+has-sub w f g h k q = has-setOf w g k (omega (arith, has-within (setOf w f) k q, setOf-length w f)) ∙ h k (has-given w f k q)
+
 -- ---- the members make the set
 
 -- bit i of word q, by the test

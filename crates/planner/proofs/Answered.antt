@@ -3,8 +3,8 @@
 use Prim.Native.Nat.{ℕ, zero, suc}
 use native.Mathlib.Omega.{arith}
 use mathlib.Core.Path.{_≡_, refl, sym, ap, ap₂, subst, _∙_}
-use mathlib.Core.List.{List, [], _∷_, _++_}
-use lib.ListN.{length, take}
+use mathlib.Core.List.{List, [], _∷_}
+use lib.ListN.{length}
 use lib.Seq.{take-all}
 use Rattle.narrowing.specs.Windows.{Win, win}
 use Rattle.narrowing.specs.Run.{Out, settled, clash, short}
@@ -14,7 +14,8 @@ use Rattle.journal.specs.Journal.{cleared}
 use Rattle.joblist.specs.Limits.{jobs, fourLists, supply}
 use Rattle.joblist.specs.GoodList.{refusal}
 use Rattle.joblist.proofs.Copies.{over, over-whole}
-use Rattle.timetable.specs.Table.{Call, call, Good, TooShort, refusalOf, After, leaves, ended, tabled, narrowed}
+use Rattle.timetable.specs.Search.{entry}
+use Rattle.timetable.specs.Table.{Call, call, Good, TooShort, refusalOf, leaves, ended, tabled, narrowed, narrowedBy}
 use Rattle.timetable.specs.Promise.{Narrows}
 use Rattle.timetable.proofs.Calls.{good-call, call-good}
 use Rattle.timetable.proofs.Meaning.{narrows}
@@ -42,12 +43,12 @@ unfolding cleared
 cleared-same a b e = rw e
 
 module _ (c : Call) where
-  by-refusal : (k : ℕ) → (k ≡ 0 → ⊥) → tabled c k ≡ leaves (said Word.refused (k ∷ [])) (c .win) (c .log)
+  by-refusal : (k : ℕ) → (k ≡ 0 → ⊥) → tabled entry c k ≡ leaves (said Word.refused (k ∷ [])) (c .win) (c .log)
   unfolding tabled
   by-refusal zero h = absurd (h refl)
   by-refusal (suc k) h = refl
 
-  by-run : (k : ℕ) → k ≡ 0 → tabled c k ≡ ended c (ran c)
+  by-run : (k : ℕ) → k ≡ 0 → tabled entry c k ≡ ended entry c (ran c)
   unfolding tabled ran
   by-run k h = rw h
 
@@ -65,8 +66,8 @@ module _ (c : Call) where
 
   -- one of them does
   pub refused : (k : ℕ) → Number k → (k ≡ 0 → ⊥) → Narrows c (leaves (says (Answer.Refused k)) (c .win) (c .log))
-  unfolding narrowed
-  refused k e h = subst (Narrows c) (ap (tabled c) (sym (number-is k e)) ∙ by-refusal k h) (narrows c)
+  unfolding narrowedBy
+  refused k e h = subst (Narrows c) (ap (tabled entry c) (sym (number-is k e)) ∙ by-refusal k h) (narrows c)
 
   -- none does, and a window is too short
   pub clashed : Good c → (j : ℕ) → TooShort c j → Narrows c (leaves (says (Answer.Clash 0 j)) (c .win) (c .log))
@@ -74,10 +75,10 @@ module _ (c : Call) where
 
   -- the work is done
   pub finished : Good c → (a : Answer) (W : Win) (log : List ℕ) → Works c a W log → Narrows c (leaves (says a) (winBy c a W) (logBy c a log))
-  unfolding narrowed ended
+  unfolding narrowedBy ended
   finished g a W log h = subst (Narrows c) (by-run (refusalOf c) (call-good c g) ∙ go (ran c) h) (narrows c)
     where
-      go : (o : Out) → EndsAs c o a W log → ended c o ≡ leaves (says a) (winBy c a W) (logBy c a log)
+      go : (o : Out) → EndsAs c o a W log → ended entry c o ≡ leaves (says a) (winBy c a W) (logBy c a log)
       go (settled U ms) x = rw (x .0, x .1, x .2)
       go (clash j ms) x = rw (x .0, x .1)
       go short x = rw x

@@ -1,20 +1,20 @@
 -- The state of the work: what the windows, the log, the place and the count reached have to do with the call. Each law is one answer of a turn.
-use Prim.Native.Nat.{ℕ, zero, suc, _+_, _-_, _*_, _/_, _≤_, _<_}
+use Prim.Native.Nat.{ℕ, _+_, _-_, _≤_, _<_}
 use native.Mathlib.Omega.{arith}
 use mathlib.Core.Path.{_≡_, refl, sym, ap, subst, _∙_}
 use mathlib.Core.Bool.{Bool, true, false}
 use mathlib.Core.List.{List, [], _∷_, _++_, map}
 use mathlib.Core.Option.{Option, none, some}
-use lib.ListN.{length, set, length-set, length-append}
+use lib.ListN.{length, length-set, length-append}
 use Rattle.narrowing.specs.Windows.{Win, Side, early, late, moved, closes, sideOf}
 use Rattle.narrowing.specs.Search.{Move, move}
-use Rattle.narrowing.specs.Run.{Out, settled, clash, short, run}
+use Rattle.narrowing.specs.Run.{Out, settled, clash, short}
 use Rattle.answers.specs.declared.Answer.{Answer}
 use Rattle.joblist.specs.Limits.{jobs}
-use Rattle.journal.specs.Journal.{roomOf, logged, rewritten}
+use Rattle.journal.specs.Journal.{roomOf, logged}
 use Rattle.journal.proofs.Records.{room-length, logged-none, rewritten-length}
 use Rattle.timetable.specs.Time.{Jobs, bound}
-use Rattle.timetable.specs.Search.{best, search, entry}
+use Rattle.timetable.specs.Search.{best, search, leanMember, entry}
 use Rattle.timetable.specs.Table.{Call, call, jobsOf}
 use Rattle.tabling.specs.Search.{Workable}
 use Rattle.tabling.proofs.Moves.{best-applies, workable-after}
@@ -144,7 +144,7 @@ module _ (c : Call) (W : Win) (log : List ℕ) (at : Place) (count : ℕ) (S : R
             workable = subst (λ (U : Win). Workable (on c U log′)) (sym (m .windows))
                 (workable-after W (c .p) (c .r) (c .cap) log (S .workable) (at .job) (sideOf (at .side)) t (omega (arith, S .size)) a (closes-same false e) log′);
             size = ap (λ (U : Win). jobs U) (m .windows) ∙ moved-size W (at .job) (sideOf (at .side)) (bound (sideOf (at .side)) t) ∙ S .size;
-            log-size = ap length (m .record-is) ∙ rewritten-length log count (entry (jobsOf (on c W log)) one) (m .room) (entry-length (jobsOf (on c W log)) one) ∙ S .log-size;
+            log-size = ap length (m .record-is) ∙ rewritten-length log count (entry (jobsOf (on c W log)) one) (m .room) (entry-length leanMember (jobsOf (on c W log)) one) ∙ S .log-size;
             ms = S .ms ++ one ∷ [];
             counted = counted-more;
             going = subst (λ (U : Win). Going (search (jobsOf c)) (roomOf (c .log)) (c .win) U (place (at .job) (at .side) true) (S .ms ++ one ∷ [])) (sym (m .windows))

@@ -1,11 +1,10 @@
 -- What a turn has from the search: the time that it found is within the limit, and with the record and the move made the place's side has moved.
 use Prim.Native.Nat.{ℕ, _≤_, _<_}
 use native.Mathlib.Omega.{arith}
-use mathlib.Core.Path.{_≡_, sym, ap, _∙_}
+use mathlib.Core.Path.{_≡_, sym, _∙_}
 use mathlib.Core.List.{List}
 use mathlib.Core.Option.{some}
 use Rattle.narrowing.specs.Windows.{Win, win, moved, sideOf}
-use Rattle.narrowing.specs.Search.{move}
 use Rattle.joblist.specs.Limits.{mostTime, jobs}
 use Rattle.journal.specs.Journal.{roomOf, rewritten}
 use Rattle.timetable.specs.Time.{bound}
@@ -14,10 +13,9 @@ use Rattle.tabling.specs.declared.Found.{Found}
 use Rattle.tabling.specs.Found.{found}
 use Rattle.tabling.specs.Search.{asked, Workable}
 use Rattle.tabling.proofs.Moves.{found-some, best-applies, time-small}
-use Rattle.planner.specs.declared.rounds.Place.{Place}
 use Rattle.writer.specs.Record.{recordOf}
+use Rattle.planner.specs.declared.rounds.Place.{Place}
 use Rattle.planner.specs.Work.{timeAt, Moves}
-use Rattle.writer.proofs.Named.{entry-cap}
 
 module _ (e l p r : List ℕ) (cap : ℕ) (log : List ℕ) (at : Place) (t : ℕ) (x : Found) where
   abbrev here : Call
@@ -34,12 +32,12 @@ module _ (e l p r : List ℕ) (cap : ℕ) (log : List ℕ) (at : Place) (t : ℕ
 
     pub turn-moves : (count : ℕ) (W : Win) (after : List ℕ) → count < roomOf log
         → W ≡ moved (win e l) (at .job) (sideOf (at .side)) (bound (sideOf (at .side)) t)
-        → after ≡ rewritten log count (recordOf (asked e l p r 0) (at .job) (sideOf (at .side)) t)
+        → after ≡ rewritten log count (recordOf (asked e l p r cap) (at .job) (sideOf (at .side)) t)
         → Moves here at count t W after
     turn-moves count W after b w d =
         record {
           found = found-time;
           room = b;
           windows = w;
-          record-is = d ∙ ap (rewritten log count) (entry-cap e l p r cap log (move (win e l) (at .job) (sideOf (at .side)) t));
+          record-is = d;
         }

@@ -85,7 +85,7 @@ fn take_turn(
             if journal::room(log) <= count {
                 return Turn::Full;
             }
-            writer::note(est, lct, dur, dem, job, side, t, log, count);
+            writer::note(est, lct, dur, dem, cap, job, side, t, log, count);
             tabling::shift(est, lct, job, side, t);
             if joblist::closed(est, lct, dur, job) {
                 return Turn::Closed;

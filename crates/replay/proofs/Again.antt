@@ -1,23 +1,22 @@
 -- Last year's fault: a settled log that is not empty, replayed from the windows it left and not from the submitted ones, is rejected at place 0
 -- with code 26: its first change tightens nothing any more.
-use Prim.Native.Nat.{ℕ, zero, suc, _+_, _*_, _≤_, _<_}
+use Prim.Native.Nat.{ℕ, suc}
 use native.Mathlib.Omega.{arith}
 use mathlib.Core.Path.{_≡_, refl, sym, ap, subst, _∙_}
 use mathlib.Core.List.{List, [], _∷_, map}
-use mathlib.Core.Logic.{_⊎_, inl, inr}
+use mathlib.Core.Logic.{inl, inr}
 use lib.ListN.{length}
-use Rattle.lists.specs.Lists.{_!_}
-use Rattle.narrowing.specs.Windows.{Win, Side, early, late, number, sideOf, Inside, Respects}
+use Rattle.narrowing.specs.Windows.{Win, Side, early, late, Inside, Respects}
 use Rattle.narrowing.specs.Search.{Move, move}
-use Rattle.narrowing.specs.Rounds.{Choice, Chosen}
+use Rattle.narrowing.specs.Rounds.{Chosen}
 use Rattle.narrowing.proofs.Moves.{side-number, long-around}
 use Rattle.narrowing.proofs.Steps.{stable-respects}
-use Rattle.answers.specs.Said.{Word, Said, said}
+use Rattle.answers.specs.Said.{Word, said}
 use Rattle.journal.specs.Journal.{jobOf, timeOf, roomOf, recordAt, logged}
 use Rattle.journal.proofs.Records.{logged-room, logged-record}
 use Rattle.timetable.specs.Time.{Jobs, Applies, bound}
-use Rattle.timetable.specs.Search.{search, entry}
-use Rattle.timetable.specs.Table.{Call, call, jobsOf, Good, After}
+use Rattle.timetable.specs.Search.{search, leanMember, naming, entry}
+use Rattle.timetable.specs.Table.{Call, call, jobsOf, After}
 use Rattle.timetable.specs.Promise.{Narrows}
 use Rattle.timetable.proofs.Entries.{entries-are, entries-count}
 use Rattle.timetable.proofs.Law.{lawful}
@@ -25,8 +24,8 @@ use Rattle.timetable.proofs.Rows.{settled-row}
 use Rattle.timetable.proofs.Again.{same-jobs, good-again, long-again, word}
 use Rattle.judge.specs.Codes.{Coded}
 use Rattle.judge.specs.Facts.{side, OwnTrue, StatedTrue, Idles, GoodRecord}
-use Rattle.replay.specs.Replay.{rejected, Checked, finds, judged}
-use Rattle.replay.specs.Fate.{Fate, reached, nth}
+use Rattle.replay.specs.Replay.{rejected, Checked, finds}
+use Rattle.replay.specs.Fate.{reached, nth}
 use Rattle.replay.specs.Promise.{Checks}
 use Rattle.replay.proofs.Taken.{entry-good}
 use Rattle.replay.proofs.Rows.{fate-answers}
@@ -73,7 +72,7 @@ module _ (c : Call) (a : After) (h : Narrows c a) (n : ℕ) (e : a .says ≡ sai
       let long = long-around (J .n) (J .p) (a .win) (c .win) (big .one .inside) (big .one .long) in
       let ch = x .0 in
       let first : nth again 0 ≡ entry J y =
-      ap (λ (w : List ℕ). recordAt w 0) l ∙ logged-record (map (entry J) (y ∷ ys)) (c .log) (entries-are J (y ∷ ys)) (omega (arith, entries-count J ys, r .1, r .2)) 0 (omega arith) in
+      ap (λ (w : List ℕ). recordAt w 0) l ∙ logged-record (map (entry J) (y ∷ ys)) (c .log) (entries-are leanMember J (y ∷ ys)) (omega (arith, entries-count leanMember J ys, r .1, r .2)) 0 (omega arith) in
       let made : y ≡ move (c .win) (y .job) (y .side) (y .choice) = ap (λ (w : Win). record { job = y .job; side = y .side; choice = y .choice; before = w }) (ch .before) in
       let good : GoodRecord J (c .win) (entry J y) =
       subst (λ (z : Move). GoodRecord J (c .win) (entry J z)) (sym made)
@@ -86,7 +85,7 @@ module _ (c : Call) (a : After) (h : Narrows c a) (n : ℕ) (e : a .says ≡ sai
     where
       respects-entry : (y : Move) → Respects (a .win) (y .job) (y .side) (bound (y .side) (y .choice))
           → Respects (a .win) (jobOf (entry J y)) (side (entry J y)) (bound (side (entry J y)) (timeOf (entry J y)))
-      respects-entry y r = unfold entry in (rw (side-number (y .side)) r)
+      respects-entry y r = unfold naming in (rw (side-number (y .side)) r)
 
   pub left-rejected : (b : Checked) → Checks again (suc n) b → b ≡ finds (said Word.rejected (0 ∷ 26 ∷ [])) (a .win)
   unfolding reached
@@ -94,6 +93,6 @@ module _ (c : Call) (a : After) (h : Narrows c a) (n : ℕ) (e : a .says ≡ sai
       let r = settled-row c a h (suc n) e in
       let l = h .reasons .settled (suc n) e .logs in
       let room : roomOf (a .log) ≡ roomOf (c .log) =
-      ap roomOf (l .log) ∙ logged-room (map (entry J) (l .moves)) (c .log) (entries-are J (l .moves)) (omega (arith, entries-count J (l .moves), l .many, r .1, r .2)) in
+      ap roomOf (l .log) ∙ logged-room (map (entry J) (l .moves)) (c .log) (entries-are leanMember J (l .moves)) (omega (arith, entries-count leanMember J (l .moves), l .many, r .1, r .2)) in
       fate-answers again (suc n) b k (rejected 0 26) (good-again c a h (suc n) e (a .log)) (omega (arith, r .1, r .2))
       (omega arith, inr (record { long = long-again c a h (suc n) e (a .log); held = λ i q. absurd (omega arith) }, first-spent (l .moves) (l .many) (l .log) (l .chosen), λ z. omega arith))

@@ -1,22 +1,20 @@
 -- Every log that narrowing writes is taken, replayed from the submitted windows, to the same end.
-use Prim.Native.Nat.{ℕ, zero, suc, _+_, _*_, _≤_, _<_}
+use Prim.Native.Nat.{ℕ, _≤_}
 use native.Mathlib.Omega.{arith}
-use mathlib.Core.Path.{_≡_, refl, sym, ap, subst, _∙_}
-use mathlib.Core.Bool.{Bool, true, false}
+use mathlib.Core.Path.{_≡_, sym, ap, _∙_}
 use mathlib.Core.List.{List, [], _∷_, map}
-use mathlib.Core.Logic.{_⊎_, inl, inr}
+use mathlib.Core.Logic.{inl, inr}
 use lib.ListN.{length}
-use lib.Dec.{ltb}
 use borrow.Author.Tests.{le-ltb}
 use Rattle.lists.specs.Lists.{_!_}
 use Rattle.narrowing.specs.Search.{Move}
-use Rattle.narrowing.specs.Run.{Out, settled, clash, short, run}
+use Rattle.narrowing.specs.Run.{Out, settled, clash, short}
 use Rattle.narrowing.proofs.Runs.{Bounded, run-bounded}
 use Rattle.answers.specs.Said.{Word, Said, said}
 use Rattle.journal.specs.Journal.{roomOf, records, logged}
 use Rattle.journal.proofs.Records.{logged-room, logged-records}
 use Rattle.timetable.specs.Time.{Jobs, Applies}
-use Rattle.timetable.specs.Search.{search, entry}
+use Rattle.timetable.specs.Search.{search, leanMember, entry}
 use Rattle.timetable.specs.Table.{Call, call, jobsOf, Good, refusalOf, After, ended}
 use Rattle.timetable.specs.Promise.{Narrows}
 use Rattle.timetable.proofs.Entries.{entries-are, entries-count}
@@ -24,7 +22,7 @@ use Rattle.timetable.proofs.Law.{lawful, searches}
 use Rattle.answers.proofs.Same.{not-said}
 use Rattle.timetable.proofs.Calls.{call-good, whole}
 use Rattle.timetable.proofs.Rows.{Case, cased, ran, settled-refused, clash-refused}
-use Rattle.replay.specs.Replay.{Verdict, holds, clashes, Checked, finds, judged, refuses, rows, checked, verdictOn}
+use Rattle.replay.specs.Replay.{holds, Checked, finds, judged, rows, checked, verdictOn}
 use Rattle.replay.specs.Promise.{TakesLogs}
 use Rattle.replay.proofs.Taken.{Judges, run-judges}
 
@@ -45,10 +43,10 @@ module _ (c : Call) where
     good-after = call-good c g
 
     read-back : records left 0 (length ms) ≡ map (entry J) ms
-    read-back = ap (records left 0) (sym (entries-count J ms)) ∙ logged-records (map (entry J) ms) (c .log) (entries-are J ms) (omega (arith, entries-count J ms))
+    read-back = ap (records left 0) (sym (entries-count leanMember J ms)) ∙ logged-records (map (entry J) ms) (c .log) (entries-are leanMember J ms) (omega (arith, entries-count leanMember J ms))
 
     same-room : roomOf left ≡ roomOf (c .log)
-    same-room = logged-room (map (entry J) ms) (c .log) (entries-are J ms) (omega (arith, entries-count J ms))
+    same-room = logged-room (map (entry J) ms) (c .log) (entries-are leanMember J ms) (omega (arith, entries-count leanMember J ms))
 
     -- the checker replays just the records of the moves
     checked-left : checked (after left) (length ms) ≡ judged (after left) (length ms) (verdictOn J (c .win) (map (entry J) ms))
@@ -64,7 +62,7 @@ module _ (c : Call) where
     unfolding ended search
     settled-taken n e k = go (cased c a h)
       where
-        by-run : (g : Good c) (o : Out) → Judges J (c .win) o → Bounded (search J) (roomOf (c .log)) (c .win) o → a ≡ ended c o → b ≡ finds (said Word.holds (n ∷ [])) (a .win)
+        by-run : (g : Good c) (o : Out) → Judges J (c .win) o → Bounded (search J) (roomOf (c .log)) (c .win) o → a ≡ ended entry c o → b ≡ finds (said Word.holds (n ∷ [])) (a .win)
         by-run g (settled U ms) r d q =
             let z : length ms ≡ n = ap (λ (y : Said). y .numbers ! 0) (sym (ap (λ (y : After). y .says) q) ∙ e) in
             let l : a .log ≡ logged (map (entry J) ms) (c .log) = ap (λ (y : After). y .log) q in
@@ -89,7 +87,7 @@ module _ (c : Call) where
     unfolding ended search
     clash-taken n j e k = go (cased c a h)
       where
-        by-run : (g : Good c) (o : Out) → Judges J (c .win) o → Bounded (search J) (roomOf (c .log)) (c .win) o → a ≡ ended c o → b ≡ finds (said Word.clash (n ∷ j ∷ [])) (c .win)
+        by-run : (g : Good c) (o : Out) → Judges J (c .win) o → Bounded (search J) (roomOf (c .log)) (c .win) o → a ≡ ended entry c o → b ≡ finds (said Word.clash (n ∷ j ∷ [])) (c .win)
         by-run g (settled U ms) r d q =
             absurd (not-said Word.settled Word.clash (λ z. omega arith) (ap (λ (y : Said). y .word) (sym (ap (λ (y : After). y .says) q) ∙ e)))
         by-run g (clash i ms) r d q =

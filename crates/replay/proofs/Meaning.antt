@@ -44,7 +44,7 @@ module _ (c : Call) where
   fate-takes count (rejected a k) (d, inr (o, q, n)) i b = o .held i b .0
 
   reasoned : (i : ℕ) → Takes c i → Reasoned c i
-  reasoned i g = record { implies = implies (jobsOf c) (reached c i) _ g; true-there = true-there (jobsOf c) (reached c i) _ g }
+  reasoned i g = record { implies = implies (jobsOf c) (reached c i) _ g; true-there = true-there (jobsOf c) (reached c i) _ g; lean = record { counted = g .counted; exceeds = g .exceeds; none-spare = g .lean } }
 
   fate-kept : (count : ℕ) (v : Verdict) → Fate c count v → (s : List ℕ) → Scheduled c (c .win) s → Scheduled c (judged c count v .win) s
   fate-kept count (holds U) f s x =

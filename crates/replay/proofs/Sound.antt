@@ -1,29 +1,29 @@
 -- A good record is a rule's move, implies its own change from the facts that it names, and these hold of all starts in the windows reached.
 use Prim.Native.Nat.{ℕ, zero, suc, _+_, _≤_, _<_}
 use native.Mathlib.Omega.{arith}
-use native.Mathlib.Decide.{ℕ-discrete, decLt, decLe}
-use mathlib.Core.Path.{_≡_, refl, sym, ap}
-use mathlib.Core.Bool.{Bool, true, false, not}
+use native.Mathlib.Decide.{decLt, decLe}
+use mathlib.Core.Path.{_≡_, refl}
+use mathlib.Core.Bool.{Bool, true, not}
 use mathlib.Core.List.{List}
 use lib.Dec.{eqb}
 use borrow.Author.Tests.{eq-eqb, ne-eqb}
 use Rattle.lists.specs.Lists.{_!_}
 use Rattle.lists.specs.Tests.{both, either, only}
-use Rattle.lists.specs.Sums.{total}
+use Rattle.lists.specs.Sets.{totalOf}
 use Rattle.lists.proofs.Tests.{only-le, true-both, either-left, either-right}
 use Rattle.lists.proofs.Sums.{total-le, total-others}
-use Rattle.narrowing.specs.Windows.{Win, Side, early, late, moved}
+use Rattle.narrowing.specs.Windows.{Win, Side, early, late}
 use Rattle.narrowing.specs.Rules.{Step}
 use Rattle.narrowing.proofs.Steps.{step-refl, step-trans, step-move}
 use Rattle.journal.specs.Journal.{jobOf, timeOf, isMember}
-use Rattle.timetable.specs.Time.{Jobs, Runs, runs, Sure, sure, load, Crowded, Early, Late, Applies, bound}
+use Rattle.timetable.specs.Time.{Jobs, Runs, runs, sure, load, Crowded, Applies, bound}
 use Rattle.timetable.specs.Reason.{OwnFact, Stated, namedDrawn, Changed, Implied, Within}
 use Rattle.timetable.specs.Table.{Call, jobsOf}
 use Rattle.timetable.proofs.Facts.{yes-sure, yes-runs}
 use Rattle.timetable.proofs.Law.{lawful}
-use Rattle.judge.specs.Facts.{side, named, OwnTrue, Tightens, GoodRecord}
+use Rattle.judge.specs.Facts.{side, membersDraw, OwnTrue, Tightens, GoodRecord}
 use Rattle.replay.specs.Replay.{changed}
-use Rattle.replay.specs.Fate.{reached, Takes, Open}
+use Rattle.replay.specs.Fate.{reached, Takes}
 
 module _ (J : Jobs) (W : Win) (x : List ℕ) (g : GoodRecord J W x) where
   -- ---- a rule's move
@@ -34,14 +34,14 @@ module _ (J : Jobs) (W : Win) (x : List ℕ) (g : GoodRecord J W x) where
       (rw (ne-eqb k (jobOf x) (g .partners .members k h .1)))
       (yes-sure (J .p) W k (timeOf x) (g .stated .members k h))
 
-  named-load : named J x ≤ load J W (jobOf x) (timeOf x)
-  unfolding named load
-  named-load =
+  members-load : membersDraw J x ≤ load J W (jobOf x) (timeOf x)
+  unfolding totalOf load
+  members-load =
       total-le (λ k. only (isMember x k) (J .r ! k)) (λ k. only (both (not (eqb k (jobOf x))) (sure (J .p) W k (timeOf x))) (J .r ! k)) (J .n)
       (λ k b. only-le (isMember x k) (both (not (eqb k (jobOf x))) (sure (J .p) W k (timeOf x))) (J .r ! k) (member-counts k))
 
   crowded-there : Crowded J W (jobOf x) (timeOf x)
-  crowded-there = record { lasts = g .partners .lasts; takes = g .partners .takes; over = omega (arith, g .exceeds, named-load) }
+  crowded-there = record { lasts = g .partners .lasts; takes = g .partners .takes; over = omega (arith, g .exceeds, members-load) }
 
   by-side : (s : Side) → OwnTrue (J .p) W (jobOf x) s (timeOf x) → Tightens W (jobOf x) s (timeOf x) → Applies J W (jobOf x) s (bound s (timeOf x))
   by-side early a b = record { from = b; to = a; crowded = crowded-there }
@@ -62,7 +62,7 @@ module _ (J : Jobs) (W : Win) (x : List ℕ) (g : GoodRecord J W x) where
 
     -- the members and the moved job, all running, draw more than the capacity
     over-named : runs (J .p) s (jobOf x) (timeOf x) ≡ true → J .cap < namedDrawn J s (isMember x) (jobOf x) (timeOf x)
-    unfolding namedDrawn named
+    unfolding namedDrawn totalOf
     over-named h =
         let a = total-others counts (λ k. J .r ! k) (jobOf x) (J .n) (g .in-range .job) in
         let own : counts (jobOf x) ≡ true = true-both _ _ (either-right (isMember x (jobOf x)) _ (eq-eqb (jobOf x) (jobOf x) refl)) h in

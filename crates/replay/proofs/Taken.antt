@@ -1,37 +1,29 @@
 -- The checker takes the planner's logs: each record that the defined run writes is good on the windows reached, and its replay ends as the run did.
-use Prim.Native.Nat.{ℕ, zero, suc, _+_, _*_, _≤_, _<_}
+use Prim.Native.Nat.{ℕ, suc, _*_, _≤_, _<_}
 use native.Mathlib.Omega.{arith}
-use native.Mathlib.Decide.{decLt}
-use mathlib.Core.Path.{_≡_, refl, sym, ap, _∙_}
-use mathlib.Core.Bool.{Bool, true, false, not}
+use mathlib.Core.Path.{_≡_, refl, _∙_}
+use mathlib.Core.Bool.{true, false}
 use mathlib.Core.List.{List, [], _∷_, map}
-use lib.ListN.{drop}
 use mathlib.Core.Option.{none, some}
-use lib.Dec.{ltb, leb, eqb}
-use borrow.Author.Tests.{ne-eqb, eqb-false, not-true}
 use Rattle.lists.specs.Lists.{_!_}
-use Rattle.lists.specs.Tests.{both, only}
-use Rattle.lists.specs.Sums.{total}
-use Rattle.lists.proofs.Tests.{both-true, true-both, only-cong}
-use Rattle.lists.proofs.Sums.{total-cong}
 use Rattle.lists.proofs.Lists.{set-any}
-use Rattle.narrowing.specs.Windows.{Win, Side, early, late, number, sideOf, Long, moved, closes, LowestTooShort}
+use Rattle.narrowing.specs.Windows.{Win, Side, early, late, number, Long, moved, closes, LowestTooShort}
 use Rattle.narrowing.specs.Search.{Move, move}
 use Rattle.narrowing.specs.Run.{Out, settled, clash, short, push, work, run}
 use Rattle.narrowing.proofs.Moves.{side-number}
 use Rattle.narrowing.proofs.TooShort.{finds-too-short, run-by}
 use Rattle.narrowing.proofs.Runs.{work-ind}
-use Rattle.members.specs.Members.{setWords, has, setOf}
-use Rattle.members.proofs.Sets.{has-setOf, has-beyond}
+use Rattle.members.specs.Members.{setWords}
+use Rattle.members.proofs.Sets.{has-given}
 use Rattle.joblist.specs.Limits.{mostTime}
-use Rattle.journal.specs.Journal.{setOfRecord, jobOf, timeOf, isMember}
-use Rattle.timetable.specs.Time.{Jobs, Sure, sure, load, Crowded, Applies, bound}
-use Rattle.timetable.specs.Search.{search, Member, member, entry}
-use Rattle.timetable.proofs.Facts.{sure-yes, yes-sure, member-yes, yes-member}
+use Rattle.journal.specs.Journal.{jobOf, isMember}
+use Rattle.timetable.specs.Time.{Jobs, Applies, bound}
+use Rattle.timetable.specs.Search.{search, Member, leanMember, naming, entry}
 use Rattle.timetable.proofs.Law.{searches}
-use Rattle.judge.specs.Facts.{side, named, OwnTrue, Tightens, GoodRecord}
+use Rattle.timetable.proofs.Lean.{crowded-at, lean-member, entry-lean}
+use Rattle.judge.specs.Facts.{side, OwnTrue, Tightens, GoodRecord}
 use Rattle.judge.specs.Codes.{code}
-use Rattle.replay.specs.Replay.{changed, Verdict, holds, clashes, replay, verdictOn}
+use Rattle.replay.specs.Replay.{changed, holds, clashes, replay, verdictOn}
 use Rattle.judge.proofs.Codes.{record-good}
 
 number-most : (s : Side) → number s ≤ 1
@@ -41,10 +33,6 @@ number-most late = omega arith
 -- ---- one record
 
 module _ (J : Jobs) (W : Win) (few : J .n ≤ 32 * setWords) (L : Long (J .n) (J .p) W) (j : ℕ) (s : Side) (t : ℕ) (b : j < J .n) (small : W .l ! j ≤ mostTime) (a : Applies J W j s (bound s t)) where
-  crowded-at : (v : Side) → Applies J W j v (bound v t) → Crowded J W j t
-  crowded-at early d = d .crowded
-  crowded-at late d = d .crowded
-
   before-end : (v : Side) → Applies J W j v (bound v t) → t < W .l ! j
   unfolding Long
   before-end early d = omega (arith, d .to, L j b)
@@ -58,62 +46,44 @@ module _ (J : Jobs) (W : Win) (few : J .n ≤ 32 * setWords) (L : Long (J .n) (J
   tightens-at early d = d .from
   tightens-at late d = d .to
 
-  abbrev set : List ℕ
-  set = setOf setWords (member J W j t)
-
-  has-member : (k : ℕ) → has set k ≡ true → member J W j t k ≡ true
-  has-member k h =
-      elim (decLt k (32 * setWords)) [
-        | yes d ↦ sym (has-setOf setWords (member J W j t) k d) ∙ h
-        | no d ↦ absurd (let z : _≡_ {A = Bool} true false = sym h ∙ has-beyond setWords (member J W j t) k (omega arith) in let q : _≡_ {A = ℕ} 0 1 = cc in omega arith)
-      ]
-
-  -- the members' demands are the others' load
-  members-load : total (λ k. only (has set k) (J .r ! k)) (J .n) ≡ load J W j t
-  unfolding load
-  members-load =
-      total-cong (λ k. only (has set k) (J .r ! k)) (λ k. only (both (not (eqb k j)) (sure (J .p) W k t)) (J .r ! k)) (J .n)
-      (λ k c.
-      rw (has-setOf setWords (member J W j t) k (omega arith))
-      (only-cong (member J W j t k) (both (not (eqb k j)) (sure (J .p) W k t)) (J .r ! k)
-      (λ q. let m = member-yes J W j t k q in true-both (not (eqb k j)) (sure (J .p) W k t) (rw (ne-eqb k j (m .other))) (yes-sure (J .p) W k t (m .sure-there)))
-      (λ q r.
-      let d = both-true (not (eqb k j)) (sure (J .p) W k t) q in
-      yes-member J W j t k
-      (record { listed = c; other = eqb-false k j (not-true (eqb k j) (d .0)); takes = omega arith; sure-there = sure-yes (J .p) W k t (d .1) }))))
+  named-member : (k : ℕ) → isMember (entry J (move W j s t)) k ≡ true → Member J W j t k
+  unfolding naming
+  named-member k h = lean-member J W j t k (has-given setWords (leanMember J W j t) k h)
 
   pub entry-good : GoodRecord J W (entry J (move W j s t))
-  unfolding entry named Long
+  unfolding naming Long
   entry-good =
-      let c = crowded-at s a in
+      let c = crowded-at J W j s t a in
+      let lean = entry-lean J few (move W j s t) c in
       record {
         in-range = record { job = b; side = number-most s; time = omega (arith, before-end s a) };
         partners = record {
           lasts = c .lasts;
           takes = c .takes;
           members = λ k h.
-              let m = member-yes J W j t k (has-member k h) in
+              let m = named-member k h in
               let q = m .sure-there in
               (record { listed = m .listed; lasts = omega (arith, q .from, q .to, L k (m .listed)); takes = m .takes }, m .other);
         };
-        counted = refl;
-        exceeds = omega (arith, c .over, members-load);
+        counted = lean .counted;
+        exceeds = lean .exceeds;
         stated = record {
           own = rw (side-number s) (own-at s a);
-          members = λ k h. member-yes J W j t k (has-member k h) .sure-there;
+          members = λ k h. named-member k h .sure-there;
         };
         tightens = rw (side-number s) (tightens-at s a);
+        lean = lean .none-spare;
       }
 
 -- ---- the whole log
 
 changed-entry : (J : Jobs) (W : Win) (j : ℕ) (s : Side) (t : ℕ) → changed W (entry J (move W j s t)) ≡ moved W j s (bound s t)
-unfolding changed entry
+unfolding changed naming
 changed-entry J W j early t = refl
 changed-entry J W j late t = refl
 
 entry-job : (J : Jobs) (m : Move) → jobOf (entry J m) ≡ m .job
-unfolding entry
+unfolding naming
 entry-job J m = refl
 
 -- what the replay of an end's records comes to

@@ -7,6 +7,7 @@ use Rattle.answers.specs.Said.{Word, Said, said}
 use Rattle.journal.specs.Journal.{jobOf, timeOf, isMember}
 use Rattle.timetable.specs.Table.{Call, call, jobsOf, After}
 use Rattle.timetable.specs.Promise.{Scheduled, Narrows}
+use Rattle.timetable.specs.Reasons.{LeanRecord}
 use Rattle.timetable.specs.Reason.{Stated, Implied, Within}
 use Rattle.judge.specs.Facts.{side}
 use Rattle.replay.specs.Replay.{Checked, finds, checked}
@@ -26,11 +27,13 @@ takenBy Word.read k = 0
 abbrev pub taken : Said → ℕ
 taken a = takenBy (a .word) (a .numbers ! 0)
 
--- record i implies its own change from the facts that it names, for any whole starts; and the facts hold of all starts in the windows reached
+-- record i implies its own change from the facts that it names, for any whole starts; the facts hold of all starts in the windows reached; and it names
+-- no member that it could do without
 pub record Reasoned (c : Call) (i : ℕ) : Type 0 where
   pub implies : Implied (jobsOf c) (isMember (nth c i)) (jobOf (nth c i)) (side (nth c i)) (timeOf (nth c i))
   pub true-there : (s : List ℕ) → Within (jobsOf c .n) (c .p) (reached c i) s
       → Stated (jobsOf c .n) (c .p) s (isMember (nth c i)) (jobOf (nth c i)) (side (nth c i)) (timeOf (nth c i))
+  pub lean : LeanRecord (jobsOf c) (nth c i)
 
 -- a log that narrowing left on these windows, whatever stood in it before, with all its records claimed, is taken to the same end
 pub record TakesLogs (c : Call) (count : ℕ) (a : Checked) : Type 0 where

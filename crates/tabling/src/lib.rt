@@ -37,7 +37,7 @@ fn share(k: usize, j: usize, e: u32, l: u32, p: u32, r: u32, t: u32) -> u32
 }
 
 // The demands of the other jobs whose sure part holds t. The capacity plays no part.
-fn load_at(est: &[u32], lct: &[u32], dur: &[u32], dem: &[u32], job: usize, t: u32) -> u32
+pub fn load_at(est: &[u32], lct: &[u32], dur: &[u32], dem: &[u32], job: usize, t: u32) -> u32
     requires { ⌜ Good (asked (now est) (now lct) (now dur) (now dem) 0) × (t ≤ mostTime) ⌝ }
     ensures { λ x. ⌜ x ≡ loadOf (asked (now (est .entry)) (now (lct .entry)) (now (dur .entry)) (now (dem .entry)) 0) job t ⌝ }
 {

@@ -1,5 +1,5 @@
 -- Last year's fault, over narrowing's contract: the settled windows, narrowed again, settle with no record; nothing moves, and the log is left alone.
-use Prim.Native.Nat.{ℕ, zero, suc, _+_, _≤_, _<_}
+use Prim.Native.Nat.{ℕ, _<_}
 use native.Mathlib.Omega.{arith}
 use native.Mathlib.Decide.{decLt}
 use mathlib.Core.Path.{_≡_, refl, sym, ap, subst, _∙_}
@@ -10,11 +10,11 @@ use Rattle.narrowing.specs.Windows.{Long}
 use Rattle.narrowing.specs.Rules.{Stable}
 use Rattle.narrowing.proofs.Again.{run-rests}
 use Rattle.answers.specs.Said.{Word, Said, said}
-use Rattle.joblist.specs.Limits.{jobs, mostTime}
+use Rattle.joblist.specs.Limits.{jobs}
 use Rattle.journal.specs.Journal.{roomOf, logged, flat}
 use Rattle.timetable.specs.Time.{Jobs, Applies}
 use Rattle.timetable.specs.Search.{search}
-use Rattle.timetable.specs.Table.{Call, call, jobsOf, Good, After, leaves, ended, tabled, narrowed}
+use Rattle.timetable.specs.Table.{Call, call, jobsOf, Good, After, leaves, ended, tabled, narrowed, narrowedBy}
 use Rattle.timetable.specs.Promise.{Narrows}
 use Rattle.timetable.proofs.Calls.{call-good}
 use Rattle.timetable.proofs.Law.{searches}
@@ -69,7 +69,7 @@ module _ (c : Call) (a : After) (h : Narrows c a) (n : ℕ) (e : a .says ≡ sai
   long-again k b = h .largest (settled-row c a h n e .0) .settled word .one .long k (omega (arith, h .reasons .settled n e .led .lengths .early))
 
   again : narrowed next ≡ leaves (said Word.settled (0 ∷ [])) (a .win) log
-  unfolding narrowed tabled ended search logged flat
+  unfolding narrowedBy tabled ended search logged flat
   again =
       let big = h .largest (settled-row c a h n e .0) .settled word in
       let q : Stable (jobsOf next .n) (Applies (jobsOf next)) (a .win) = subst (λ (I : Jobs). Stable (I .n) (Applies I) (a .win)) (sym same-jobs) (big .one .stable) in

@@ -1,5 +1,5 @@
--- The records of moves: each has a record's number of words, and there are as many as there are moves.
-use Prim.Native.Nat.{ℕ, suc}
+-- The records of moves, whomever a writer names: each has a record's number of words, and there are as many as there are moves.
+use Prim.Native.Nat.{suc}
 use mathlib.Core.Path.{_≡_, refl, ap}
 use mathlib.Core.List.{List, [], _∷_, map}
 use lib.ListN.{length}
@@ -10,18 +10,19 @@ use Rattle.members.proofs.Sets.{setOf-length}
 use Rattle.journal.specs.Journal.{recordWords, AreRecords}
 use Rattle.journal.proofs.Records.{written-length}
 use Rattle.timetable.specs.Time.{Jobs}
-use Rattle.timetable.specs.Search.{entry, member}
+use Rattle.timetable.specs.Search.{Names, naming}
 
-pub entry-length : (J : Jobs) (m : Move) → length (entry J m) ≡ recordWords
-unfolding entry
-entry-length J m =
-    written-length (m .job) (number (m .side)) (m .choice) (setOf setWords (member J (m .before) (m .job) (m .choice)))
-    (setOf-length setWords (member J (m .before) (m .job) (m .choice)))
+module _ (M : Names) (J : Jobs) where
+  pub entry-length : (m : Move) → length (naming M J m) ≡ recordWords
+  unfolding naming
+  entry-length m =
+      let named = M J (m .before) (m .job) (m .choice) in
+      written-length (m .job) (number (m .side)) (m .choice) (setOf setWords named) (setOf-length setWords named)
 
-pub entries-are : (J : Jobs) (ms : List Move) → AreRecords (map (entry J) ms)
-entries-are J [] = tt
-entries-are J (m ∷ ms) = (entry-length J m, entries-are J ms)
+  pub entries-are : (ms : List Move) → AreRecords (map (naming M J) ms)
+  entries-are [] = tt
+  entries-are (m ∷ ms) = (entry-length m, entries-are ms)
 
-pub entries-count : (J : Jobs) (ms : List Move) → length (map (entry J) ms) ≡ length ms
-entries-count J [] = refl
-entries-count J (m ∷ ms) = ap suc (entries-count J ms)
+  pub entries-count : (ms : List Move) → length (map (naming M J) ms) ≡ length ms
+  entries-count [] = refl
+  entries-count (m ∷ ms) = ap suc (entries-count ms)

@@ -3,10 +3,12 @@ pub mod Calls
 pub mod Law
 pub mod Exact
 pub mod Order
+pub mod Entries
+pub mod Lean
+pub mod Unmoved
 pub mod Reasons
 pub mod Meaning
 pub mod Rows
 pub mod TooShort
 pub mod Again
 pub mod Reordered
-pub mod Entries

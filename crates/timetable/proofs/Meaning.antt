@@ -2,16 +2,14 @@
 use Prim.Native.Nat.{ℕ, zero, suc, _+_, _-_, _≤_, _<_}
 use native.Mathlib.Omega.{arith}
 use native.Mathlib.Decide.{decLe}
-use mathlib.Core.Path.{_≡_, refl, sym, ap, subst, _∙_}
-use mathlib.Core.List.{List, [], _∷_}
-use mathlib.Core.Logic.{_⊎_, inl, inr, _↔_}
-use lib.ListN.{length}
+use mathlib.Core.Path.{_≡_, refl}
+use mathlib.Core.List.{List}
+use mathlib.Core.Logic.{_⊎_, inl, inr}
 use Rattle.lists.specs.Lists.{_!_}
 use Rattle.narrowing.specs.Windows.{Win, Side, early, late, Long, slack}
-use Rattle.narrowing.specs.Rules.{Stable, Candidate, Largest, NoCandidate}
+use Rattle.narrowing.specs.Rules.{Stable}
 use Rattle.narrowing.specs.Schedules.{Fixed}
 use Rattle.narrowing.specs.Run.{Out, settled, clash, short, run, needed}
-use Rattle.narrowing.proofs.Moves.{Whole}
 use Rattle.narrowing.proofs.Steps.{largest-step}
 use Rattle.narrowing.proofs.Schedules.{step-schedule, none-schedule, fixed-settled, fixed-clash}
 use Rattle.narrowing.proofs.Next.{stable-or}
@@ -20,14 +18,14 @@ use Rattle.narrowing.proofs.Runs as runs
 use Rattle.narrowing.proofs.Room.{short-below, below-short}
 use Rattle.answers.specs.Said.{Word}
 use Rattle.answers.proofs.Same.{not-said}
-use Rattle.joblist.specs.Limits.{jobs}
 use Rattle.journal.specs.Journal.{roomOf}
 use Rattle.timetable.specs.Time.{Jobs, Applies, Fits, Overdrawn}
-use Rattle.timetable.specs.Search.{search}
-use Rattle.timetable.specs.Table.{Call, jobsOf, Good, refusalOf, After, ended, tabled, narrowed}
-use Rattle.timetable.specs.Promise.{Scheduled, StableIn, LargestIn, NoneIn, AllFixed, needs, Room, Kept, Narrowest, Narrows}
+use Rattle.timetable.specs.Search.{search, entry}
+use Rattle.timetable.specs.Table.{Call, jobsOf, Good, refusalOf, ended, tabled, narrowed, narrowedBy}
+use Rattle.timetable.specs.Promise.{LargestIn, NoneIn, AllFixed, needs, Room, Kept, Narrowest, Narrows}
 use Rattle.timetable.proofs.Calls.{good-call, call-good, whole}
 use Rattle.timetable.proofs.Reasons.{reasons-by}
+use Rattle.timetable.proofs.Unmoved.{unmoved-by}
 use Rattle.timetable.proofs.Law.{lawful, searches}
 use Rattle.timetable.proofs.Exact.{exact, fixed-applies}
 
@@ -89,7 +87,7 @@ module _ (c : Call) (g : Good c) where
 
   -- ---- the run's rows
 
-  kept-run : (o : Out) → ran ≡ o → runs.Good (J .n) (J .p) (Applies J) (c .win) o → Kept c (ended c o)
+  kept-run : (o : Out) → ran ≡ o → runs.Good (J .n) (J .p) (Applies J) (c .win) o → Kept c (ended entry c o)
   unfolding ended
   kept-run (settled U ms) e h =
       record {
@@ -110,7 +108,7 @@ module _ (c : Call) (g : Good c) where
         fixed = λ g f b. absurd (room-not (fixed-room f b) e);
       }
 
-  narrowest-run : (o : Out) → ran ≡ o → runs.Good (J .n) (J .p) (Applies J) (c .win) o → Narrowest c (ended c o)
+  narrowest-run : (o : Out) → ran ≡ o → runs.Good (J .n) (J .p) (Applies J) (c .win) o → Narrowest c (ended entry c o)
   unfolding ended
   narrowest-run (settled U ms) e h =
       record {
@@ -139,7 +137,7 @@ module _ (c : Call) (g : Good c) where
 
 -- ---- the whole table
 
-narrows-by : (c : Call) (k : ℕ) → refusalOf c ≡ k → Kept c (tabled c k) × (Good c → Narrowest c (tabled c k))
+narrows-by : (c : Call) (k : ℕ) → refusalOf c ≡ k → Kept c (tabled entry c k) × (Good c → Narrowest c (tabled entry c k))
 unfolding tabled
 narrows-by c zero e = let g = good-call c e in (kept-run c g (ran c g) refl (means c g), λ h. narrowest-run c g (ran c g) refl (means c g))
 narrows-by c (suc k) e = (
@@ -155,7 +153,7 @@ narrows-by c (suc k) e = (
     refused-good g = omega (arith, call-good c g)
 
 pub narrows : (c : Call) → Narrows c (narrowed c)
-unfolding narrowed
+unfolding narrowedBy
 narrows c =
     let h = narrows-by c (refusalOf c) refl in
-    record { answered = refl; kept = h .0; largest = h .1; reasons = reasons-by c (refusalOf c) refl }
+    record { answered = refl; kept = h .0; largest = h .1; reasons = reasons-by c (refusalOf c) refl; unmoved = unmoved-by c }

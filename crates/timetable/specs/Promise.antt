@@ -14,7 +14,7 @@ use Rattle.journal.specs.Journal.{roomOf}
 use Rattle.timetable.specs.Time.{Applies, Fits, Overdrawn}
 use Rattle.timetable.specs.Search.{search}
 use Rattle.timetable.specs.Table.{Call, jobsOf, Good, After, narrowed}
-use Rattle.timetable.specs.Reasons.{Reasons}
+use Rattle.timetable.specs.Reasons.{Reasons, Unmoved}
 
 -- a schedule of the call's jobs within the windows W
 abbrev pub Scheduled : Call → Win → List ℕ → Type 0
@@ -74,3 +74,4 @@ pub record Narrows (c : Call) (a : After) : Type 0 where
   pub kept : Kept c a
   pub largest : Good c → Narrowest c a
   pub reasons : Reasons c a
+  pub unmoved : Unmoved c a

@@ -3,9 +3,10 @@ use Prim.Native.Nat.{ℕ, zero, suc}
 use mathlib.Core.List.{List, [], _∷_, map}
 use lib.ListN.{length}
 use Rattle.narrowing.specs.Windows.{Win, Long, LowestTooShort}
+use Rattle.narrowing.specs.Search.{Move}
 use Rattle.narrowing.specs.Run.{Out, settled, clash, short, run}
 use Rattle.answers.specs.Said.{Word, Said, said}
-use Rattle.joblist.specs.Limits.{Column, jobs, fourLists, supply}
+use Rattle.joblist.specs.Limits.{jobs, fourLists, supply}
 use Rattle.joblist.specs.GoodList.{GoodList, refusal}
 use Rattle.journal.specs.Journal.{roomOf, logged, cleared}
 use Rattle.timetable.specs.Time.{Jobs}
@@ -50,20 +51,28 @@ pub record After : Type 0 where
 abbrev pub leaves : Said → Win → List ℕ → After
 leaves a W log = record { says = a; win = W; log = log }
 
+-- what makes the record of a move
+abbrev pub Writer : Type 0
+Writer = Jobs → Move → List ℕ
+
 -- the rows of a run's end; a clash before any move leaves the log as before
-unfoldable pub ended : Call → Out → After
-unfolding logged cleared entry
-ended c (settled U ms) = leaves (said Word.settled (length ms ∷ [])) U (logged (map (entry (jobsOf c)) ms) (c .log))
-ended c (clash j ms) = leaves (said Word.clash (length ms ∷ j ∷ [])) (c .win) (logged (map (entry (jobsOf c)) ms) (c .log))
-ended c short = leaves (said Word.refused (5 ∷ [])) (c .win) (cleared (c .log))
+unfoldable pub ended : Writer → Call → Out → After
+unfolding logged cleared
+ended w c (settled U ms) = leaves (said Word.settled (length ms ∷ [])) U (logged (map (w (jobsOf c)) ms) (c .log))
+ended w c (clash j ms) = leaves (said Word.clash (length ms ∷ j ∷ [])) (c .win) (logged (map (w (jobsOf c)) ms) (c .log))
+ended w c short = leaves (said Word.refused (5 ∷ [])) (c .win) (cleared (c .log))
 
 -- the rows of refusals 1 to 3, else the run's
-unfoldable pub tabled : Call → ℕ → After
+unfoldable pub tabled : Writer → Call → ℕ → After
 unfolding ended run search roomOf
-tabled c zero = ended c (run (search (jobsOf c)) (roomOf (c .log)) (c .win))
-tabled c (suc k) = leaves (said Word.refused (suc k ∷ [])) (c .win) (c .log)
+tabled w c zero = ended w c (run (search (jobsOf c)) (roomOf (c .log)) (c .win))
+tabled w c (suc k) = leaves (said Word.refused (suc k ∷ [])) (c .win) (c .log)
 
--- what narrowing answers and leaves
-unfoldable pub narrowed : Call → After
+-- what narrowing answers and leaves with a writer's records
+unfoldable pub narrowedBy : Writer → Call → After
 unfolding tabled refusalOf
-narrowed c = tabled c (refusalOf c)
+narrowedBy w c = tabled w c (refusalOf c)
+
+-- with its own
+abbrev pub narrowed : Call → After
+narrowed = narrowedBy entry

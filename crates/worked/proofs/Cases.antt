@@ -2,13 +2,14 @@
 use mathlib.Core.Path.{refl}
 use Rattle.lists.specs.Lists.{Every}
 use Rattle.members.specs.Members.{onesOf}
-use Rattle.timetable.specs.Table.{narrowed}
+use Rattle.timetable.specs.Search.{leanMember, naming}
+use Rattle.timetable.specs.Table.{narrowedBy}
 use Rattle.readhead.specs.Promise.{checked}
 use Rattle.worked.specs.Rows.{Right}
 use Rattle.worked.specs.Cases.{runs}
 
 pub cases : Every Right runs
-unfolding narrowed checked onesOf
+unfolding narrowedBy naming leanMember checked onesOf
 cases = (
   refl,  -- 1
   (
@@ -79,7 +80,16 @@ cases = (
                                                                     refl,  -- 39
                                                                     (
                                                                       refl,  -- 40
-                                                                      tt,
+                                                                      (
+                                                                        refl,  -- 50
+                                                                        (
+                                                                          refl,  -- 51
+                                                                          (
+                                                                            refl,  -- 52
+                                                                            tt,
+                                                                          ),
+                                                                        ),
+                                                                      ),
                                                                     ),
                                                                   ),
                                                                 ),

@@ -1,5 +1,5 @@
 -- Document 01's 'Runs on the record', cases 1 to 12, case 9 as Item 3 of document 02 has it; with capacity 0 and outside answers (numbers from 20:
--- 000's Example 1.27, 004's 4.1 and 4.2, a tie of latest ends), and windows that are too short (from 30). Of narrowing: capacity, jobs as e, l, p, r, the
+-- 000's Example 1.27, 004's 4.1 and 4.2, a tie of latest ends), windows that are too short (from 30), and members that can be spared (Item 7, from 50). Of narrowing: capacity, jobs as e, l, p, r, the
 -- log's room in records; then the answer, each job's e and l, and the words of the counted records. Every word of a log is 9 before. Of the overload
 -- check: the jobs, and the pair or none.
 use Prim.Native.Nat.{ℕ, _*_}
@@ -49,6 +49,10 @@ overloaded number js a b = heads number js (said Word.overload (a ∷ b ∷ []))
 abbrev pub fine : ℕ → List Job → Row After
 fine number js = heads number js (said Word.none [])
 
+-- three jobs side by side, and one with a wide window beside them
+abbrev pub crowd : List Job
+crowd = job 0 4 1 3 ∷ job 0 1 1 1 ∷ job 0 1 1 2 ∷ job 0 1 1 2 ∷ []
+
 abbrev pub runs : List (Row After)
 runs =
     settles 1 1 [] 8 0 [] [] ∷
@@ -92,4 +96,9 @@ runs =
     overloaded 38 (job 5 5 1 1 ∷ []) 5 5 ∷
     overloaded 39 (job 4 3 0 1 ∷ job 6 3 0 1 ∷ job 5 3 1 1 ∷ []) 6 3 ∷
     fine 40 (job 0 0 0 1 ∷ job 1 1 0 1 ∷ []) ∷
+    -- of two members one is needed, whichever comes first; a moved job that exceeds the capacity by itself needs none
+    clashes 50 1 (job 0 9 1 1 ∷ job 0 1 1 2 ∷ job 0 1 1 1 ∷ []) 2 2 1 (line 0 0 0 1 4 ++ line 1 0 0 0 0) ∷
+    clashes 51 1 (job 0 9 1 1 ∷ job 0 1 1 1 ∷ job 0 1 1 2 ∷ []) 2 2 1 (line 0 0 0 1 4 ++ line 1 0 0 1 4) ∷
+    -- without either of the other two the demands named only reach the capacity
+    settles 52 5 crowd 1 1 (span 1 4 ∷ span 0 1 ∷ span 0 1 ∷ span 0 1 ∷ []) (line 0 0 0 2 12) ∷
     []

@@ -1,10 +1,11 @@
--- Logs by hand for the checker: what holds, what clashes, refusal 6 and each code 20 to 26 (document 01, 'Answer table'; document 02, Item 3). A row's
+-- Logs by hand for the checker: what holds, what clashes, refusal 6 and each code 20 to 27 (document 01, 'Answer table'; document 02, Items 3 and 7). A row's
 -- number is 40 for holds, 41 for clash, the refusal's or the code else; then the capacity, the jobs, the claimed records and the log.
 use Prim.Native.Nat.{ℕ}
 use mathlib.Core.List.{List, [], _∷_, _++_}
 use Rattle.answers.specs.Said.{Word, said}
 use Rattle.timetable.specs.Table.{Call, call}
 use Rattle.replay.specs.Replay.{Checked, finds, checked}
+use Rattle.worked.specs.Cases.{crowd}
 use Rattle.worked.specs.Rows.{Row, Job, job, windows, durations, draws, Span, span, spans, line}
 
 abbrev pub with : ℕ → List Job → List ℕ → Call
@@ -67,4 +68,17 @@ checks =
     rejecting 23 0 5 two 1 (line 0 0 1 9 2) ∷
     rejecting 24 0 5 two 1 (line 0 0 1 1 2) ∷
     rejecting 25 0 5 two 1 (line 0 0 1 2 6) ∷
+    -- two needed members of three, whichever they are; all three, as 01 named them; two, and too few of them
+    holding 5 crowd 1 (line 0 0 0 2 12) (span 1 4 ∷ span 0 1 ∷ span 0 1 ∷ span 0 1 ∷ []) ∷
+    holding 5 crowd 1 (line 0 0 0 2 6) (span 1 4 ∷ span 0 1 ∷ span 0 1 ∷ span 0 1 ∷ []) ∷
+    rejecting 27 0 5 crowd 1 (line 0 0 0 3 14) ∷
+    rejecting 24 0 5 crowd 1 (line 0 0 0 1 8) ∷
+    -- a spare member after a good record; and one beside each earlier fault that it can stand beside
+    rejecting 27 1 5 (crowd ++ (job 0 4 1 3 ∷ [])) 2 (line 0 0 0 2 12 ++ line 4 0 0 3 14) ∷
+    rejecting 20 1 0 (job 0 1 1 1 ∷ job 0 1 1 1 ∷ []) 2 (line 0 0 0 0 0 ++ line 1 0 0 1 1) ∷
+    rejecting 21 0 5 crowd 1 (line 0 2 0 3 14) ∷
+    rejecting 22 0 5 crowd 1 (line 0 0 0 4 30) ∷
+    rejecting 23 0 5 crowd 1 (line 0 0 0 2 14) ∷
+    rejecting 25 0 5 crowd 1 (line 0 0 1 3 14) ∷
+    rejecting 26 1 5 crowd 2 (line 0 0 0 2 12 ++ line 0 0 0 3 14) ∷
     []

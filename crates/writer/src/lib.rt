@@ -1,4 +1,4 @@
-// The reason of a move (document 01, 'Log records'): the writer's members, and the record in the log.
+// The record of a move (document 01, 'Log records'; document 02, Item 7): the members that the writer names, and the words in the log.
 ghost use mathlib.Core.Path.{_≡_};
 ghost use mathlib.Core.Bool.{not};
 ghost use Prim.Native.Nat.{ℕ, _+_, _≤_, _<_};
@@ -12,7 +12,7 @@ ghost use Rattle.narrowing.specs.Windows.{sideOf};
 ghost use Rattle.tabling.specs.Search.{asked};
 ghost use Rattle.writer.specs.Record.{membersOf, recordOf};
 
-// Whether job k is named in a record of job j at time t: another job with a demand whose sure part holds t.
+// Whether job k is one of 01's members of a record of job j at time t: another job with a demand whose sure part holds t.
 fn is_member(k: usize, j: usize, e: u32, l: u32, p: u32, r: u32, t: u32) -> bool
     requires { ⌜ (e ≤ mostTime) × (p ≤ mostTime) × (t ≤ mostTime) ⌝ }
     ensures { λ x. ⌜ x ≡ both (not (eqb k j)) (both (leb 1 r) (both (leb l (t + p)) (ltb t (e + p)))) ⌝ }
@@ -29,23 +29,31 @@ fn is_member(k: usize, j: usize, e: u32, l: u32, p: u32, r: u32, t: u32) -> bool
     t < e + p
 }
 
-// The set of the jobs that a record of the job at time t names. The capacity plays no part.
+// The set of the jobs that a record of the job at time t names: members by rising number, but those without whom the demands named, as many as are left
+// by then, still exceed the capacity.
 fn gather(
     est: &[u32],
     lct: &[u32],
     dur: &[u32],
     dem: &[u32],
+    cap: u32,
     job: usize,
     t: u32,
 ) -> [u32; members::WORDS]
-    requires { ⌜ Good (asked (now est) (now lct) (now dur) (now dem) 0) × (t ≤ mostTime) ⌝ }
-    ensures { λ r. ⌜ r ≡ membersOf (asked (now (est .entry)) (now (lct .entry)) (now (dur .entry)) (now (dem .entry)) 0) job t ⌝ }
+    requires { ⌜ Good (asked (now est) (now lct) (now dur) (now dem) cap) × (job < length (now est)) × (t ≤ mostTime) ⌝ }
+    ensures { λ r. ⌜ r ≡ membersOf (asked (now (est .entry)) (now (lct .entry)) (now (dur .entry)) (now (dem .entry)) cap) job t ⌝ }
 {
     let mut set = members::empty();
+    let mut left = tabling::load_at(est, lct, dur, dem, job, t) + dem[job];
     let mut k = 0;
     while k < est.len() {
         if is_member(k, job, est[k], lct[k], dur[k], dem[k], t) {
-            members::put(&mut set, k);
+            let rest = left - dem[k];
+            if cap < rest {
+                left = rest;
+            } else {
+                members::put(&mut set, k);
+            }
         }
         k += 1;
     }
@@ -58,15 +66,16 @@ pub fn note(
     lct: &[u32],
     dur: &[u32],
     dem: &[u32],
+    cap: u32,
     job: usize,
     side: u32,
     t: u32,
     log: &mut [u32],
     k: usize,
 )
-    requires { ⌜ Good (asked (now est) (now lct) (now dur) (now dem) 0) × (job < length (now est)) × (side ≤ 1) × (t ≤ mostTime) ⌝ }
-    ensures { λ _. ⌜ now (log .exit) ≡ rewritten (now (log .entry)) k (recordOf (asked (now (est .entry)) (now (lct .entry)) (now (dur .entry)) (now (dem .entry)) 0) job (sideOf side) t) ⌝ }
+    requires { ⌜ Good (asked (now est) (now lct) (now dur) (now dem) cap) × (job < length (now est)) × (side ≤ 1) × (t ≤ mostTime) ⌝ }
+    ensures { λ _. ⌜ now (log .exit) ≡ rewritten (now (log .entry)) k (recordOf (asked (now (est .entry)) (now (lct .entry)) (now (dur .entry)) (now (dem .entry)) cap) job (sideOf side) t) ⌝ }
 {
-    let set = gather(est, lct, dur, dem, job, t);
+    let set = gather(est, lct, dur, dem, cap, job, t);
     journal::write(log, k, job as u32, side, t, set);
 }

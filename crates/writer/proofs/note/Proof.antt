@@ -1,7 +1,7 @@
 -- `writer::note` meets its contract: the set gathered and the numbers given are the record of the move.
 use mathlib.Core.Path.{_∙_}
 use borrow.Author.Needs.{needs}
-use Rattle.timetable.specs.Search.{entry}
+use Rattle.timetable.specs.Search.{naming}
 use Rattle.tabling.proofs.Moves.{number-of-side}
 use Rattle.writer.proofs.note.Statement.{statement}
 use Rattle.writer.proofs.note.Tie as tie
@@ -19,7 +19,7 @@ same-length : tie.Need-same-length
 same-length c = search needs
 
 returns : tie.Need-returns
-unfolding entry
+unfolding naming
 returns c =
     let at-write = c .before .before in
     let at-gather = at-write .before .before in

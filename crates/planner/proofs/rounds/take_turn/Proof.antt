@@ -3,7 +3,6 @@ use native.Mathlib.Omega.{arith}
 use mathlib.Core.Path.{refl, sym, _∙_}
 use borrow.Author.Needs.{needs}
 use Rattle.tabling.proofs.Moves.{found-some, found-none}
-use Rattle.tabling.proofs.Steps.{good-cap}
 use Rattle.planner.proofs.Turns.{turn-time, turn-moves}
 use Rattle.planner.proofs.rounds.take_turn.Statement.{statement}
 use Rattle.planner.proofs.rounds.take_turn.Tie as tie
@@ -44,7 +43,7 @@ note-requires c κs =
     let a = start .args in
     let s = start .pre in
     let t = turn-time _ _ _ _ _ (a .log .now) (a .at) _ _ (at-next-time .next-time .ensures) (hit .found .given .1) (s .0) (s .1) in
-    (good-cap _ _ _ _ _ (s .0 .good), s .1, s .2, t)
+    (s .0 .good, s .1, s .2, t)
 
 shift-requires : tie.Need-shift-requires
 shift-requires c κs =

@@ -1,4 +1,4 @@
--- `judge::named` meets its contract. The loop's invariant: the sum is that of the jobs passed, at most the largest demand for each. The measure
+-- `judge::demands::members_draw` meets its contract. The loop's invariant: the sum is that of the jobs passed, at most the largest demand for each. The measure
 -- is the number of jobs left.
 use Prim.Native.Nat.{_≤_, _*_, _-_}
 use native.Mathlib.Omega.{arith}
@@ -8,9 +8,9 @@ use borrow.Author.Needs.{needs}
 use Rattle.lists.proofs.Sums.{total-zero}
 use Rattle.lists.specs.Sums.{total}
 use Rattle.joblist.specs.Limits.{mostDemand}
-use Rattle.judge.proofs.Steps.{shareAt, share-most, named-more, named-is}
-use Rattle.judge.proofs.named.Statement.{statement}
-use Rattle.judge.proofs.named.Tie as tie
+use Rattle.judge.proofs.Steps.{shareAt, share-most, draw-more, draw-is}
+use Rattle.judge.proofs.demands.members_draw.Statement.{statement}
+use Rattle.judge.proofs.demands.members_draw.Tie as tie
 
 abbrev Inv-loop : tie.InvT-loop
 Inv-loop dem words set sum₀ k₀ sum k = (k ≤ length dem) × (sum ≡ total (shareAt dem set) k) × (sum ≤ mostDemand * k)
@@ -28,7 +28,7 @@ share-requires : tie.Need-share-requires Inv-loop μ-loop
 share-requires c κs = search needs
 
 add-sum : tie.Need-add-sum Inv-loop μ-loop
-add-sum c = omega (arith, share-most (c .before .before .before .before .before .before .args .dem .now) (c .before .before .before .set-of .result .now) (c .before .before .loop .k), c .before .before .before .before .before .before .pre .1 (c .before .before .loop .k))
+add-sum c = omega (arith, share-most (c .before .before .before .before .before .before .args .dem .now) (c .before .before .before .set-of .result .now) (c .before .before .loop .k), c .before .before .before .before .before .before .pre .0 .small (c .before .before .loop .k))
 
 add-k : tie.Need-add-k Inv-loop μ-loop
 add-k c = search needs
@@ -41,7 +41,7 @@ loop-again c =
     let s = c .before .before .before .set-of .result .now in
     let r = c .before .before .before .before .before .before .args .dem .now in
     let k = c .before .before .loop .k in
-    (omega arith, omega (arith, named-more r s k, c .share .ensures), omega (arith, share-most r s k, c .before .before .before .before .before .before .pre .1 k, c .share .ensures))
+    (omega arith, omega (arith, draw-more r s k, c .share .ensures), omega (arith, share-most r s k, c .before .before .before .before .before .before .pre .0 .small k, c .share .ensures))
 
 returns : tie.Need-returns Inv-loop μ-loop
 returns c =
@@ -49,10 +49,10 @@ returns c =
     let x = c .before .before .before .before .before .args .words .now in
     let s = c .before .before .set-of .result .now in
     let e : c .before .loop .k ≡ length r = omega arith in
-    (c .before .loop .inv .1 ∙ ap (total (shareAt r s)) e ∙ named-is r x s (c .before .before .set-of .ensures), omega arith)
+    (c .before .loop .inv .1 ∙ ap (total (shareAt r s)) e ∙ draw-is r x s (c .before .before .set-of .ensures), omega arith)
 
-pub named-spec : {M : Type 1} → statement M
-named-spec =
+pub members-draw-spec : {M : Type 1} → statement M
+members-draw-spec =
     tie.close
     (tie.spec
     Inv-loop

@@ -1,8 +1,8 @@
--- `judge::share` meets its contract: a member's demand, and 0 of any other job.
+-- `judge::demands::share` meets its contract: a member's demand, and 0 of any other job.
 use mathlib.Core.Path.{sym, _∙_}
 use borrow.Author.Needs.{needs}
-use Rattle.judge.proofs.share.Statement.{statement}
-use Rattle.judge.proofs.share.Tie as tie
+use Rattle.judge.proofs.demands.share.Statement.{statement}
+use Rattle.judge.proofs.demands.share.Tie as tie
 
 has-requires : tie.Need-has-requires
 has-requires c κs = search needs

@@ -1,0 +1,39 @@
+-- `judge::demands::named` meets its contract: the sum of the demands of the members is small, so that one demand more fits the word.
+use native.Mathlib.Omega.{arith}
+use borrow.Author.Needs.{needs}
+use Rattle.journal.specs.Journal.{jobOf}
+use Rattle.judge.proofs.demands.named.Statement.{statement}
+use Rattle.judge.proofs.demands.named.Tie as tie
+
+members-draw-requires : tie.Need-members-draw-requires
+members-draw-requires c κs = search needs
+
+shared-slice-read-result : tie.Need-shared-slice-read-result
+shared-slice-read-result c = search needs
+
+cast-result : tie.Need-cast-result
+cast-result c = search needs
+
+mul-result : tie.Need-mul-result
+mul-result c = search needs
+
+shared-slice-read-result-2 : tie.Need-shared-slice-read-result-2
+shared-slice-read-result-2 c = search needs
+
+add-result : tie.Need-add-result
+add-result c = omega (arith, c .before .before .before .before .before .pre .0 .small (jobOf (c .before .before .before .before .before .args .words .now)))
+
+returns : tie.Need-returns
+returns c = rw (c .before .before .members-draw .ensures .0)
+
+pub named-spec : {M : Type 1} → statement M
+named-spec =
+    tie.close
+    (tie.spec
+    members-draw-requires
+    shared-slice-read-result
+    cast-result
+    mul-result
+    shared-slice-read-result-2
+    add-result
+    returns)

@@ -1,0 +1,30 @@
+-- Spare members computed: of all the numbers of a list, with what counts beside them and the limit, which stay once the spare ones are dropped.
+use mathlib.Core.Path.{_≡_, refl}
+use mathlib.Core.Bool.{Bool, true, false}
+use mathlib.Core.List.{List, [], _∷_, map}
+use Prim.Native.Nat.{ℕ}
+use lib.ListN.{length}
+use Rattle.lists.specs.Spares.{leaned}
+
+-- of the numbers 0, 1 and 2
+abbrev stay : List ℕ → ℕ → ℕ → List Bool
+stay r own limit = map (leaned (length r) r own limit (λ k. true)) (0 ∷ 1 ∷ 2 ∷ [])
+
+-- one is needed, the last that is looked at; against the first total neither would stay
+pub one-of-two : (stay (2 ∷ 1 ∷ 0 ∷ []) 1 1 ≡ false ∷ true ∷ false ∷ []) × (stay (1 ∷ 2 ∷ 0 ∷ []) 1 1 ≡ false ∷ true ∷ false ∷ [])
+unfolding leaned
+one-of-two = (refl, refl)
+
+-- without either of the last two the limit is only reached; from the highest number down the first two would stay
+pub two-of-three : stay (1 ∷ 2 ∷ 2 ∷ []) 3 5 ≡ false ∷ true ∷ true ∷ []
+unfolding leaned
+two-of-three = refl
+
+-- what counts beside them exceeds the limit: none is needed; none is spare
+pub none-of-three : stay (1 ∷ 2 ∷ 2 ∷ []) 6 5 ≡ false ∷ false ∷ false ∷ []
+unfolding leaned
+none-of-three = refl
+
+pub all-of-three : stay (1 ∷ 2 ∷ 2 ∷ []) 1 5 ≡ true ∷ true ∷ true ∷ []
+unfolding leaned
+all-of-three = refl

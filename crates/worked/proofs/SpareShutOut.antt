@@ -1,0 +1,69 @@
+-- The wrong versions that Item 7 of document 02 would allow if its promises were weaker, each refuted on run 52 of the table by a fact of lean records,
+-- without the help of `answered`. One that drops the highest number first leaves lean records too: `answered` alone refuses it.
+use Prim.Native.Nat.{ℕ, _<_}
+use native.Mathlib.Omega.{arith}
+use mathlib.Core.Path.{_≡_, refl}
+use mathlib.Core.List.{List, [], _∷_}
+use Rattle.lists.specs.Sets.{totalOf}
+use Rattle.answers.specs.Said.{Word, said}
+use Rattle.members.specs.Members.{has, onesOf}
+use Rattle.journal.specs.Journal.{recordAt}
+use Rattle.timetable.specs.Table.{Call, jobsOf, After}
+use Rattle.timetable.specs.Reasons.{LeanRecord, Reasons}
+use Rattle.replay.specs.Replay.{Checked}
+use Rattle.replay.specs.Promise.{taken, Reasoned}
+use Rattle.worked.specs.Rows.{line}
+use Rattle.worked.specs.Cases.{lent, crowd}
+use Rattle.worked.specs.Checks.{with}
+
+abbrev run52 : Call
+run52 = lent 5 crowd 1
+
+-- ---- what no lean record is
+
+-- all three members: the first is spare
+full : LeanRecord (jobsOf run52) (line 0 0 0 3 14) → ⊥
+unfolding totalOf has
+full h = omega (arith, h .none-spare 1 refl)
+
+-- one too many dropped: the demands named only reach the capacity
+too-few : LeanRecord (jobsOf run52) (line 0 0 0 1 8) → ⊥
+unfolding totalOf has
+too-few h = omega (arith, h .exceeds)
+
+-- each dropped against the first total: none is left
+none-left : LeanRecord (jobsOf run52) (line 0 0 0 0 0) → ⊥
+unfolding totalOf has
+none-left h = omega (arith, h .exceeds)
+
+-- two members, and the number of all three
+miscounted : LeanRecord (jobsOf run52) (line 0 0 0 3 12) → ⊥
+unfolding onesOf
+miscounted h = omega (arith, h .counted)
+
+-- ---- so no narrowing leaves it, and no checker takes it
+
+pub writes-none : (a : After) → Reasons run52 a → a .says ≡ said Word.settled (1 ∷ []) → (x : List ℕ) → recordAt (a .log) 0 ≡ x → (LeanRecord (jobsOf run52) x → ⊥) → ⊥
+writes-none a h e x q f = f (rw q at (h .settled 1 e .logs .lean 0 (omega arith)))
+
+pub naming-all : (a : After) → Reasons run52 a → a .says ≡ said Word.settled (1 ∷ []) → recordAt (a .log) 0 ≡ line 0 0 0 3 14 → ⊥
+naming-all a h e q = writes-none a h e _ q full
+
+pub dropping-one-too-many : (a : After) → Reasons run52 a → a .says ≡ said Word.settled (1 ∷ []) → recordAt (a .log) 0 ≡ line 0 0 0 1 8 → ⊥
+dropping-one-too-many a h e q = writes-none a h e _ q too-few
+
+pub first-total : (a : After) → Reasons run52 a → a .says ≡ said Word.settled (1 ∷ []) → recordAt (a .log) 0 ≡ line 0 0 0 0 0 → ⊥
+first-total a h e q = writes-none a h e _ q none-left
+
+pub counting-all : (a : After) → Reasons run52 a → a .says ≡ said Word.settled (1 ∷ []) → recordAt (a .log) 0 ≡ line 0 0 0 3 12 → ⊥
+counting-all a h e q = writes-none a h e _ q miscounted
+
+abbrev fullLog : Call
+fullLog = with 5 crowd (line 0 0 0 3 14)
+
+not-lean : Reasoned fullLog 0 → ⊥
+unfolding recordAt
+not-lean r = full (r .lean)
+
+pub taking-spare-members : (a : Checked) → ((i : ℕ) → i < taken (a .says) → Reasoned fullLog i) → a .says ≡ said Word.holds (1 ∷ []) → ⊥
+taking-spare-members a h e = not-lean (h 0 (rw e (omega arith)))
