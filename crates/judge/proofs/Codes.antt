@@ -20,7 +20,7 @@ use Rattle.joblist.specs.Limits.{mostTime}
 use Rattle.journal.specs.Journal.{sideWord, countWord, setOfRecord, jobOf, timeOf, isMember}
 use Rattle.timetable.specs.Time.{Jobs, Sure, sure}
 use Rattle.judge.specs.Codes.{Coded, inRange, takesPart, partners, ownTrue, statedTrue, tightens, lean, code}
-use Rattle.judge.specs.Facts.{side, named, InRange, TakesPart, Partners, OwnTrue, StatedTrue, Tightens, Lean, GoodRecord, OutOfRange, Idle, BadPartner, OwnFalse, Untrue, Idles, HasSpare}
+use Rattle.judge.specs.Facts.{side, named, InRange, TakesPart, Partners, OwnTrue, StatedTrue, Tightens, Lean, GoodRecord, OutOfRange, Idle, BadPartner, OwnFalse, Untrue, Idles, HasSpare, OnlySpare}
 
 -- ---- the tests of the codes
 
@@ -166,3 +166,21 @@ module _ (J : Jobs) (W : Win) (x : List ℕ) where
   pub record-good : GoodRecord J W x → code J W x ≡ 0
   record-good g =
       code-exactly 0 .1 (inr (g .in-range, inr (g .partners, inr (g .counted, inr (g .exceeds, inr (g .stated, inr (g .tightens, inr (g .lean, refl))))))))
+
+  -- 27 is a spare member in a record that is good else
+  pub spare-exactly : Coded J W x 27 ↔ OnlySpare J W x
+  spare-exactly = (go, back)
+    where
+      go : Coded J W x 27 → OnlySpare J W x
+      go (inl q) = absurd (omega (arith, q .1))
+      go (inr (r, inl q)) = absurd (omega (arith, q .1))
+      go (inr (r, inr (a, inl q))) = absurd (omega (arith, q .1))
+      go (inr (r, inr (a, inr (b, inl q)))) = absurd (omega (arith, q .1))
+      go (inr (r, inr (a, inr (b, inr (c, inl q))))) = absurd (omega (arith, q .1))
+      go (inr (r, inr (a, inr (b, inr (c, inr (d, inl q)))))) = absurd (omega (arith, q .1))
+      go (inr (r, inr (a, inr (b, inr (c, inr (d, inr (e, inl q))))))) =
+          record { in-range = r; partners = a; counted = b; exceeds = c; stated = d; tightens = e; spare = q .0 }
+      go (inr (r, inr (a, inr (b, inr (c, inr (d, inr (e, inr q))))))) = absurd (omega (arith, q .1))
+
+      back : OnlySpare J W x → Coded J W x 27
+      back s = inr (s .in-range, inr (s .partners, inr (s .counted, inr (s .exceeds, inr (s .stated, inr (s .tightens, inl (s .spare, refl)))))))

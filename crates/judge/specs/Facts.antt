@@ -113,3 +113,13 @@ Idles W j late t = W .l ! j ≤ t
 -- a member is spare: without it the demands named still exceed the capacity
 abbrev pub HasSpare : Jobs → List ℕ → Type 0
 HasSpare J x = (k : ℕ) × Spare (J .n) (J .r) (J .r ! jobOf x) (J .cap) (isMember x) k
+
+-- a record that is good but for a spare member
+pub record OnlySpare (J : Jobs) (W : Win) (x : List ℕ) : Type 0 where
+  pub in-range : InRange J x
+  pub partners : Partners J x
+  pub counted : Counted x
+  pub exceeds : Exceeds J x
+  pub stated : StatedTrue J W x
+  pub tightens : Tightens W (jobOf x) (side x) (timeOf x)
+  pub spare : HasSpare J x

@@ -4,6 +4,7 @@ pub mod Meaning
 pub mod Taken
 pub mod Logs
 pub mod Rows
+pub mod Spare
 pub mod TooShort
 pub mod Again
 pub mod Going
