@@ -12,8 +12,9 @@ use Rattle.lists.specs.Tests.{unless}
 use Rattle.narrowing.specs.Windows.{Win, win}
 use Rattle.members.specs.Members.{onesOf}
 use Rattle.journal.specs.Journal.{countWord, recordWords, setOfRecord, jobOf, timeOf}
+use Rattle.timetable.specs.Reason.{named}
 use Rattle.timetable.specs.Table.{call, Good}
-use Rattle.judge.specs.Facts.{side, InRange, named}
+use Rattle.judge.specs.Facts.{side, InRange}
 use Rattle.judge.specs.Codes.{inRange, takesPart, partners, statedTrue, tightens, lean, code}
 use Rattle.judge.specs.Lent.{jobsIn, Timed, Drawn, Placed}
 use Rattle.judge.proofs.Codes.{range-judged, partners-judged}

@@ -9,9 +9,9 @@ use lib.ListN.{length}
 use lib.Dec.{leb, eqb}
 use Rattle.lists.specs.Lists.{_!_}
 use Rattle.lists.specs.Tests.{both, where?, every}
-use Rattle.lists.specs.Sets.{totalOf}
-use Rattle.lists.specs.Spares.{without}
+use Rattle.lists.specs.Spares.{without, amount, Spare, spare}
 use Rattle.lists.proofs.Judged.{Judged, judged-as, judged-both, judged-leb, judged-eqb, judged-every, judged-ltb, judged-not, judged-where}
+use Rattle.lists.proofs.Spares.{judged-spare}
 use Rattle.lists.proofs.Chains.{unless-exactly}
 use Rattle.narrowing.specs.Windows.{Win, Side, early, late}
 use Rattle.members.specs.Members.{onesOf}
@@ -19,8 +19,10 @@ use Rattle.members.proofs.Sets.{has-within}
 use Rattle.joblist.specs.Limits.{mostTime}
 use Rattle.journal.specs.Journal.{sideWord, countWord, setOfRecord, jobOf, timeOf, isMember}
 use Rattle.timetable.specs.Time.{Jobs, Sure, sure}
+use Rattle.timetable.specs.Reason.{named, Lean}
 use Rattle.judge.specs.Codes.{Coded, inRange, takesPart, partners, ownTrue, statedTrue, tightens, lean, code}
-use Rattle.judge.specs.Facts.{side, named, InRange, TakesPart, Partners, OwnTrue, StatedTrue, Tightens, Lean, GoodRecord, OutOfRange, Idle, BadPartner, OwnFalse, Untrue, Idles, HasSpare, OnlySpare}
+use Rattle.judge.specs.Facts.{side, InRange, TakesPart, Partners, OwnTrue, StatedTrue, Tightens, GoodRecord}
+use Rattle.judge.specs.Faults.{OutOfRange, Idle, BadPartner, OwnFalse, Untrue, Idles, HasSpare, OnlySpare}
 
 -- ---- the tests of the codes
 
@@ -122,15 +124,16 @@ module _ (J : Jobs) (W : Win) (x : List ℕ) where
   tightens-judged early = judged-leb (W .e ! jobOf x) (timeOf x)
   tightens-judged late = judged-ltb (timeOf x) (W .l ! jobOf x)
 
+  -- the bits beyond the set's words are none
   lean-judged : Judged (Lean J x) (HasSpare J x) (lean J x)
   unfolding lean
   lean-judged =
+      let own = J .r ! jobOf x in
+      let spareAt = judged-spare (J .n) (J .r) own (J .cap) (isMember x) in
       judged-as
-      (judged-members (λ k. without-it k ≤ J .cap) (λ k. J .cap < without-it k) (λ k. leb (without-it k) (J .cap)) (λ k. judged-leb (without-it k) (J .cap)))
-      (λ f. f) (λ q. (q .0, record { member = q .1; still = q .2 })) (λ f q. omega (arith, f (q .0) (q .1 .member), q .1 .still))
-    where
-      without-it : ℕ → ℕ
-      without-it k = totalOf (J .n) (J .r) (without (isMember x) k) + J .r ! jobOf x
+      (judged-every (λ k. isMember x k ≡ true → amount (J .n) (J .r) own (without (isMember x) k) ≤ J .cap) (Spare (J .n) (J .r) own (J .cap) (isMember x))
+      (λ k. not (spare (J .n) (J .r) own (J .cap) (isMember x) k)) spareAt (32 * length (setOfRecord x)))
+      (λ g k m. g k (has-within (setOfRecord x) k m) m) (λ q. (q .0, q .2)) (λ g q. spareAt (q .0) .apart (g (q .0)) (q .1))
 
   -- ---- the code
 

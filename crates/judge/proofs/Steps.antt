@@ -13,17 +13,20 @@ use Rattle.lists.specs.Lists.{_!_}
 use Rattle.lists.specs.Tests.{both, where?, only, every}
 use Rattle.lists.specs.Sums.{total}
 use Rattle.lists.specs.Sets.{totalOf}
-use Rattle.lists.specs.Spares.{without}
-use Rattle.lists.proofs.Tests.{every-at}
+use Rattle.lists.specs.Spares.{without, amount, spare}
+use Rattle.lists.proofs.Tests.{both-false, every-at}
 use Rattle.lists.proofs.Sums.{total-suc}
+use Rattle.lists.proofs.Sets.{totalOf-limit}
 use Rattle.lists.proofs.Spares.{without-total}
 use Rattle.narrowing.specs.Windows.{Win, sideOf}
 use Rattle.members.specs.Members.{has}
+use Rattle.joblist.specs.Limits.{mostDemand}
 use Rattle.journal.specs.Journal.{setOfRecord, jobOf, timeOf, isMember}
 use Rattle.timetable.specs.Time.{sure}
-use Rattle.judge.specs.Facts.{side, membersDraw, named}
+use Rattle.timetable.specs.Reason.{named}
+use Rattle.judge.specs.Facts.{side}
 use Rattle.judge.specs.Codes.{takesPart, partners, ownTrue, statedTrue, tightens, lean}
-use Rattle.judge.specs.Lent.{jobsIn}
+use Rattle.judge.specs.Lent.{jobsIn, Drawn}
 
 -- ---- a test at every number below m, from 0 up
 
@@ -46,10 +49,6 @@ every-fault f m k b h = go (every f m) refl
 -- the number of the bits looked at is the number of bits
 pub every-end : (f : ℕ → Bool) (m k : ℕ) → k ≤ m → m ≤ k → every f k ≡ true → every f m ≡ true
 every-end f m k a b h = let e : m ≡ k = omega arith in rw e h
-
-both-false : (a : Bool) → both a false ≡ false
-both-false true = refl
-both-false false = refl
 
 -- ---- sides: any number but 0 is side 1
 
@@ -103,19 +102,17 @@ module _ (p r x s : List ℕ) (is : s ≡ setOfRecord x) where
 abbrev pub shareAt : List ℕ → List ℕ → ℕ → ℕ
 shareAt r s k = only (has s k) (r ! k)
 
-pub share-most : (r s : List ℕ) (k : ℕ) → shareAt r s k ≤ r ! k
-share-most r s k = go (has s k)
-  where
-    go : (b : Bool) → only b (r ! k) ≤ r ! k
-    go true = omega arith
-    go false = omega arith
-
 pub draw-more : (r s : List ℕ) (k : ℕ) → total (shareAt r s) (k + 1) ≡ total (shareAt r s) k + shareAt r s k
 draw-more r s k = rw add-one (total-suc (shareAt r s) k)
 
-pub draw-is : (r x s : List ℕ) → s ≡ setOfRecord x → total (shareAt r s) (length r) ≡ membersDraw (jobsIn (length r) [] r 0) x
+-- as the members' total
+pub draw-total : (r s : List ℕ) (k : ℕ) → total (shareAt r s) k ≡ totalOf k r (has s)
 unfolding totalOf
-draw-is r x s is = rw is
+draw-total r s k = refl
+
+-- so few and so small that a sum fits
+pub draw-most : (r s : List ℕ) (k : ℕ) → Drawn r → total (shareAt r s) k ≤ k * mostDemand
+draw-most r s k d = rw (draw-total r s k) (totalOf-limit k r (has s) mostDemand (d .small))
 
 -- ---- 25
 
@@ -142,24 +139,24 @@ module _ (p : List ℕ) (W : Win) (x s : List ℕ) (is : s ≡ setOfRecord x) wh
 -- ---- 27
 
 -- what is asked of bit k of the set s
-abbrev pub neededAt : List ℕ → ℕ → ℕ → List ℕ → ℕ → Bool
-neededAt r cap j s k = where? (has s k) (leb (totalOf (length r) r (without (has s) k) + r ! j) cap)
+abbrev pub spareAt : List ℕ → ℕ → ℕ → List ℕ → ℕ → Bool
+spareAt r cap j s k = spare (length r) r (r ! j) cap (has s) k
 
 module _ (r : List ℕ) (cap : ℕ) (x s : List ℕ) (is : s ≡ setOfRecord x) where
-  lean-is : lean (jobsIn (length r) [] r cap) x ≡ every (neededAt r cap (jobOf x) s) (32 * length s)
+  lean-is : lean (jobsIn (length r) [] r cap) x ≡ every (λ k. not (spareAt r cap (jobOf x) s k)) (32 * length s)
   unfolding lean
   lean-is = rw is
 
-  pub lean-fault : (k : ℕ) → k < 32 * length s → neededAt r cap (jobOf x) s k ≡ false → lean (jobsIn (length r) [] r cap) x ≡ false
-  lean-fault k b h = lean-is ∙ every-fault (neededAt r cap (jobOf x) s) (32 * length s) k b h
+  pub lean-fault : (k : ℕ) → k < 32 * length s → spareAt r cap (jobOf x) s k ≡ true → lean (jobsIn (length r) [] r cap) x ≡ false
+  lean-fault k b h = lean-is ∙ every-fault (λ i. not (spareAt r cap (jobOf x) s i)) (32 * length s) k b (rw h)
 
-  pub lean-all : every (neededAt r cap (jobOf x) s) (32 * length s) ≡ true → lean (jobsIn (length r) [] r cap) x ≡ true
+  pub lean-all : every (λ k. not (spareAt r cap (jobOf x) s k)) (32 * length s) ≡ true → lean (jobsIn (length r) [] r cap) x ≡ true
   lean-all h = lean-is ∙ h
 
   module _ (k : ℕ) (inside : isMember x k ≡ true → k < length r) (all : ℕ) (all-is : all ≡ named (jobsIn (length r) [] r 0) x) where
-    taken-away : has s k ≡ true → all ≡ totalOf (length r) r (without (has s) k) + r ! jobOf x + r ! k
+    taken-away : has s k ≡ true → all ≡ amount (length r) r (r ! jobOf x) (without (has s) k) + r ! k
     taken-away h =
-        let a : all ≡ totalOf (length r) r (has s) + r ! jobOf x = rw is all-is in
+        let a : all ≡ amount (length r) r (r ! jobOf x) (has s) = rw is all-is in
         omega (arith, a, without-total (length r) r (has s) k (inside (rw is at h)) h)
 
     -- a member is in the list, and its demand is among those named
@@ -167,9 +164,10 @@ module _ (r : List ℕ) (cap : ℕ) (x s : List ℕ) (is : s ≡ setOfRecord x) 
     member-named h = (inside (rw is at h), omega (arith, taken-away h))
 
     -- its demand taken away, those without it are left
-    pub needed-is : where? (has s k) (leb (all - r ! k) cap) ≡ neededAt r cap (jobOf x) s k
-    needed-is = go (has s k) refl
+    pub spare-is : both (has s k) (ltb cap (all - r ! k)) ≡ spareAt r cap (jobOf x) s k
+    unfolding spare
+    spare-is = go (has s k) refl
       where
-        go : (b : Bool) → has s k ≡ b → where? (has s k) (leb (all - r ! k) cap) ≡ neededAt r cap (jobOf x) s k
-        go true e = let z : all - r ! k ≡ totalOf (length r) r (without (has s) k) + r ! jobOf x = omega (arith, taken-away e) in rw z
+        go : (b : Bool) → has s k ≡ b → both (has s k) (ltb cap (all - r ! k)) ≡ both (has s k) (ltb cap (amount (length r) r (r ! jobOf x) (without (has s) k)))
+        go true e = let z : all - r ! k ≡ amount (length r) r (r ! jobOf x) (without (has s) k) = omega (arith, taken-away e) in rw z
         go false e = rw e

@@ -1,4 +1,5 @@
--- The tests of codes 21 to 27 in their order (document 01, 'Answer table'; document 02, Item 7), and when a code is given; `Facts` has what each test stands for.
+-- The tests of codes 21 to 27 in their order (document 01, 'Answer table'; document 02, Item 7), and when a code is given; `Facts` and `Faults` have what
+-- each test stands for.
 use Prim.Native.Nat.{ℕ, _+_, _≤_}
 use mathlib.Core.Path.{_≡_}
 use mathlib.Core.Bool.{Bool, not}
@@ -8,13 +9,15 @@ use lib.Dec.{ltb, leb, eqb}
 use Rattle.lists.specs.Lists.{_!_}
 use Rattle.lists.specs.Tests.{both, where?, unless, every}
 use Rattle.lists.specs.Sets.{totalOf}
-use Rattle.lists.specs.Spares.{without}
+use Rattle.lists.specs.Spares.{spare}
 use Rattle.narrowing.specs.Windows.{Win, Side, early, late}
 use Rattle.members.specs.Members.{has, onesOf, places}
 use Rattle.joblist.specs.Limits.{mostTime}
 use Rattle.journal.specs.Journal.{sideWord, countWord, setOfRecord, jobOf, timeOf, isMember}
 use Rattle.timetable.specs.Time.{Jobs, sure}
-use Rattle.judge.specs.Facts.{side, named, InRange, Partners, Counted, Exceeds, StatedTrue, Tightens, Lean, OutOfRange, BadPartner, Untrue, Idles, HasSpare}
+use Rattle.timetable.specs.Reason.{named, Counted, Exceeds, Lean}
+use Rattle.judge.specs.Facts.{side, InRange, Partners, StatedTrue, Tightens}
+use Rattle.judge.specs.Faults.{OutOfRange, BadPartner, Untrue, Idles, HasSpare}
 
 -- 21: job in the list, side at most 1, time at most its limit
 unfoldable pub inRange : Jobs → List ℕ → Bool
@@ -47,10 +50,10 @@ abbrev pub tightens : Win → ℕ → Side → ℕ → Bool
 tightens W j early t = leb (W .e ! j) t
 tightens W j late t = ltb t (W .l ! j)
 
--- 27: every member is needed
+-- 27: no member is spare
 unfoldable pub lean : Jobs → List ℕ → Bool
-unfolding every has totalOf
-lean J x = every (λ k. where? (isMember x k) (leb (totalOf (J .n) (J .r) (without (isMember x) k) + J .r ! jobOf x) (J .cap))) (places (setOfRecord x))
+unfolding every has spare
+lean J x = every (λ k. not (spare (J .n) (J .r) (J .r ! jobOf x) (J .cap) (isMember x) k)) (places (setOfRecord x))
 
 -- the code of the first test that fails, and 0 where none does
 unfoldable pub code : Jobs → Win → List ℕ → ℕ

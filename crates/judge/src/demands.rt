@@ -3,15 +3,15 @@
 ghost use mathlib.Core.Path.{_≡_};
 ghost use mathlib.Core.Bool.{true};
 ghost use mathlib.Core.List.{[]};
-ghost use Prim.Native.Nat.{ℕ, _*_, _-_, _≤_, _<_};
-ghost use lib.Dec.{leb, ltb};
+ghost use Prim.Native.Nat.{_-_, _≤_, _<_};
+ghost use lib.Dec.{ltb};
 ghost use lib.ListN.{length};
 ghost use Rattle.lists.specs.Lists.{_!_};
-ghost use Rattle.lists.specs.Tests.{where?, only};
+ghost use Rattle.lists.specs.Tests.{both, only};
+ghost use Rattle.lists.specs.Sets.{totalOf};
 ghost use Rattle.members.specs.Members.{has};
-ghost use Rattle.joblist.specs.Limits.{mostDemand, mostJobs};
-ghost use Rattle.journal.specs.Journal.{recordWords, jobOf};
-ghost use Rattle.judge.specs.Facts.{membersDraw, named};
+ghost use Rattle.journal.specs.Journal.{recordWords, jobOf, isMember};
+ghost use Rattle.timetable.specs.Reason.{named};
 ghost use Rattle.judge.specs.Codes.{lean};
 ghost use Rattle.judge.specs.Lent.{jobsIn, Drawn, Placed};
 
@@ -29,7 +29,7 @@ fn share(dem: &[u32], set: &[u32], k: usize) -> u32
 // The demands of the members.
 fn members_draw(dem: &[u32], words: &[u32]) -> u32
     requires { ⌜ Drawn (now dem) × (length (now words) ≡ recordWords) ⌝ }
-    ensures { λ r. ⌜ (r ≡ membersDraw (jobsIn (length (now (dem .entry))) [] (now (dem .entry)) 0) (now (words .entry))) × (r ≤ mostDemand * mostJobs) ⌝ }
+    ensures { λ r. ⌜ r ≡ totalOf (length (now (dem .entry))) (now (dem .entry)) (isMember (now (words .entry))) ⌝ }
 {
     let set = journal::set_of(words);
     let mut sum: u32 = 0;
@@ -58,18 +58,18 @@ pub fn exceeds(dem: &[u32], cap: u32, words: &[u32]) -> bool
     cap < named(dem, words)
 }
 
-// Whether k, if it is a member, is needed: without it the demands named, `all` with it, do not exceed the capacity.
-fn needed(dem: &[u32], cap: u32, set: &[u32], k: usize, all: u32) -> bool
+// Whether k is a spare member: without it the demands named, `all` with it, still exceed the capacity.
+fn spare(dem: &[u32], cap: u32, set: &[u32], k: usize, all: u32) -> bool
     requires { ⌜ (has (now set) k ≡ true → (k < length (now dem)) × (now dem ! k ≤ all)) ⌝ }
-    ensures { λ r. ⌜ r ≡ where? (has (now (set .entry)) k) (leb (all - now (dem .entry) ! k) cap) ⌝ }
+    ensures { λ r. ⌜ r ≡ both (has (now (set .entry)) k) (ltb cap (all - now (dem .entry) ! k)) ⌝ }
 {
     if !members::has(set, k) {
-        return true;
+        return false;
     }
-    all - dem[k] <= cap
+    cap < all - dem[k]
 }
 
-// 27: every member is needed. Every bit of the set is looked at.
+// 27: no member is spare. Every bit of the set is looked at.
 pub fn lean(dem: &[u32], cap: u32, words: &[u32]) -> bool
     requires { ⌜ Drawn (now dem) × Placed (length (now dem)) (now words) ⌝ }
     ensures { λ r. ⌜ r ≡ lean (jobsIn (length (now (dem .entry))) [] (now (dem .entry)) cap) (now (words .entry)) ⌝ }
@@ -78,7 +78,7 @@ pub fn lean(dem: &[u32], cap: u32, words: &[u32]) -> bool
     let set = journal::set_of(words);
     let mut k = 0;
     while k < members::BITS * set.len() {
-        if !needed(dem, cap, set, k, all) {
+        if spare(dem, cap, set, k, all) {
             return false;
         }
         k += 1;

@@ -7,7 +7,7 @@ use lib.Dec.{eqb}
 use borrow.Author.Tests.{eq-eqb, ne-eqb}
 use Rattle.lists.specs.Tests.{only}
 use Rattle.lists.specs.Sums.{total}
-use Rattle.lists.proofs.Sums.{total-le, total-cong, without, without-same, without-other, total-without}
+use Rattle.lists.proofs.Sums.{total-le, total-cong, omitting, omitting-same, omitting-other, total-omitting}
 
 pub total-zeros : (m : ℕ) → total (λ k. 0) m ≡ 0
 unfolding total
@@ -22,11 +22,11 @@ total-ones (suc m) = omega (arith, total-ones m)
 -- two sums that differ at one place
 pub total-change : (f g : ℕ → ℕ) (a c m : ℕ) → ((k : ℕ) → k < m → (k ≡ a → ⊥) → g k ≡ f k) → g a ≡ f a + c → a < m → total g m ≡ total f m + c
 total-change f g a c m h e b =
-    omega (arith, e, total-without f a m b, total-without g a m b, total-cong (without g a) (without f a) m (λ k d. go k d (ℕ-discrete k a)))
+    omega (arith, e, total-omitting f a m b, total-omitting g a m b, total-cong (omitting g a) (omitting f a) m (λ k d. go k d (ℕ-discrete k a)))
   where
-    go : (k : ℕ) → k < m → Dec (k ≡ a) → without g a k ≡ without f a k
-    go k d (yes q) = rw q (without-same g a ∙ sym (without-same f a))
-    go k d (no q) = without-other g a k q ∙ h k d q ∙ sym (without-other f a k q)
+    go : (k : ℕ) → k < m → Dec (k ≡ a) → omitting g a k ≡ omitting f a k
+    go k d (yes q) = rw q (omitting-same g a ∙ sym (omitting-same f a))
+    go k d (no q) = omitting-other g a k q ∙ h k d q ∙ sym (omitting-other f a k q)
 
 -- terms no greater, and one of them less
 pub total-less : (f g : ℕ → ℕ) (m a : ℕ) → ((k : ℕ) → k < m → f k ≤ g k) → a < m → f a < g a → total f m < total g m

@@ -11,6 +11,6 @@ pub mod Counts
 pub mod Differences
 pub mod Orders
 pub mod Sets
-pub mod Spared
+pub mod Examples
 pub mod Spares
 pub mod Signed

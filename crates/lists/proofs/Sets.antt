@@ -3,7 +3,7 @@ use Prim.Native.Nat.{ℕ, zero, suc, _+_, _*_, _≤_, _<_}
 use native.Mathlib.Omega.{arith}
 use native.Mathlib.Nat.{suc-mul}
 use native.Mathlib.Decide.{ℕ-discrete}
-use mathlib.Core.Path.{_≡_, refl, sym}
+use mathlib.Core.Path.{_≡_, refl, sym, _∙_}
 use mathlib.Core.Bool.{Bool, true, false}
 use mathlib.Core.List.{List}
 use mathlib.Core.Logic.{_⊎_, inl, inr}
@@ -28,6 +28,9 @@ totalOf-sub n p T O h = total-le _ _ n (λ k b. only-le (T k) (O k) (p ! k) (h k
 
 pub totalOf-same : (n : ℕ) (p : List ℕ) (T O : Set) → Sub n T O → Sub n O T → totalOf n p T ≡ totalOf n p O
 totalOf-same n p T O h g = omega (arith, totalOf-sub n p T O h, totalOf-sub n p O T g)
+
+pub totalOf-cong : (n : ℕ) (p : List ℕ) (T O : Set) → ((k : ℕ) → k < n → T k ≡ O k) → totalOf n p T ≡ totalOf n p O
+totalOf-cong n p T O h = totalOf-same n p T O (λ k b q. sym (h k b) ∙ q) (λ k b q. h k b ∙ q)
 
 pub totalOf-none : (n : ℕ) (p : List ℕ) (T : Set) → ((k : ℕ) → k < n → T k ≡ true → p ! k ≡ 0) → totalOf n p T ≡ 0
 unfolding totalOf total

@@ -6,21 +6,18 @@ use native.Mathlib.Decide.{ℕ-discrete}
 use mathlib.Core.Path.{_≡_, refl, sym, ap, _∙_}
 use mathlib.Core.Bool.{Bool, true, false, not}
 use mathlib.Core.List.{List}
-use lib.Dec.{eqb}
-use borrow.Author.Tests.{eq-eqb, ne-eqb, lt-ltb, le-ltb, ltb-true, ltb-false}
+use lib.Dec.{ltb, eqb}
+use borrow.Author.Tests.{eq-eqb, ne-eqb, lt-ltb, le-ltb, ltb-true, ltb-false, not-true, not-false}
 use Rattle.lists.specs.Lists.{_!_}
 use Rattle.lists.specs.Tests.{both, only}
 use Rattle.lists.specs.Sets.{Set, totalOf}
-use Rattle.lists.specs.Spares.{without, Exceeds, NoneSpare, spare, dropped, leaned}
-use Rattle.lists.proofs.Tests.{both-true, true-both}
-use Rattle.lists.proofs.Sums.{total-cong, total-others}
-use Rattle.lists.proofs.Sets.{clash, totalOf-sub}
+use Rattle.lists.specs.Spares.{without, amount, Spare, NoneSpare, spare, dropped, leaned}
+use Rattle.lists.proofs.Judged.{Judged}
+use Rattle.lists.proofs.Tests.{both-yes, both-true, true-both}
+use Rattle.lists.proofs.Sums.{total-others}
+use Rattle.lists.proofs.Sets.{clash, totalOf-sub, totalOf-cong}
 
 -- ---- tests
-
-both-yes : (a : Bool) → both a true ≡ a
-both-yes true = refl
-both-yes false = refl
 
 -- a number that is dropped is left out; nothing else changes, and nothing where none is dropped
 drops : (a c : Bool) → both a (not (both c true)) ≡ both (not c) a
@@ -35,18 +32,26 @@ keeps true false = refl
 keeps false true = refl
 keeps false false = refl
 
-totalOf-cong : (n : ℕ) (r : List ℕ) (T S : Set) → ((k : ℕ) → k < n → T k ≡ S k) → totalOf n r T ≡ totalOf n r S
-unfolding totalOf
-totalOf-cong n r T S h = total-cong (λ k. only (T k) (r ! k)) (λ k. only (S k) (r ! k)) n (λ k b. ap (λ (x : Bool). only x (r ! k)) (h k b))
-
 -- a member's number is the difference that it makes
 pub without-total : (n : ℕ) (r : List ℕ) (T : Set) (k : ℕ) → k < n → T k ≡ true → totalOf n r (without T k) + r ! k ≡ totalOf n r T
 unfolding totalOf
 without-total n r T k b h = let e : only (T k) (r ! k) ≡ r ! k = rw h in omega (arith, e, total-others T (λ i. r ! i) k n b)
 
+-- the test and what it stands for
+pub judged-spare : (n : ℕ) (r : List ℕ) (own limit : ℕ) (T : Set) (k : ℕ)
+    → Judged (T k ≡ true → amount n r own (without T k) ≤ limit) (Spare n r own limit T k) (not (spare n r own limit T k))
+unfolding spare
+judged-spare n r own limit T k =
+    let x = amount n r own (without T k) in
+    record {
+      passed = λ h q. ltb-false limit x (not-true (ltb limit x) (rw q at h));
+      failed = λ h. let d = both-true (T k) (ltb limit x) (not-false (both (T k) (ltb limit x)) h) in record { member = d .0; still = ltb-true limit x (d .1) };
+      apart = λ f q. omega (arith, f (q .member), q .still);
+    }
+
 -- of sets that agree below n
 module _ (n : ℕ) (r : List ℕ) (own limit : ℕ) (T S : Set) (same : (k : ℕ) → k < n → S k ≡ T k) where
-  pub exceeds-as : Exceeds n r own limit T → Exceeds n r own limit S
+  pub exceeds-as : limit < amount n r own T → limit < amount n r own S
   exceeds-as h = omega (arith, totalOf-cong n r S T same)
 
   pub none-spare-as : ((k : ℕ) → S k ≡ true → T k ≡ true) → NoneSpare n r own limit T → NoneSpare n r own limit S
@@ -60,7 +65,7 @@ module _ (n : ℕ) (r : List ℕ) (own limit : ℕ) (T : Set) where
   -- ---- what is left
 
   -- the numbers not gone through yet are as they were
-  pub left-later : (k i : ℕ) → k ≤ i → left k i ≡ T i
+  left-later : (k i : ℕ) → k ≤ i → left k i ≡ T i
   unfolding dropped
   left-later zero i h = refl
   left-later (suc k) i h = rw (ne-eqb i k (λ e. omega arith)) (both-yes (left k i) ∙ left-later k i (omega arith))
@@ -99,17 +104,17 @@ module _ (n : ℕ) (r : List ℕ) (own limit : ℕ) (T : Set) where
   -- ---- one number
 
   -- the total left, with what counts beside it
-  abbrev pub amount : ℕ → ℕ
-  amount k = totalOf n r (left k) + own
+  abbrev pub amountLeft : ℕ → ℕ
+  amountLeft k = amount n r own (left k)
 
-  gone-spare : (k : ℕ) → spare n r own limit (left k) k ≡ true → (amount (suc k) ≡ totalOf n r (without (left k) k) + own) × (left (suc k) k ≡ false)
+  gone-spare : (k : ℕ) → spare n r own limit (left k) k ≡ true → (amountLeft (suc k) ≡ amount n r own (without (left k) k)) × (left (suc k) k ≡ false)
   unfolding dropped
   gone-spare k h = (
     ap (λ (x : ℕ). x + own) (totalOf-cong n r (left (suc k)) (without (left k) k) (λ i b. rw h (drops (left k i) (eqb i k)))),
     rw (h, eq-eqb k k refl) (drops (left k k) true),
   )
 
-  gone-kept : (k : ℕ) → spare n r own limit (left k) k ≡ false → (amount (suc k) ≡ amount k) × (left (suc k) k ≡ T k)
+  gone-kept : (k : ℕ) → spare n r own limit (left k) k ≡ false → (amountLeft (suc k) ≡ amountLeft k) × (left (suc k) k ≡ T k)
   unfolding dropped
   gone-kept k h = (
     ap (λ (x : ℕ). x + own) (totalOf-cong n r (left (suc k)) (left k) (λ i b. rw h (keeps (left k i) (eqb i k)))),
@@ -120,29 +125,29 @@ module _ (n : ℕ) (r : List ℕ) (own limit : ℕ) (T : Set) where
 
   module _ (k : ℕ) (b : k < n) where
     -- a member not gone through yet counts
-    pub counts-at : T k ≡ true → r ! k ≤ amount k
+    pub counts-at : T k ≡ true → r ! k ≤ amountLeft k
     counts-at h = omega (arith, without-total n r (left k) k b (left-later k k (omega arith) ∙ h))
 
     -- without member k the limit is still exceeded: it is dropped, and the number falls
-    pub drops-at : T k ≡ true → limit < amount k - r ! k → (amount k ≡ amount (suc k) + r ! k) × (leaned n r own limit T k ≡ false)
+    pub drops-at : T k ≡ true → limit < amountLeft k - r ! k → (amountLeft k ≡ amountLeft (suc k) + r ! k) × (leaned n r own limit T k ≡ false)
     unfolding spare
     drops-at h q =
         let m : left k k ≡ true = left-later k k (omega arith) ∙ h in
         let w = without-total n r (left k) k b m in
-        let s = gone-spare k (true-both (left k k) _ m (lt-ltb limit (totalOf n r (without (left k) k) + own) (omega arith))) in
+        let s = gone-spare k (true-both (left k k) _ m (lt-ltb limit (amount n r own (without (left k) k)) (omega arith))) in
         (omega (arith, s .0), leaned-at k b ∙ s .1)
 
     -- else it stays
-    pub keeps-at : T k ≡ true → amount k - r ! k ≤ limit → (amount k ≡ amount (suc k)) × (leaned n r own limit T k ≡ true)
+    pub keeps-at : T k ≡ true → amountLeft k - r ! k ≤ limit → (amountLeft k ≡ amountLeft (suc k)) × (leaned n r own limit T k ≡ true)
     unfolding spare
     keeps-at h q =
         let m : left k k ≡ true = left-later k k (omega arith) ∙ h in
         let w = without-total n r (left k) k b m in
-        let s = gone-kept k (rw (m, le-ltb limit (totalOf n r (without (left k) k) + own) (omega arith))) in
+        let s = gone-kept k (rw (m, le-ltb limit (amount n r own (without (left k) k)) (omega arith))) in
         (sym (s .0), leaned-at k b ∙ s .1 ∙ h)
 
     -- a number that is no member changes nothing
-    pub skips-at : T k ≡ false → (amount k ≡ amount (suc k)) × (leaned n r own limit T k ≡ false)
+    pub skips-at : T k ≡ false → (amountLeft k ≡ amountLeft (suc k)) × (leaned n r own limit T k ≡ false)
     unfolding spare
     skips-at h =
         let s = gone-kept k (rw (left-later k k (omega arith), h)) in
@@ -151,16 +156,16 @@ module _ (n : ℕ) (r : List ℕ) (own limit : ℕ) (T : Set) where
   -- ---- lean
 
   -- what is left exceeds the limit as T did
-  left-exceeds : Exceeds n r own limit T → (k : ℕ) → Exceeds n r own limit (left k)
+  left-exceeds : limit < amount n r own T → (k : ℕ) → limit < amountLeft k
   unfolding dropped spare
   left-exceeds h zero = h
   left-exceeds h (suc k) = go (left-exceeds h k) (spare n r own limit (left k) k) refl
     where
-      go : Exceeds n r own limit (left k) → (x : Bool) → spare n r own limit (left k) k ≡ x → Exceeds n r own limit (left (suc k))
-      go f true e = let q = ltb-true limit (totalOf n r (without (left k) k) + own) (both-true (left k k) _ e .1) in omega (arith, gone-spare k e .0, q)
+      go : limit < amountLeft k → (x : Bool) → spare n r own limit (left k) k ≡ x → limit < amountLeft (suc k)
+      go f true e = let q = ltb-true limit (amount n r own (without (left k) k)) (both-true (left k k) _ e .1) in omega (arith, gone-spare k e .0, q)
       go f false e = omega (arith, gone-kept k e .0, f)
 
-  pub leaned-exceeds : Exceeds n r own limit T → Exceeds n r own limit (leaned n r own limit T)
+  pub leaned-exceeds : limit < amount n r own T → limit < amount n r own (leaned n r own limit T)
   unfolding leaned
   leaned-exceeds h = left-exceeds h n
 
@@ -180,8 +185,8 @@ module _ (n : ℕ) (r : List ℕ) (own limit : ℕ) (T : Set) where
           totalOf-sub n r (without (left n) k) (without (left k) k)
           (λ i c q. let d = both-true (not (eqb i k)) (left n i) q in true-both (not (eqb i k)) (left k i) (d .0) (left-within k n i (omega (arith, b)) (d .1)))
 
-      go : (x : Bool) → spare n r own limit (left k) k ≡ x → totalOf n r (without (left n) k) + own ≤ limit
+      go : (x : Bool) → spare n r own limit (left k) k ≡ x → amount n r own (without (left n) k) ≤ limit
       go true e = clash (left (suc k) k) (sym (leaned-at k b) ∙ h) (gone-spare k e .1)
       go false e =
-          let q = ltb-false limit (totalOf n r (without (left k) k) + own) (rw here at e) in
+          let q = ltb-false limit (amount n r own (without (left k) k)) (rw here at e) in
           omega (arith, q, fewer)

@@ -51,38 +51,38 @@ total-split f c p (suc m) = omega (arith, total-split f c p m, split (c m) (f m)
 
 -- ---- a sum without its term at a
 
-unfoldable pub without : (ℕ → ℕ) → ℕ → ℕ → ℕ
-without f a i = only (not (eqb i a)) (f i)
+unfoldable pub omitting : (ℕ → ℕ) → ℕ → ℕ → ℕ
+omitting f a i = only (not (eqb i a)) (f i)
 
-pub without-same : (f : ℕ → ℕ) (a : ℕ) → without f a a ≡ 0
-unfolding without
-without-same f a = rw (eq-eqb a a refl)
+pub omitting-same : (f : ℕ → ℕ) (a : ℕ) → omitting f a a ≡ 0
+unfolding omitting
+omitting-same f a = rw (eq-eqb a a refl)
 
-pub without-other : (f : ℕ → ℕ) (a i : ℕ) → (i ≡ a → ⊥) → without f a i ≡ f i
-unfolding without
-without-other f a i h = rw (ne-eqb i a h)
+pub omitting-other : (f : ℕ → ℕ) (a i : ℕ) → (i ≡ a → ⊥) → omitting f a i ≡ f i
+unfolding omitting
+omitting-other f a i h = rw (ne-eqb i a h)
 
-pub total-without : (f : ℕ → ℕ) (a m : ℕ) → a < m → total (without f a) m + f a ≡ total f m
+pub total-omitting : (f : ℕ → ℕ) (a m : ℕ) → a < m → total (omitting f a) m + f a ≡ total f m
 unfolding total
-total-without f a zero b = omega arith
-total-without f a (suc m) b = go (λ q. total-without f a m q)
+total-omitting f a zero b = omega arith
+total-omitting f a (suc m) b = go (λ q. total-omitting f a m q)
   where
-    go : (a < m → total (without f a) m + f a ≡ total f m) → total (without f a) (suc m) + f a ≡ total f (suc m)
+    go : (a < m → total (omitting f a) m + f a ≡ total f m) → total (omitting f a) (suc m) + f a ≡ total f (suc m)
     go h =
         elim (ℕ-discrete m a) [
-          | yes e ↦ rw e (omega (arith, without-same f a, total-cong (without f a) f a (λ k b. without-other f a k (omega arith))))
-          | no e ↦ omega (arith, h (omega arith), without-other f a m e)
+          | yes e ↦ rw e (omega (arith, omitting-same f a, total-cong (omitting f a) f a (λ k b. omitting-other f a k (omega arith))))
+          | no e ↦ omega (arith, h (omega arith), omitting-other f a m e)
         ]
 
 -- the same where each term counts by a test
 pub total-others : (f : ℕ → Bool) (x : ℕ → ℕ) (a m : ℕ) → a < m
     → total (λ k. only (both (not (eqb k a)) (f k)) (x k)) m + only (f a) (x a) ≡ total (λ k. only (f k) (x k)) m
-unfolding without
+unfolding omitting
 total-others f x a m b =
     omega (
       arith,
-      total-cong (λ k. only (both (not (eqb k a)) (f k)) (x k)) (without (λ k. only (f k) (x k)) a) m (λ k c. nested (not (eqb k a)) (f k) (x k)),
-      total-without (λ k. only (f k) (x k)) a m b,
+      total-cong (λ k. only (both (not (eqb k a)) (f k)) (x k)) (omitting (λ k. only (f k) (x k)) a) m (λ k c. nested (not (eqb k a)) (f k) (x k)),
+      total-omitting (λ k. only (f k) (x k)) a m b,
     )
   where
     nested : (c d : Bool) (y : ℕ) → only (both c d) y ≡ only c (only d y)

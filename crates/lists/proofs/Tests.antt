@@ -4,7 +4,7 @@ use native.Mathlib.Omega.{arith}
 use native.Mathlib.Decide.{ℕ-discrete, decLe}
 use mathlib.Core.Path.{_≡_, refl, sym}
 use mathlib.Core.Bool.{Bool, true, false}
-use Rattle.lists.specs.Tests.{both, either, where?, only, every, some?}
+use Rattle.lists.specs.Tests.{both, either, where?, only, every}
 
 pub both-true : (a b : Bool) → both a b ≡ true → (a ≡ true) × (b ≡ true)
 both-true true b h = (refl, h)
@@ -12,6 +12,14 @@ both-true false b h = (h, cc)
 
 pub true-both : (a b : Bool) → a ≡ true → b ≡ true → both a b ≡ true
 true-both a b h k = rw (h, k)
+
+pub both-yes : (a : Bool) → both a true ≡ a
+both-yes true = refl
+both-yes false = refl
+
+pub both-false : (a : Bool) → both a false ≡ false
+both-false true = refl
+both-false false = refl
 
 pub only-le : (a b : Bool) (x : ℕ) → (a ≡ true → b ≡ true) → only a x ≤ only b x
 only-le true b x h = rw (h refl) (omega arith)

@@ -1,17 +1,14 @@
 -- A renumbering changes no sum, and can be undone.
-use Prim.Native.Nat.{ℕ, zero, suc, _+_, _-_, _≤_, _<_}
+use Prim.Native.Nat.{ℕ, zero, suc, _-_, _≤_, _<_}
 use native.Mathlib.Omega.{arith}
 use native.Mathlib.Decide.{ℕ-discrete}
-use mathlib.Core.Path.{_≡_, refl, ap}
-use mathlib.Core.Bool.{Bool, true, false, not}
+use mathlib.Core.Path.{_≡_, ap}
 use mathlib.Core.List.{List}
 use lib.Dec.{eqb}
 use borrow.Author.Tests.{eq-eqb, ne-eqb}
-use Rattle.lists.specs.Lists.{_!_}
-use Rattle.lists.specs.Tests.{only}
 use Rattle.lists.specs.Sums.{total}
 use Rattle.lists.specs.Turns.{Turn, SameList}
-use Rattle.lists.proofs.Sums.{total-cong, without, without-other, total-without}
+use Rattle.lists.proofs.Sums.{total-cong, omitting, omitting-other, total-omitting}
 
 -- distinct places below n add up to at most all of them
 total-some : (n : ℕ) (π : ℕ → ℕ) (m : ℕ) → ((k : ℕ) → k < m → π k < n) → ((k i : ℕ) → k < i → i < m → π k ≡ π i → ⊥)
@@ -21,9 +18,9 @@ total-some n π zero into apart f = omega arith
 total-some n π (suc m) into apart f =
     omega (
       arith,
-      total-some n π m (λ k b. into k (omega arith)) (λ k i b c. apart k i b (omega arith)) (without f (π m)),
-      total-cong (λ k. without f (π m) (π k)) (λ k. f (π k)) m (λ k b. without-other f (π m) (π k) (apart k m b (omega arith))),
-      total-without f (π m) n (into m (omega arith)),
+      total-some n π m (λ k b. into k (omega arith)) (λ k i b c. apart k i b (omega arith)) (omitting f (π m)),
+      total-cong (λ k. omitting f (π m) (π k)) (λ k. f (π k)) m (λ k b. omitting-other f (π m) (π k) (apart k m b (omega arith))),
+      total-omitting f (π m) n (into m (omega arith)),
     )
 
 pub turned : (n : ℕ) (π σ : ℕ → ℕ) → Turn n π σ → Turn n σ π

@@ -91,12 +91,11 @@ has-setOf w f k h =
     let e : k / 32 * 32 + k % 32 ≡ k = omega arith in
     rw (setOf-at w f (k / 32) (omega arith), word-bit f (k / 32 * 32) 32 (k % 32) (omega arith), e) (only-test (f k))
 
-pub has-beyond : (w : ℕ) (f : ℕ → Bool) (k : ℕ) → 32 * w ≤ k → has (setOf w f) k ≡ false
-has-beyond w f k h = has-past (setOf w f) k (omega (arith, setOf-length w f))
-
+-- whatever the words can hold, a member of theirs was given
 pub has-given : (w : ℕ) (f : ℕ → Bool) (k : ℕ) → has (setOf w f) k ≡ true → f k ≡ true
 has-given w f k h = sym (has-setOf w f k (omega (arith, has-within (setOf w f) k h, setOf-length w f))) ∙ h
 
+-- fewer given, fewer in the words
 pub has-sub : (w : ℕ) (f g : ℕ → Bool) → ((k : ℕ) → f k ≡ true → g k ≡ true) → (k : ℕ) → has (setOf w f) k ≡ true → has (setOf w g) k ≡ true
 has-sub w f g h k q = has-setOf w g k (omega (arith, has-within (setOf w f) k q, setOf-length w f)) ∙ h k (has-given w f k q)
 

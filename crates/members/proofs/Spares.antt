@@ -4,7 +4,7 @@ use native.Mathlib.Omega.{arith}
 use mathlib.Core.Path.{_≡_}
 use mathlib.Core.List.{List}
 use Rattle.lists.specs.Sets.{Set}
-use Rattle.lists.specs.Spares.{Exceeds, NoneSpare}
+use Rattle.lists.specs.Spares.{amount, NoneSpare}
 use Rattle.lists.proofs.Spares.{exceeds-as, none-spare-as}
 use Rattle.members.specs.Members.{has, setOf}
 use Rattle.members.proofs.Sets.{has-setOf, has-given}
@@ -13,7 +13,7 @@ module _ (w n : ℕ) (r : List ℕ) (own limit : ℕ) (f : Set) (few : n ≤ 32 
   in-words : (k : ℕ) → k < n → has (setOf w f) k ≡ f k
   in-words k b = has-setOf w f k (omega arith)
 
-  pub words-exceed : Exceeds n r own limit f → Exceeds n r own limit (has (setOf w f))
+  pub words-exceed : limit < amount n r own f → limit < amount n r own (has (setOf w f))
   words-exceed = exceeds-as n r own limit f (has (setOf w f)) in-words
 
   pub words-none-spare : NoneSpare n r own limit f → NoneSpare n r own limit (has (setOf w f))

@@ -14,7 +14,7 @@ use Rattle.journal.specs.Journal.{cleared}
 use Rattle.joblist.specs.Limits.{jobs, fourLists, supply}
 use Rattle.joblist.specs.GoodList.{refusal}
 use Rattle.joblist.proofs.Copies.{over, over-whole}
-use Rattle.timetable.specs.Search.{entry}
+use Rattle.timetable.specs.Search.{leanMember}
 use Rattle.timetable.specs.Table.{Call, call, Good, TooShort, refusalOf, leaves, ended, tabled, narrowed, narrowedBy}
 use Rattle.timetable.specs.Promise.{Narrows}
 use Rattle.timetable.proofs.Calls.{good-call, call-good}
@@ -43,12 +43,12 @@ unfolding cleared
 cleared-same a b e = rw e
 
 module _ (c : Call) where
-  by-refusal : (k : ℕ) → (k ≡ 0 → ⊥) → tabled entry c k ≡ leaves (said Word.refused (k ∷ [])) (c .win) (c .log)
+  by-refusal : (k : ℕ) → (k ≡ 0 → ⊥) → tabled leanMember c k ≡ leaves (said Word.refused (k ∷ [])) (c .win) (c .log)
   unfolding tabled
   by-refusal zero h = absurd (h refl)
   by-refusal (suc k) h = refl
 
-  by-run : (k : ℕ) → k ≡ 0 → tabled entry c k ≡ ended entry c (ran c)
+  by-run : (k : ℕ) → k ≡ 0 → tabled leanMember c k ≡ ended leanMember c (ran c)
   unfolding tabled ran
   by-run k h = rw h
 
@@ -67,7 +67,7 @@ module _ (c : Call) where
   -- one of them does
   pub refused : (k : ℕ) → Number k → (k ≡ 0 → ⊥) → Narrows c (leaves (says (Answer.Refused k)) (c .win) (c .log))
   unfolding narrowedBy
-  refused k e h = subst (Narrows c) (ap (tabled entry c) (sym (number-is k e)) ∙ by-refusal k h) (narrows c)
+  refused k e h = subst (Narrows c) (ap (tabled leanMember c) (sym (number-is k e)) ∙ by-refusal k h) (narrows c)
 
   -- none does, and a window is too short
   pub clashed : Good c → (j : ℕ) → TooShort c j → Narrows c (leaves (says (Answer.Clash 0 j)) (c .win) (c .log))
@@ -78,7 +78,7 @@ module _ (c : Call) where
   unfolding narrowedBy ended
   finished g a W log h = subst (Narrows c) (by-run (refusalOf c) (call-good c g) ∙ go (ran c) h) (narrows c)
     where
-      go : (o : Out) → EndsAs c o a W log → ended entry c o ≡ leaves (says a) (winBy c a W) (logBy c a log)
+      go : (o : Out) → EndsAs c o a W log → ended leanMember c o ≡ leaves (says a) (winBy c a W) (logBy c a log)
       go (settled U ms) x = rw (x .0, x .1, x .2)
       go (clash j ms) x = rw (x .0, x .1)
       go short x = rw x

@@ -1,7 +1,7 @@
 // The work (document 01, 'Order of work'): rounds over the jobs by rising number, for each job side 0 until it rests, then side 1.
 use answers::Answer;
 ghost use mathlib.Core.Path.{_≡_};
-ghost use Prim.Native.Nat.{ℕ, _<_, _≤_};
+ghost use Prim.Native.Nat.{_<_, _≤_};
 ghost use lib.ListN.{length};
 ghost use Rattle.narrowing.specs.Windows.{win};
 ghost use Rattle.timetable.specs.Table.{call};

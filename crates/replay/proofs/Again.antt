@@ -23,7 +23,8 @@ use Rattle.timetable.proofs.Law.{lawful}
 use Rattle.timetable.proofs.Rows.{settled-row}
 use Rattle.timetable.proofs.Again.{same-jobs, good-again, long-again, word}
 use Rattle.judge.specs.Codes.{Coded}
-use Rattle.judge.specs.Facts.{side, OwnTrue, StatedTrue, Idles, GoodRecord}
+use Rattle.judge.specs.Facts.{side, OwnTrue, StatedTrue, GoodRecord}
+use Rattle.judge.specs.Faults.{Idles}
 use Rattle.replay.specs.Replay.{rejected, Checked, finds}
 use Rattle.replay.specs.Fate.{reached, nth}
 use Rattle.replay.specs.Promise.{Checks}

@@ -1,22 +1,20 @@
 -- The replay comes to a verdict exactly where the facts of that verdict hold of the log's records.
-use Prim.Native.Nat.{ℕ, zero, suc, _+_, _-_, _≤_, _<_}
+use Prim.Native.Nat.{ℕ, zero, suc, _+_, _-_}
 use native.Mathlib.Omega.{arith}
 use native.Mathlib.Decide.{ℕ-discrete}
 use mathlib.Core.Path.{_≡_, refl, sym, ap, subst, _∙_}
 use mathlib.Core.Bool.{Bool, true, false}
-use mathlib.Core.List.{List, [], _∷_}
-use mathlib.Core.Logic.{_⊎_, inl, inr, _↔_}
+use mathlib.Core.Logic.{inl, inr, _↔_}
 use mathlib.Core.Option.{Option, none, some}
 use borrow.Author.Tests.{ltb-true, ltb-false, lt-ltb, le-ltb}
 use Rattle.lists.specs.Lists.{_!_}
-use Rattle.narrowing.specs.Windows.{Win, closes, lowestTooShort}
+use Rattle.narrowing.specs.Windows.{closes, lowestTooShort}
 use Rattle.narrowing.proofs.TooShort.{TooShortSays, too-short-is, finds-too-short}
 use Rattle.journal.specs.Journal.{jobOf, records}
 use Rattle.timetable.specs.Time.{Jobs}
 use Rattle.timetable.specs.Table.{Call, jobsOf, AllLong, TooShort}
-use Rattle.judge.specs.Codes.{Coded, code}
-use Rattle.judge.specs.Facts.{GoodRecord}
-use Rattle.replay.specs.Replay.{changed, Verdict, holds, clashes, rejected, closing, orBad, orClosed, replay, verdictOn}
+use Rattle.judge.specs.Codes.{code}
+use Rattle.replay.specs.Replay.{changed, Verdict, holds, clashes, rejected, closing, replay, verdictOn}
 use Rattle.replay.specs.Fate.{nth, reached, Takes, Held, Closed, Open, Closing, Shut, Fate}
 use Rattle.judge.proofs.Codes.{code-exactly, good-record, record-good}
 

@@ -62,7 +62,7 @@ module _ (c : Call) where
     unfolding ended search
     settled-taken n e k = go (cased c a h)
       where
-        by-run : (g : Good c) (o : Out) → Judges J (c .win) o → Bounded (search J) (roomOf (c .log)) (c .win) o → a ≡ ended entry c o → b ≡ finds (said Word.holds (n ∷ [])) (a .win)
+        by-run : (g : Good c) (o : Out) → Judges J (c .win) o → Bounded (search J) (roomOf (c .log)) (c .win) o → a ≡ ended leanMember c o → b ≡ finds (said Word.holds (n ∷ [])) (a .win)
         by-run g (settled U ms) r d q =
             let z : length ms ≡ n = ap (λ (y : Said). y .numbers ! 0) (sym (ap (λ (y : After). y .says) q) ∙ e) in
             let l : a .log ≡ logged (map (entry J) ms) (c .log) = ap (λ (y : After). y .log) q in
@@ -87,7 +87,7 @@ module _ (c : Call) where
     unfolding ended search
     clash-taken n j e k = go (cased c a h)
       where
-        by-run : (g : Good c) (o : Out) → Judges J (c .win) o → Bounded (search J) (roomOf (c .log)) (c .win) o → a ≡ ended entry c o → b ≡ finds (said Word.clash (n ∷ j ∷ [])) (c .win)
+        by-run : (g : Good c) (o : Out) → Judges J (c .win) o → Bounded (search J) (roomOf (c .log)) (c .win) o → a ≡ ended leanMember c o → b ≡ finds (said Word.clash (n ∷ j ∷ [])) (c .win)
         by-run g (settled U ms) r d q =
             absurd (not-said Word.settled Word.clash (λ z. omega arith) (ap (λ (y : Said). y .word) (sym (ap (λ (y : After). y .says) q) ∙ e)))
         by-run g (clash i ms) r d q =

@@ -1,21 +1,20 @@
 -- The definition of the checker keeps its promise: demand 2 for every record that it takes.
-use Prim.Native.Nat.{ℕ, zero, suc, _+_, _≤_, _<_}
+use Prim.Native.Nat.{ℕ, zero, suc, _<_}
 use native.Mathlib.Omega.{arith}
 use native.Mathlib.Decide.{ℕ-discrete}
-use mathlib.Core.Path.{_≡_, refl, sym, ap, subst}
+use mathlib.Core.Path.{_≡_, refl, sym, subst}
 use mathlib.Core.Bool.{Bool, true, false}
 use mathlib.Core.List.{List}
-use mathlib.Core.Logic.{_⊎_, inl, inr}
+use mathlib.Core.Logic.{inl, inr}
 use lib.Dec.{ltb}
 use borrow.Author.Tests.{lt-ltb}
-use Rattle.lists.specs.Lists.{_!_}
 use Rattle.narrowing.specs.Windows.{Win}
 use Rattle.narrowing.proofs.Steps.{step-none, closed-none-left}
 use Rattle.timetable.proofs.TooShort.{too-short-none}
 use Rattle.narrowing.proofs.Schedules.{step-schedule, none-schedule}
 use Rattle.answers.specs.Said.{Word}
 use Rattle.answers.proofs.Same.{not-said}
-use Rattle.journal.specs.Journal.{jobOf, roomOf, records}
+use Rattle.journal.specs.Journal.{roomOf, records}
 use Rattle.timetable.specs.Time.{Applies, Fits}
 use Rattle.timetable.specs.Table.{Call, jobsOf, refusalOf}
 use Rattle.timetable.specs.Promise.{Scheduled, NoneIn}
@@ -44,7 +43,7 @@ module _ (c : Call) where
   fate-takes count (rejected a k) (d, inr (o, q, n)) i b = o .held i b .0
 
   reasoned : (i : ℕ) → Takes c i → Reasoned c i
-  reasoned i g = record { implies = implies (jobsOf c) (reached c i) _ g; true-there = true-there (jobsOf c) (reached c i) _ g; lean = record { counted = g .counted; exceeds = g .exceeds; none-spare = g .lean } }
+  reasoned i g = record { implies = implies (jobsOf c) (reached c i) _ g; true-there = true-there (jobsOf c) (reached c i) _ g; lean = record { counted = g .counted; other = λ h. g .partners .members _ h .1 refl; exceeds = g .exceeds; lean = g .lean } }
 
   fate-kept : (count : ℕ) (v : Verdict) → Fate c count v → (s : List ℕ) → Scheduled c (c .win) s → Scheduled c (judged c count v .win) s
   fate-kept count (holds U) f s x =

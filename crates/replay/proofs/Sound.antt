@@ -12,36 +12,39 @@ use Rattle.lists.specs.Tests.{both, either, only}
 use Rattle.lists.specs.Sets.{totalOf}
 use Rattle.lists.proofs.Tests.{only-le, true-both, either-left, either-right}
 use Rattle.lists.proofs.Sums.{total-le, total-others}
+use Rattle.lists.proofs.Sets.{totalOf-sub}
 use Rattle.narrowing.specs.Windows.{Win, Side, early, late}
 use Rattle.narrowing.specs.Rules.{Step}
 use Rattle.narrowing.proofs.Steps.{step-refl, step-trans, step-move}
 use Rattle.journal.specs.Journal.{jobOf, timeOf, isMember}
-use Rattle.timetable.specs.Time.{Jobs, Runs, runs, sure, load, Crowded, Applies, bound}
+use Rattle.timetable.specs.Time.{Jobs, Runs, runs, load, Crowded, Applies, bound}
+use Rattle.timetable.specs.Search.{member}
 use Rattle.timetable.specs.Reason.{OwnFact, Stated, namedDrawn, Changed, Implied, Within}
 use Rattle.timetable.specs.Table.{Call, jobsOf}
-use Rattle.timetable.proofs.Facts.{yes-sure, yes-runs}
+use Rattle.timetable.proofs.Facts.{yes-runs, yes-member}
 use Rattle.timetable.proofs.Law.{lawful}
-use Rattle.judge.specs.Facts.{side, membersDraw, OwnTrue, Tightens, GoodRecord}
+use Rattle.timetable.proofs.Lean.{members-load}
+use Rattle.judge.specs.Facts.{side, OwnTrue, Tightens, GoodRecord}
 use Rattle.replay.specs.Replay.{changed}
 use Rattle.replay.specs.Fate.{reached, Takes}
 
 module _ (J : Jobs) (W : Win) (x : List ℕ) (g : GoodRecord J W x) where
   -- ---- a rule's move
 
-  member-counts : (k : ℕ) → isMember x k ≡ true → both (not (eqb k (jobOf x))) (sure (J .p) W k (timeOf x)) ≡ true
-  member-counts k h =
-      true-both (not (eqb k (jobOf x))) (sure (J .p) W k (timeOf x))
-      (rw (ne-eqb k (jobOf x) (g .partners .members k h .1)))
-      (yes-sure (J .p) W k (timeOf x) (g .stated .members k h))
-
-  members-load : membersDraw J x ≤ load J W (jobOf x) (timeOf x)
-  unfolding totalOf load
-  members-load =
-      total-le (λ k. only (isMember x k) (J .r ! k)) (λ k. only (both (not (eqb k (jobOf x))) (sure (J .p) W k (timeOf x))) (J .r ! k)) (J .n)
-      (λ k b. only-le (isMember x k) (both (not (eqb k (jobOf x))) (sure (J .p) W k (timeOf x))) (J .r ! k) (member-counts k))
+  -- its members are some of 01's, so that their demands are part of the others' load
+  members-within : totalOf (J .n) (J .r) (isMember x) ≤ load J W (jobOf x) (timeOf x)
+  members-within =
+      omega (
+        arith,
+        members-load J W (jobOf x) (timeOf x),
+        totalOf-sub (J .n) (J .r) (isMember x) (member J W (jobOf x) (timeOf x))
+            (λ k b h.
+            let q = g .partners .members k h in
+            yes-member J W (jobOf x) (timeOf x) k (record { listed = b; other = q .1; takes = q .0 .takes; sure-there = g .stated .members k h })),
+      )
 
   crowded-there : Crowded J W (jobOf x) (timeOf x)
-  crowded-there = record { lasts = g .partners .lasts; takes = g .partners .takes; over = omega (arith, g .exceeds, members-load) }
+  crowded-there = record { lasts = g .partners .lasts; takes = g .partners .takes; over = omega (arith, g .exceeds, members-within) }
 
   by-side : (s : Side) → OwnTrue (J .p) W (jobOf x) s (timeOf x) → Tightens W (jobOf x) s (timeOf x) → Applies J W (jobOf x) s (bound s (timeOf x))
   by-side early a b = record { from = b; to = a; crowded = crowded-there }

@@ -8,7 +8,7 @@ use mathlib.Core.Logic.{inl, inr, _↔_}
 use Rattle.answers.specs.Said.{Word, said}
 use Rattle.journal.specs.Journal.{roomOf}
 use Rattle.timetable.specs.Table.{Call, jobsOf, Good}
-use Rattle.judge.specs.Facts.{OnlySpare}
+use Rattle.judge.specs.Faults.{OnlySpare}
 use Rattle.judge.proofs.Codes.{spare-exactly}
 use Rattle.replay.specs.Replay.{Checked, rejected}
 use Rattle.replay.specs.Fate.{nth, reached, Open, Fate}

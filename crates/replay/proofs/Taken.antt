@@ -20,7 +20,8 @@ use Rattle.journal.specs.Journal.{jobOf, isMember}
 use Rattle.timetable.specs.Time.{Jobs, Applies, bound}
 use Rattle.timetable.specs.Search.{search, Member, leanMember, naming, entry}
 use Rattle.timetable.proofs.Law.{searches}
-use Rattle.timetable.proofs.Lean.{crowded-at, lean-member, entry-lean}
+use Rattle.timetable.proofs.Facts.{crowded-at}
+use Rattle.timetable.proofs.Lean.{lean-member, entry-lean}
 use Rattle.judge.specs.Facts.{side, OwnTrue, Tightens, GoodRecord}
 use Rattle.judge.specs.Codes.{code}
 use Rattle.replay.specs.Replay.{changed, holds, clashes, replay, verdictOn}
@@ -72,7 +73,7 @@ module _ (J : Jobs) (W : Win) (few : J .n ≤ 32 * setWords) (L : Long (J .n) (J
           members = λ k h. named-member k h .sure-there;
         };
         tightens = rw (side-number s) (tightens-at s a);
-        lean = lean .none-spare;
+        lean = lean .lean;
       }
 
 -- ---- the whole log

@@ -1,4 +1,4 @@
--- What the checker promises, of a call, the number of claimed records, and what it finds (the mission's demand 2).
+-- What the checker promises, of a call, the number of claimed records, and what it finds (the mission's demand 2; document 02, Item 7).
 use Prim.Native.Nat.{ℕ, _<_}
 use mathlib.Core.Path.{_≡_}
 use mathlib.Core.List.{List, [], _∷_}
@@ -7,8 +7,7 @@ use Rattle.answers.specs.Said.{Word, Said, said}
 use Rattle.journal.specs.Journal.{jobOf, timeOf, isMember}
 use Rattle.timetable.specs.Table.{Call, call, jobsOf, After}
 use Rattle.timetable.specs.Promise.{Scheduled, Narrows}
-use Rattle.timetable.specs.Reasons.{LeanRecord}
-use Rattle.timetable.specs.Reason.{Stated, Implied, Within}
+use Rattle.timetable.specs.Reason.{Stated, Implied, Within, LeanRecord}
 use Rattle.judge.specs.Facts.{side}
 use Rattle.replay.specs.Replay.{Checked, finds, checked}
 use Rattle.replay.specs.Fate.{nth, reached}

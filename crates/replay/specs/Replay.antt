@@ -1,14 +1,13 @@
 -- The replay of a log from the submitted windows (document 01, 'Answer table', the checker; document 02, Item 3): records in turn, to the first bad
 -- one. A window that is too short is closed before any record.
-use Prim.Native.Nat.{ℕ, zero, suc, _+_, _≤_, _<_}
+use Prim.Native.Nat.{ℕ, zero, suc}
 use mathlib.Core.Bool.{Bool, true, false}
 use mathlib.Core.List.{List, [], _∷_}
 use mathlib.Core.Option.{Option, none, some}
 use lib.Dec.{ltb}
-use Rattle.lists.specs.Lists.{_!_}
 use Rattle.narrowing.specs.Windows.{Win, moved, closes, lowestTooShort}
 use Rattle.answers.specs.Said.{Word, Said, said}
-use Rattle.journal.specs.Journal.{jobOf, timeOf, roomOf, recordAt, records}
+use Rattle.journal.specs.Journal.{jobOf, timeOf, roomOf, records}
 use Rattle.timetable.specs.Time.{Jobs, bound}
 use Rattle.timetable.specs.Table.{Call, jobsOf, refusalOf}
 use Rattle.judge.specs.Facts.{side}

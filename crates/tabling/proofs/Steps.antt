@@ -14,6 +14,7 @@ use Rattle.lists.specs.Lists.{_!_}
 use Rattle.lists.specs.Tests.{both, only}
 use Rattle.lists.specs.Sums.{total}
 use Rattle.lists.specs.Searches.{greatest, least, orElse}
+use Rattle.lists.proofs.Tests.{both-false}
 use Rattle.lists.proofs.Sums.{total-zero, total-suc}
 use Rattle.narrowing.specs.Windows.{Win, win, Side, early, late, moved, sideOf}
 use Rattle.joblist.specs.Limits.{mostTime, mostDemand, mostJobs}
@@ -63,10 +64,6 @@ pub load-small : {e l p r : List ℕ} {cap : ℕ} → Good (asked e l p r cap) �
 load-small {e} {l} {p} {r} {cap} g j t = omega (arith, load-all (jobsOf (asked e l p r cap)) (win e l) j t, load-fits g j t (length e) (omega arith))
 
 -- ---- a crowded time
-
-both-false : (a : Bool) → both a false ≡ false
-both-false true = refl
-both-false false = refl
 
 module _ (J : Jobs) (W : Win) (j t : ℕ) where
   pub crowded-short : J .p ! j ≡ 0 → crowded J W j t ≡ false

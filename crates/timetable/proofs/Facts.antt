@@ -1,16 +1,16 @@
 -- The tests of sure parts, running jobs, crowded times and a writer's members, and the facts that they stand for.
-use Prim.Native.Nat.{ℕ, _+_, _≤_, _<_}
+use Prim.Native.Nat.{ℕ, _+_}
 use native.Mathlib.Omega.{arith}
 use mathlib.Core.Path.{_≡_}
-use mathlib.Core.Bool.{Bool, true, not}
+use mathlib.Core.Bool.{true, not}
 use mathlib.Core.List.{List}
 use lib.Dec.{leb, ltb, eqb}
 use borrow.Author.Tests.{leb-true, ltb-true, le-leb, lt-ltb, ne-eqb, eqb-false, not-true}
 use Rattle.lists.specs.Lists.{_!_}
 use Rattle.lists.specs.Tests.{both}
 use Rattle.lists.proofs.Tests.{both-true, true-both}
-use Rattle.narrowing.specs.Windows.{Win}
-use Rattle.timetable.specs.Time.{Jobs, Runs, runs, Sure, sure, load, Crowded}
+use Rattle.narrowing.specs.Windows.{Win, Side, early, late}
+use Rattle.timetable.specs.Time.{Jobs, Runs, runs, Sure, sure, load, Crowded, Applies, bound}
 use Rattle.timetable.specs.Search.{crowded, Member, member}
 
 module _ (p : List ℕ) (W : Win) (k t : ℕ) where
@@ -68,3 +68,8 @@ module _ (J : Jobs) (W : Win) (j t : ℕ) where
       true-both (ltb k (J .n)) _ (lt-ltb _ _ (m .listed))
       (true-both (not (eqb k j)) _ (rw (ne-eqb k j (m .other)))
       (true-both (leb 1 (J .r ! k)) (sure (J .p) W k t) (le-leb _ _ (m .takes)) (yes-sure (J .p) W k t (m .sure-there))))
+
+-- a rule applies at a crowded time
+pub crowded-at : (J : Jobs) (W : Win) (j : ℕ) (s : Side) (t : ℕ) → Applies J W j s (bound s t) → Crowded J W j t
+crowded-at J W j early t a = a .crowded
+crowded-at J W j late t a = a .crowded

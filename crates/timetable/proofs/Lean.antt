@@ -11,26 +11,23 @@ use borrow.Author.Tests.{ne-eqb, eqb-false, not-true}
 use Rattle.lists.specs.Lists.{_!_}
 use Rattle.lists.specs.Tests.{both, only}
 use Rattle.lists.specs.Sets.{totalOf}
-use Rattle.lists.specs.Spares.{Exceeds, NoneSpare}
+use Rattle.lists.specs.Spares.{amount, NoneSpare}
 use Rattle.lists.proofs.Tests.{both-true, true-both, only-cong}
 use Rattle.lists.proofs.Sums.{total-cong}
 use Rattle.lists.proofs.Spares.{leaned-in, leaned-exceeds, leaned-none-spare}
-use Rattle.narrowing.specs.Windows.{Win, Side, early, late}
+use Rattle.narrowing.specs.Windows.{Win, Side, early}
 use Rattle.narrowing.specs.Search.{Move}
 use Rattle.narrowing.specs.Rounds.{Chosen}
 use Rattle.members.specs.Members.{setWords}
+use Rattle.members.proofs.Sets.{has-given}
 use Rattle.members.proofs.Spares.{words-exceed, words-none-spare}
 use Rattle.journal.specs.Journal.{roomOf, recordAt, logged}
 use Rattle.journal.proofs.Records.{logged-record}
-use Rattle.timetable.specs.Time.{Jobs, sure, load, Crowded, Applies, bound}
+use Rattle.timetable.specs.Time.{Jobs, sure, load, Crowded, Applies}
 use Rattle.timetable.specs.Search.{search, Member, member, leanMember, naming, entry}
-use Rattle.timetable.specs.Reasons.{LeanRecord}
-use Rattle.timetable.proofs.Facts.{sure-yes, yes-sure, member-yes, yes-member}
+use Rattle.timetable.specs.Reason.{LeanRecord}
+use Rattle.timetable.proofs.Facts.{crowded-at, sure-yes, yes-sure, member-yes, yes-member}
 use Rattle.timetable.proofs.Entries.{entries-are, entries-count}
-
-pub crowded-at : (J : Jobs) (W : Win) (j : ℕ) (s : Side) (t : ℕ) → Applies J W j s (bound s t) → Crowded J W j t
-crowded-at J W j early t a = a .crowded
-crowded-at J W j late t a = a .crowded
 
 module _ (J : Jobs) (W : Win) (j t : ℕ) where
   -- the demands of 01's members are the others' load
@@ -54,7 +51,7 @@ module _ (J : Jobs) (W : Win) (j t : ℕ) where
   pub lean-member : (k : ℕ) → leanMember J W j t k ≡ true → Member J W j t k
   lean-member k h = member-yes J W j t k (lean-some k h)
 
-  lean-exceeds : Crowded J W j t → Exceeds (J .n) (J .r) (J .r ! j) (J .cap) (leanMember J W j t)
+  lean-exceeds : Crowded J W j t → J .cap < amount (J .n) (J .r) (J .r ! j) (leanMember J W j t)
   unfolding leanMember
   lean-exceeds c = leaned-exceeds (J .n) (J .r) (J .r ! j) (J .cap) (member J W j t) (omega (arith, c .over, members-load))
 
@@ -72,7 +69,8 @@ module _ (J : Jobs) (few : J .n ≤ 32 * setWords) where
       record {
         counted = refl;
         exceeds = words-exceed setWords (J .n) (J .r) (J .r ! m .job) (J .cap) named few (lean-exceeds J (m .before) (m .job) (m .choice) c);
-        none-spare = words-none-spare setWords (J .n) (J .r) (J .r ! m .job) (J .cap) named few (lean-none-spare J (m .before) (m .job) (m .choice));
+        other = λ h. lean-member J (m .before) (m .job) (m .choice) (m .job) (has-given setWords named (m .job) h) .other refl;
+        lean = words-none-spare setWords (J .n) (J .r) (J .r ! m .job) (J .cap) named few (lean-none-spare J (m .before) (m .job) (m .choice));
       }
 
   entries-lean : (W : Win) (j : ℕ) (s : Side) (ms : List Move) → Chosen (search J) (Applies J) W j s ms → (i : ℕ) → i < length ms

@@ -20,7 +20,7 @@ use Rattle.answers.specs.Said.{Word}
 use Rattle.answers.proofs.Same.{not-said}
 use Rattle.journal.specs.Journal.{roomOf}
 use Rattle.timetable.specs.Time.{Jobs, Applies, Fits, Overdrawn}
-use Rattle.timetable.specs.Search.{search, entry}
+use Rattle.timetable.specs.Search.{search, leanMember}
 use Rattle.timetable.specs.Table.{Call, jobsOf, Good, refusalOf, ended, tabled, narrowed, narrowedBy}
 use Rattle.timetable.specs.Promise.{LargestIn, NoneIn, AllFixed, needs, Room, Kept, Narrowest, Narrows}
 use Rattle.timetable.proofs.Calls.{good-call, call-good, whole}
@@ -87,7 +87,7 @@ module _ (c : Call) (g : Good c) where
 
   -- ---- the run's rows
 
-  kept-run : (o : Out) → ran ≡ o → runs.Good (J .n) (J .p) (Applies J) (c .win) o → Kept c (ended entry c o)
+  kept-run : (o : Out) → ran ≡ o → runs.Good (J .n) (J .p) (Applies J) (c .win) o → Kept c (ended leanMember c o)
   unfolding ended
   kept-run (settled U ms) e h =
       record {
@@ -108,7 +108,7 @@ module _ (c : Call) (g : Good c) where
         fixed = λ g f b. absurd (room-not (fixed-room f b) e);
       }
 
-  narrowest-run : (o : Out) → ran ≡ o → runs.Good (J .n) (J .p) (Applies J) (c .win) o → Narrowest c (ended entry c o)
+  narrowest-run : (o : Out) → ran ≡ o → runs.Good (J .n) (J .p) (Applies J) (c .win) o → Narrowest c (ended leanMember c o)
   unfolding ended
   narrowest-run (settled U ms) e h =
       record {
@@ -137,7 +137,7 @@ module _ (c : Call) (g : Good c) where
 
 -- ---- the whole table
 
-narrows-by : (c : Call) (k : ℕ) → refusalOf c ≡ k → Kept c (tabled entry c k) × (Good c → Narrowest c (tabled entry c k))
+narrows-by : (c : Call) (k : ℕ) → refusalOf c ≡ k → Kept c (tabled leanMember c k) × (Good c → Narrowest c (tabled leanMember c k))
 unfolding tabled
 narrows-by c zero e = let g = good-call c e in (kept-run c g (ran c g) refl (means c g), λ h. narrowest-run c g (ran c g) refl (means c g))
 narrows-by c (suc k) e = (

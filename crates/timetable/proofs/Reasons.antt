@@ -1,4 +1,4 @@
--- The answer table's log is what narrowing promises of it: the records of the run's moves, in their order, with the closing one last.
+-- The answer table's log is what narrowing promises of it: the records of the run's moves, in their order, with the closing one last, and lean.
 use Prim.Native.Nat.{ℕ, zero, suc, _≤_}
 use native.Mathlib.Omega.{arith}
 use mathlib.Core.Path.{_≡_, refl, sym, ap, subst}
@@ -16,9 +16,10 @@ use Rattle.answers.specs.Said.{Word, Said}
 use Rattle.answers.proofs.Same.{said-apart}
 use Rattle.journal.specs.Journal.{roomOf, recordAt, logged}
 use Rattle.timetable.specs.Time.{Jobs, Applies}
-use Rattle.timetable.specs.Search.{search, entry}
+use Rattle.timetable.specs.Search.{search, leanMember, entry}
+use Rattle.timetable.specs.Reason.{LeanRecord}
 use Rattle.timetable.specs.Table.{Call, jobsOf, Good, refusalOf, After, ended, tabled}
-use Rattle.timetable.specs.Reasons.{LeanRecord, Logged, Reasons}
+use Rattle.timetable.specs.Reasons.{Logged, Reasons}
 use Rattle.timetable.proofs.Calls.{good-call, whole}
 use Rattle.timetable.proofs.Law.{lawful, searches}
 use Rattle.timetable.proofs.Lean.{logged-lean}
@@ -41,7 +42,7 @@ module _ (c : Call) where
       }
 
   ended-reasons : Good c → (o : Out) → Chosen (search J) (Applies J) (c .win) 0 early (movesOf o) → Bounded (search J) (roomOf (c .log)) (c .win) o → Reached (search J) (c .win) o
-      → Reasons c (ended entry c o)
+      → Reasons c (ended leanMember c o)
   unfolding ended search logs-of
   ended-reasons g (settled U ms) x b r =
       record {
@@ -67,7 +68,7 @@ module _ (c : Call) where
         clash = λ n j e. said-apart Word.refused Word.clash _ _ (λ q. omega arith) e;
       }
 
-  pub reasons-by : (k : ℕ) → refusalOf c ≡ k → Reasons c (tabled entry c k)
+  pub reasons-by : (k : ℕ) → refusalOf c ≡ k → Reasons c (tabled leanMember c k)
   unfolding tabled search
   reasons-by zero e =
       let g = good-call c e in

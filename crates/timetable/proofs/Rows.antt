@@ -1,6 +1,6 @@
 -- Laws over narrowing's contract alone: each row of the answer table is given exactly when it says so and no row before it does, in facts;
 -- what each row leaves; and two results that meet the contract are equal.
-use Prim.Native.Nat.{ℕ, zero, suc, _+_, _≤_, _<_}
+use Prim.Native.Nat.{ℕ, zero, suc, _≤_, _<_}
 use native.Mathlib.Omega.{arith}
 use native.Mathlib.Decide.{decLe}
 use mathlib.Core.Path.{_≡_, refl, sym, ap, subst, _∙_}
@@ -19,7 +19,7 @@ use Rattle.joblist.specs.GoodList.{Given}
 use Rattle.joblist.proofs.Refusals.{refusal-exactly, refusal-most}
 use Rattle.journal.specs.Journal.{roomOf, cleared}
 use Rattle.timetable.specs.Time.{Jobs, Applies}
-use Rattle.timetable.specs.Search.{search, entry}
+use Rattle.timetable.specs.Search.{search, leanMember}
 use Rattle.timetable.specs.Table.{Call, jobsOf, Good, refusalOf, After, leaves, ended, tabled, narrowedBy}
 use Rattle.timetable.specs.Promise.{StableIn, NoneIn, needs, Room, Narrows}
 use Rattle.timetable.proofs.Law.{lawful, searches}
@@ -54,9 +54,9 @@ module _ (c : Call) where
 
   -- the answer is a refusal's or the run's
   abbrev pub Case : After → Type 0
-  Case a = ((k : ℕ) × (refusalOf c ≡ suc k) × (a ≡ leaves (said Word.refused (suc k ∷ [])) (c .win) (c .log))) ⊎ (Good c × (a ≡ ended entry c ran))
+  Case a = ((k : ℕ) × (refusalOf c ≡ suc k) × (a ≡ leaves (said Word.refused (suc k ∷ [])) (c .win) (c .log))) ⊎ (Good c × (a ≡ ended leanMember c ran))
 
-  case-of : (k : ℕ) → refusalOf c ≡ k → Case (tabled entry c k)
+  case-of : (k : ℕ) → refusalOf c ≡ k → Case (tabled leanMember c k)
   unfolding tabled
   case-of zero e = inr (good-call c e, refl)
   case-of (suc k) e = inl (k, e, refl)
@@ -106,7 +106,7 @@ module _ (c : Call) where
     unfolding ended refusalOf
     refused-row k e = go (cased a h)
       where
-        by-run : Good c → (o : Out) → ran ≡ o → ended entry c o .says ≡ said Word.refused (k ∷ []) → RefusedRow c k
+        by-run : Good c → (o : Out) → ran ≡ o → ended leanMember c o .says ≡ said Word.refused (k ∷ []) → RefusedRow c k
         by-run g (settled U ms) d q = absurd (settled-refused _ _ q)
         by-run g (clash j ms) d q = absurd (clash-refused _ _ q)
         by-run g short d q = inr (sym (ap num q), g, short-five g d)
@@ -128,7 +128,7 @@ module _ (c : Call) where
         go (inl (i, d, q)) (inr (e, g, b)) = absurd (omega (arith, sym d ∙ call-good c g))
         go (inr (g, q)) (inl (b, t)) = absurd (omega (arith, sym (call-good c g) ∙ refusal-exactly (jobs (c .win)) _ _ k .1 t))
         go (inr (g, q)) (inr (e, f, b)) =
-            ap (λ (y : After). y .says) q ∙ ap (λ (o : Out). ended entry c o .says) (five-short g b) ∙ ap (λ (m : ℕ). said Word.refused (m ∷ [])) (sym e)
+            ap (λ (y : After). y .says) q ∙ ap (λ (o : Out). ended leanMember c o .says) (five-short g b) ∙ ap (λ (m : ℕ). said Word.refused (m ∷ [])) (sym e)
 
     pub refused-exactly : (k : ℕ) → (a .says ≡ said Word.refused (k ∷ [])) ↔ RefusedRow c k
     refused-exactly k = (refused-row k, row-refused k)
@@ -138,7 +138,7 @@ module _ (c : Call) where
     unfolding ended
     settled-row n e = go (cased a h)
       where
-        by-run : (g : Good c) (o : Out) → ran ≡ o → ended entry c o .says ≡ said Word.settled (n ∷ []) → Good c × Room c × (n ≡ needs c)
+        by-run : (g : Good c) (o : Out) → ran ≡ o → ended leanMember c o .says ≡ said Word.settled (n ∷ []) → Good c × Room c × (n ≡ needs c)
         by-run g (settled U ms) d q =
             let r : Room c = ended-room g (λ z. let w : _≡_ {A = ℕ} 0 1 = cc in omega arith) in
             (g, r, sym (ap num q) ∙ sym (ap (λ (o : Out). count o) d) ∙ room-count g r)
@@ -153,7 +153,7 @@ module _ (c : Call) where
     unfolding ended
     clash-row n j e = go (cased a h)
       where
-        by-run : (g : Good c) (o : Out) → ran ≡ o → ended entry c o .says ≡ said Word.clash (n ∷ j ∷ []) → Good c × Room c × (n ≡ needs c)
+        by-run : (g : Good c) (o : Out) → ran ≡ o → ended leanMember c o .says ≡ said Word.clash (n ∷ j ∷ []) → Good c × Room c × (n ≡ needs c)
         by-run g (settled U ms) d q = absurd (not-said Word.settled Word.clash (λ z. omega arith) (ap (λ (x : Said). x .word) q))
         by-run g (clash i ms) d q =
             let r : Room c = ended-room g (λ z. let w : _≡_ {A = ℕ} 0 1 = cc in omega arith) in
@@ -169,7 +169,7 @@ module _ (c : Call) where
     unfolding ended
     numbered g r = go (cased a h)
       where
-        by-run : (o : Out) → ran ≡ o → a ≡ ended entry c o → ((n : ℕ) × (a .says ≡ said Word.settled (n ∷ []))) ⊎ ((n : ℕ) × (j : ℕ) × (a .says ≡ said Word.clash (n ∷ j ∷ [])))
+        by-run : (o : Out) → ran ≡ o → a ≡ ended leanMember c o → ((n : ℕ) × (a .says ≡ said Word.settled (n ∷ []))) ⊎ ((n : ℕ) × (j : ℕ) × (a .says ≡ said Word.clash (n ∷ j ∷ [])))
         by-run (settled U ms) d q = inl (length ms, ap (λ (y : After). y .says) q)
         by-run (clash j ms) d q = inr (length ms, j, ap (λ (y : After). y .says) q)
         by-run short d q = absurd (omega (arith, short-five g d))
@@ -217,7 +217,7 @@ module _ (c : Call) where
     unfolding ended
     submitted-windows f = go (cased a h)
       where
-        by-run : (o : Out) → a ≡ ended entry c o → a .win ≡ c .win
+        by-run : (o : Out) → a ≡ ended leanMember c o → a .win ≡ c .win
         by-run (settled U ms) q = absurd (f (ap (λ (y : After). y .says .word) q))
         by-run (clash j ms) q = ap (λ (y : After). y .win) q
         by-run short q = ap (λ (y : After). y .win) q
@@ -231,7 +231,7 @@ module _ (c : Call) where
     unfolding ended refusalOf
     refused-log k e = go (cased a h)
       where
-        by-run : (o : Out) → a ≡ ended entry c o → ended entry c o .says ≡ said Word.refused (k ∷ []) → ((k ≡ 5) × (a .log ≡ cleared (c .log))) ⊎ ((k ≤ 3) × (a .log ≡ c .log))
+        by-run : (o : Out) → a ≡ ended leanMember c o → ended leanMember c o .says ≡ said Word.refused (k ∷ []) → ((k ≡ 5) × (a .log ≡ cleared (c .log))) ⊎ ((k ≤ 3) × (a .log ≡ c .log))
         by-run (settled U ms) q z = absurd (settled-refused _ _ z)
         by-run (clash j ms) q z = absurd (clash-refused _ _ z)
         by-run short q z = inl (sym (ap num z), ap (λ (y : After). y .log) q)

@@ -19,7 +19,7 @@ use Rattle.answers.proofs.Same.{not-refused}
 use Rattle.joblist.specs.Limits.{jobs}
 use Rattle.journal.specs.Journal.{roomOf, logged, flat}
 use Rattle.timetable.specs.Time.{Applies}
-use Rattle.timetable.specs.Search.{search, entry}
+use Rattle.timetable.specs.Search.{search, leanMember}
 use Rattle.timetable.specs.Table.{Call, jobsOf, Good, TooShort, After, leaves, ended}
 use Rattle.timetable.specs.Promise.{Scheduled, NoneIn, needs, Narrowest, Narrows}
 use Rattle.timetable.proofs.Calls.{call-good}
@@ -46,9 +46,9 @@ too-short-decided c a g h j s e = not-refused (a .says .word) (h .decided (omega
 -- ---- of the answer
 
 module _ (c : Call) (a : After) (h : Narrows c a) (j : ℕ) where
-  too-short-ran : TooShort c j → ended entry c (ran c) ≡ leaves (said Word.clash (0 ∷ j ∷ [])) (c .win) (c .log)
+  too-short-ran : TooShort c j → ended leanMember c (ran c) ≡ leaves (said Word.clash (0 ∷ j ∷ [])) (c .win) (c .log)
   unfolding ended search logged flat
-  too-short-ran s = ap (λ (o : Out). ended entry c o) (run-too-short (search (jobsOf c)) (roomOf (c .log)) (c .win) j s)
+  too-short-ran s = ap (λ (o : Out). ended leanMember c o) (run-too-short (search (jobsOf c)) (roomOf (c .log)) (c .win) j s)
 
   -- what such a list gets
   pub too-short-row : Good c → TooShort c j → a ≡ leaves (said Word.clash (0 ∷ j ∷ [])) (c .win) (c .log)

@@ -1,4 +1,5 @@
--- What narrowing promises: the answer table, demand 2 and demand 3 (the mission's numbers), of a call and what it leaves. Demands 2 and 3 speak
+-- What narrowing promises: the answer table, demand 2 and demand 3 (the mission's numbers), its reasons, and that their being short moves nothing else
+-- (document 02, Item 7), of a call and what it leaves. Demands 2 and 3 speak
 -- of schedules and of the two rules; only the premise on the room names the run, by the number of records that it needs.
 use Prim.Native.Nat.{ℕ, _+_, _≤_, _<_}
 use mathlib.Core.Path.{_≡_}

@@ -1,5 +1,5 @@
 -- What the defined run looks for and writes (document 01, 'Order of work' and 'Log records'): side 0 at the greatest crowded time, side 1 at
--- the least; and the record of a move, which names no more members than it has to (document 02, Item 7).
+-- the least; and the record of a move, which names no member that it can do without (document 02, Item 7).
 use Prim.Native.Nat.{ℕ, _+_, _-_, _≤_, _<_}
 use mathlib.Core.Path.{_≡_}
 use mathlib.Core.Bool.{Bool, not}
@@ -32,6 +32,10 @@ unfoldable pub search : Jobs → Search
 unfolding best
 search J = record { n = J .n; p = J .p; best = best J; bound = bound }
 
+-- whom a writer names in a record of job j at time t
+abbrev pub Names : Type 0
+Names = Jobs → Win → ℕ → ℕ → Set
+
 -- a member as 01 names them: another job of the list with r ≥ 1 whose sure part holds t
 pub record Member (J : Jobs) (W : Win) (j t k : ℕ) : Type 0 where
   pub listed : k < J .n
@@ -40,28 +44,21 @@ pub record Member (J : Jobs) (W : Win) (j t k : ℕ) : Type 0 where
   pub sure-there : Sure (J .p) W k t
 
 -- the test of `Member`
-unfoldable pub member : Jobs → Win → ℕ → ℕ → ℕ → Bool
+unfoldable pub member : Names
 unfolding sure
 member J W j t k = both (ltb k (J .n)) (both (not (eqb k j)) (both (leb 1 (J .r ! k)) (sure (J .p) W k t)))
 
 -- those that the writer names: going through them by rising number, each one without whom the demands named, members' and moved job's together, still
 -- exceed the capacity is dropped
-unfoldable pub leanMember : Jobs → Win → ℕ → ℕ → Set
+unfoldable pub leanMember : Names
 unfolding leaned member
 leanMember J W j t = leaned (J .n) (J .r) (J .r ! j) (J .cap) (member J W j t)
 
--- whom a writer names in a record of job j at time t
-abbrev pub Names : Type 0
-Names = Jobs → Win → ℕ → ℕ → Set
-
--- the record of a move: its job, side, time and the members named
+-- the record of a move: its job, side, time and those named
 unfoldable pub naming : Names → Jobs → Move → List ℕ
 unfolding setOf
 naming M J m = written (m .job) (number (m .side)) (m .choice) (setOf setWords (M J (m .before) (m .job) (m .choice)))
 
--- the writer's; and 01's, which named every member
+-- the writer's
 abbrev pub entry : Jobs → Move → List ℕ
 entry = naming leanMember
-
-abbrev pub fullEntry : Jobs → Move → List ℕ
-fullEntry = naming member

@@ -3,14 +3,13 @@ use Prim.Native.Nat.{ℕ, zero, suc}
 use mathlib.Core.List.{List, [], _∷_, map}
 use lib.ListN.{length}
 use Rattle.narrowing.specs.Windows.{Win, Long, LowestTooShort}
-use Rattle.narrowing.specs.Search.{Move}
 use Rattle.narrowing.specs.Run.{Out, settled, clash, short, run}
 use Rattle.answers.specs.Said.{Word, Said, said}
 use Rattle.joblist.specs.Limits.{jobs, fourLists, supply}
 use Rattle.joblist.specs.GoodList.{GoodList, refusal}
 use Rattle.journal.specs.Journal.{roomOf, logged, cleared}
 use Rattle.timetable.specs.Time.{Jobs}
-use Rattle.timetable.specs.Search.{search, entry}
+use Rattle.timetable.specs.Search.{search, Names, leanMember, naming}
 
 -- a call of narrowing, or of the checker: the submitted windows, durations, demands, the capacity and the log
 pub record Call : Type 0 where
@@ -51,28 +50,24 @@ pub record After : Type 0 where
 abbrev pub leaves : Said → Win → List ℕ → After
 leaves a W log = record { says = a; win = W; log = log }
 
--- what makes the record of a move
-abbrev pub Writer : Type 0
-Writer = Jobs → Move → List ℕ
-
--- the rows of a run's end; a clash before any move leaves the log as before
-unfoldable pub ended : Writer → Call → Out → After
-unfolding logged cleared
-ended w c (settled U ms) = leaves (said Word.settled (length ms ∷ [])) U (logged (map (w (jobsOf c)) ms) (c .log))
-ended w c (clash j ms) = leaves (said Word.clash (length ms ∷ j ∷ [])) (c .win) (logged (map (w (jobsOf c)) ms) (c .log))
-ended w c short = leaves (said Word.refused (5 ∷ [])) (c .win) (cleared (c .log))
+-- the rows of a run's end, with records that name M's; a clash before any move leaves the log as before
+unfoldable pub ended : Names → Call → Out → After
+unfolding logged cleared naming
+ended M c (settled U ms) = leaves (said Word.settled (length ms ∷ [])) U (logged (map (naming M (jobsOf c)) ms) (c .log))
+ended M c (clash j ms) = leaves (said Word.clash (length ms ∷ j ∷ [])) (c .win) (logged (map (naming M (jobsOf c)) ms) (c .log))
+ended M c short = leaves (said Word.refused (5 ∷ [])) (c .win) (cleared (c .log))
 
 -- the rows of refusals 1 to 3, else the run's
-unfoldable pub tabled : Writer → Call → ℕ → After
+unfoldable pub tabled : Names → Call → ℕ → After
 unfolding ended run search roomOf
-tabled w c zero = ended w c (run (search (jobsOf c)) (roomOf (c .log)) (c .win))
-tabled w c (suc k) = leaves (said Word.refused (suc k ∷ [])) (c .win) (c .log)
+tabled M c zero = ended M c (run (search (jobsOf c)) (roomOf (c .log)) (c .win))
+tabled M c (suc k) = leaves (said Word.refused (suc k ∷ [])) (c .win) (c .log)
 
--- what narrowing answers and leaves with a writer's records
-unfoldable pub narrowedBy : Writer → Call → After
+-- what narrowing answers and leaves, by whom its records name
+unfoldable pub narrowedBy : Names → Call → After
 unfolding tabled refusalOf
-narrowedBy w c = tabled w c (refusalOf c)
+narrowedBy M c = tabled M c (refusalOf c)
 
--- with its own
+-- and with the writer's own
 abbrev pub narrowed : Call → After
-narrowed = narrowedBy entry
+narrowed = narrowedBy leanMember

@@ -1,8 +1,8 @@
 -- The checker answers the logs of the table as they are due. A wrong row is refused at its own line.
 use mathlib.Core.Path.{refl}
 use Rattle.lists.specs.Lists.{Every}
-use Rattle.replay.specs.Replay.{Checked, checked}
-use Rattle.worked.specs.Rows.{Row, Right}
+use Rattle.replay.specs.Replay.{checked}
+use Rattle.worked.specs.Rows.{Right}
 use Rattle.worked.specs.Checks.{checks}
 
 pub checks-right : Every Right checks
@@ -72,20 +72,29 @@ checks-right = (
                                                               (
                                                                 refl,  -- 24
                                                                 (
-                                                                  refl,  -- 27
+                                                                  refl,  -- 40
                                                                   (
-                                                                    refl,  -- 20
+                                                                    refl,  -- 27
                                                                     (
-                                                                      refl,  -- 21
+                                                                      refl,  -- 27
                                                                       (
-                                                                        refl,  -- 22
+                                                                        refl,  -- 27
                                                                         (
-                                                                          refl,  -- 23
+                                                                          refl,  -- 20
                                                                           (
-                                                                            refl,  -- 25
+                                                                            refl,  -- 21
                                                                             (
-                                                                              refl,  -- 26
-                                                                              tt,
+                                                                              refl,  -- 22
+                                                                              (
+                                                                                refl,  -- 23
+                                                                                (
+                                                                                  refl,  -- 25
+                                                                                  (
+                                                                                    refl,  -- 26
+                                                                                    tt,
+                                                                                  ),
+                                                                                ),
+                                                                              ),
                                                                             ),
                                                                           ),
                                                                         ),

@@ -1,15 +1,19 @@
--- The wrong versions that Item 7 of document 02 would allow if its promises were weaker, each refuted on run 52 of the table by a fact of lean records,
--- without the help of `answered`. One that drops the highest number first leaves lean records too: `answered` alone refuses it.
+-- The wrong versions of shorter reasons (document 02, Item 7), each refuted on run 52 of the table by the field of the contract that names it, without the
+-- help of `answered`. One that drops the highest number first leaves lean records too: the words of the log refuse it (`answered`, and `Logged.log`).
 use Prim.Native.Nat.{ℕ, _<_}
 use native.Mathlib.Omega.{arith}
-use mathlib.Core.Path.{_≡_, refl}
+use mathlib.Core.Path.{_≡_, refl, ap}
 use mathlib.Core.List.{List, [], _∷_}
+use Rattle.lists.specs.Lists.{_!_}
 use Rattle.lists.specs.Sets.{totalOf}
+use Rattle.lists.proofs.Sets.{clash}
 use Rattle.answers.specs.Said.{Word, said}
 use Rattle.members.specs.Members.{has, onesOf}
-use Rattle.journal.specs.Journal.{recordAt}
-use Rattle.timetable.specs.Table.{Call, jobsOf, After}
-use Rattle.timetable.specs.Reasons.{LeanRecord, Reasons}
+use Rattle.journal.specs.Journal.{timeWord, isMember, recordAt}
+use Rattle.timetable.specs.Search.{member, naming}
+use Rattle.timetable.specs.Table.{Call, jobsOf, After, narrowedBy}
+use Rattle.timetable.specs.Reason.{LeanRecord}
+use Rattle.timetable.specs.Reasons.{Reasons, fullyNamed, Unmoved}
 use Rattle.replay.specs.Replay.{Checked}
 use Rattle.replay.specs.Promise.{taken, Reasoned}
 use Rattle.worked.specs.Rows.{line}
@@ -24,7 +28,7 @@ run52 = lent 5 crowd 1
 -- all three members: the first is spare
 full : LeanRecord (jobsOf run52) (line 0 0 0 3 14) → ⊥
 unfolding totalOf has
-full h = omega (arith, h .none-spare 1 refl)
+full h = omega (arith, h .lean 1 refl)
 
 -- one too many dropped: the demands named only reach the capacity
 too-few : LeanRecord (jobsOf run52) (line 0 0 0 1 8) → ⊥
@@ -41,9 +45,9 @@ miscounted : LeanRecord (jobsOf run52) (line 0 0 0 3 12) → ⊥
 unfolding onesOf
 miscounted h = omega (arith, h .counted)
 
--- ---- so no narrowing leaves it, and no checker takes it
+-- ---- so no narrowing leaves it
 
-pub writes-none : (a : After) → Reasons run52 a → a .says ≡ said Word.settled (1 ∷ []) → (x : List ℕ) → recordAt (a .log) 0 ≡ x → (LeanRecord (jobsOf run52) x → ⊥) → ⊥
+writes-none : (a : After) → Reasons run52 a → a .says ≡ said Word.settled (1 ∷ []) → (x : List ℕ) → recordAt (a .log) 0 ≡ x → (LeanRecord (jobsOf run52) x → ⊥) → ⊥
 writes-none a h e x q f = f (rw q at (h .settled 1 e .logs .lean 0 (omega arith)))
 
 pub naming-all : (a : After) → Reasons run52 a → a .says ≡ said Word.settled (1 ∷ []) → recordAt (a .log) 0 ≡ line 0 0 0 3 14 → ⊥
@@ -57,6 +61,24 @@ first-total a h e q = writes-none a h e _ q none-left
 
 pub counting-all : (a : After) → Reasons run52 a → a .says ≡ said Word.settled (1 ∷ []) → recordAt (a .log) 0 ≡ line 0 0 0 3 12 → ⊥
 counting-all a h e q = writes-none a h e _ q miscounted
+
+-- ---- nothing else may move
+
+-- with every member named the record has all three
+full52 : recordAt (fullyNamed run52 .log) 0 ≡ line 0 0 0 3 14
+unfolding narrowedBy naming member onesOf recordAt
+full52 = refl
+
+-- a job that is not one of them
+pub naming-a-stranger : (a : After) → Unmoved run52 a → recordAt (a .log) 0 ≡ line 0 0 0 2 20 → ⊥
+unfolding has
+naming-a-stranger a h q = clash (isMember (line 0 0 0 3 14) 4) (rw (q, full52) at (h .records 0 .members) 4 refl) refl
+
+-- another time
+pub moving-elsewhere : (a : After) → Unmoved run52 a → recordAt (a .log) 0 ≡ line 0 0 1 2 12 → ⊥
+moving-elsewhere a h q = let z : _≡_ {A = ℕ} 1 0 = ap (λ (x : List ℕ). x ! timeWord) (rw (q, full52) at (h .records 0 .told)) in omega arith
+
+-- ---- nor may the checker take what is not lean
 
 abbrev fullLog : Call
 fullLog = with 5 crowd (line 0 0 0 3 14)

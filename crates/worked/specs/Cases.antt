@@ -1,7 +1,7 @@
 -- Document 01's 'Runs on the record', cases 1 to 12, case 9 as Item 3 of document 02 has it; with capacity 0 and outside answers (numbers from 20:
--- 000's Example 1.27, 004's 4.1 and 4.2, a tie of latest ends), windows that are too short (from 30), and members that can be spared (Item 7, from 50). Of narrowing: capacity, jobs as e, l, p, r, the
--- log's room in records; then the answer, each job's e and l, and the words of the counted records. Every word of a log is 9 before. Of the overload
--- check: the jobs, and the pair or none.
+-- 000's Example 1.27, 004's 4.1 and 4.2, a tie of latest ends), windows that are too short (from 30) and members that can be spared (Item 7, from 50).
+-- Of narrowing: capacity, jobs as e, l, p, r, the log's room in records; then the answer, each job's e and l, and the words of the counted records. Every
+-- word of a log is 9 before. Of the overload check: the jobs, and the pair or none.
 use Prim.Native.Nat.{ℕ, _*_}
 use mathlib.Core.List.{List, [], _∷_, _++_}
 use lib.ListN.{replicate}
@@ -49,9 +49,15 @@ overloaded number js a b = heads number js (said Word.overload (a ∷ b ∷ []))
 abbrev pub fine : ℕ → List Job → Row After
 fine number js = heads number js (said Word.none [])
 
--- three jobs side by side, and one with a wide window beside them
+-- a job with a wide window beside three side by side: at its beginning, with the greatest of them first, and at its end
 abbrev pub crowd : List Job
 crowd = job 0 4 1 3 ∷ job 0 1 1 1 ∷ job 0 1 1 2 ∷ job 0 1 1 2 ∷ []
+
+abbrev pub first : List Job
+first = job 0 4 1 3 ∷ job 0 1 1 2 ∷ job 0 1 1 1 ∷ job 0 1 1 1 ∷ []
+
+abbrev pub late : List Job
+late = job 0 4 1 3 ∷ job 3 4 1 1 ∷ job 3 4 1 2 ∷ job 3 4 1 2 ∷ []
 
 abbrev pub runs : List (Row After)
 runs =
@@ -99,6 +105,10 @@ runs =
     -- of two members one is needed, whichever comes first; a moved job that exceeds the capacity by itself needs none
     clashes 50 1 (job 0 9 1 1 ∷ job 0 1 1 2 ∷ job 0 1 1 1 ∷ []) 2 2 1 (line 0 0 0 1 4 ++ line 1 0 0 0 0) ∷
     clashes 51 1 (job 0 9 1 1 ∷ job 0 1 1 1 ∷ job 0 1 1 2 ∷ []) 2 2 1 (line 0 0 0 1 4 ++ line 1 0 0 1 4) ∷
-    -- without either of the other two the demands named only reach the capacity
+    -- the first of three is dropped; without either of the other two the demands named only reach the capacity
     settles 52 5 crowd 1 1 (span 1 4 ∷ span 0 1 ∷ span 0 1 ∷ span 0 1 ∷ []) (line 0 0 0 2 12) ∷
+    -- one is dropped after one that is needed; two stay where the first alone would do; and side 1
+    settles 53 6 (job 0 4 1 3 ∷ job 0 1 1 3 ∷ job 0 1 1 1 ∷ job 0 1 1 2 ∷ []) 1 1 (span 1 4 ∷ span 0 1 ∷ span 0 1 ∷ span 0 1 ∷ []) (line 0 0 0 2 10) ∷
+    settles 54 4 first 1 1 (span 1 4 ∷ span 0 1 ∷ span 0 1 ∷ span 0 1 ∷ []) (line 0 0 0 2 12) ∷
+    settles 55 5 late 1 1 (span 0 3 ∷ span 3 4 ∷ span 3 4 ∷ span 3 4 ∷ []) (line 0 1 3 2 12) ∷
     []

@@ -5,7 +5,7 @@ use mathlib.Core.List.{List, [], _∷_, _++_}
 use Rattle.answers.specs.Said.{Word, said}
 use Rattle.timetable.specs.Table.{Call, call}
 use Rattle.replay.specs.Replay.{Checked, finds, checked}
-use Rattle.worked.specs.Cases.{crowd}
+use Rattle.worked.specs.Cases.{crowd, first, late}
 use Rattle.worked.specs.Rows.{Row, Job, job, windows, durations, draws, Span, span, spans, line}
 
 abbrev pub with : ℕ → List Job → List ℕ → Call
@@ -68,11 +68,15 @@ checks =
     rejecting 23 0 5 two 1 (line 0 0 1 9 2) ∷
     rejecting 24 0 5 two 1 (line 0 0 1 1 2) ∷
     rejecting 25 0 5 two 1 (line 0 0 1 2 6) ∷
-    -- two needed members of three, whichever they are; all three, as 01 named them; two, and too few of them
+    -- two needed members of three, whichever they are; all three, as 01 named them; one alone, which is too few
     holding 5 crowd 1 (line 0 0 0 2 12) (span 1 4 ∷ span 0 1 ∷ span 0 1 ∷ span 0 1 ∷ []) ∷
     holding 5 crowd 1 (line 0 0 0 2 6) (span 1 4 ∷ span 0 1 ∷ span 0 1 ∷ span 0 1 ∷ []) ∷
     rejecting 27 0 5 crowd 1 (line 0 0 0 3 14) ∷
     rejecting 24 0 5 crowd 1 (line 0 0 0 1 8) ∷
+    -- fewer than the writer names; side 1; a moved job that exceeds the capacity by itself
+    holding 4 first 1 (line 0 0 0 1 2) (span 1 4 ∷ span 0 1 ∷ span 0 1 ∷ span 0 1 ∷ []) ∷
+    rejecting 27 0 5 late 1 (line 0 1 3 3 14) ∷
+    rejecting 27 0 1 (job 0 3 1 2 ∷ job 0 1 1 1 ∷ []) 1 (line 0 0 0 1 2) ∷
     -- a spare member after a good record; and one beside each earlier fault that it can stand beside
     rejecting 27 1 5 (crowd ++ (job 0 4 1 3 ∷ [])) 2 (line 0 0 0 2 12 ++ line 4 0 0 3 14) ∷
     rejecting 20 1 0 (job 0 1 1 1 ∷ job 0 1 1 1 ∷ []) 2 (line 0 0 0 0 0 ++ line 1 0 0 1 1) ∷

@@ -10,7 +10,7 @@ use borrow.Author.Tests.{lt-ltb}
 use Rattle.lists.specs.Lists.{_!_}
 use Rattle.lists.specs.Tests.{both}
 use Rattle.lists.specs.Spares.{dropped}
-use Rattle.lists.proofs.Spares.{amount, counts-at, drops-at, keeps-at, skips-at}
+use Rattle.lists.proofs.Spares.{amountLeft, counts-at, drops-at, keeps-at, skips-at}
 use Rattle.narrowing.specs.Windows.{Win, win}
 use Rattle.members.specs.Members.{setWords, setOf, inserted}
 use Rattle.members.proofs.Writing.{below, below-put, below-skip, below-end}
@@ -32,7 +32,7 @@ module _ (J : Jobs) (W : Win) (j t : ℕ) where
   gathered k = setOf setWords (below (leanMember J W j t) k)
 
   abbrev pub still : ℕ → ℕ
-  still k = amount (J .n) (J .r) (J .r ! j) (J .cap) (member J W j t) k
+  still k = amountLeft (J .n) (J .r) (J .r ! j) (J .cap) (member J W j t) k
 
   module _ (few : J .n ≤ 32 * setWords) (k : ℕ) (b : k < J .n) where
     -- member k's demand is among those still named

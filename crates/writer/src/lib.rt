@@ -1,7 +1,7 @@
 // The record of a move (document 01, 'Log records'; document 02, Item 7): the members that the writer names, and the words in the log.
 ghost use mathlib.Core.Path.{_≡_};
 ghost use mathlib.Core.Bool.{not};
-ghost use Prim.Native.Nat.{ℕ, _+_, _≤_, _<_};
+ghost use Prim.Native.Nat.{_+_, _≤_, _<_};
 ghost use lib.ListN.{length};
 ghost use lib.Dec.{leb, ltb, eqb};
 ghost use Rattle.lists.specs.Tests.{both};
@@ -29,8 +29,8 @@ fn is_member(k: usize, j: usize, e: u32, l: u32, p: u32, r: u32, t: u32) -> bool
     t < e + p
 }
 
-// The set of the jobs that a record of the job at time t names: members by rising number, but those without whom the demands named, as many as are left
-// by then, still exceed the capacity.
+// The set of the jobs that a record of the job at time t names: 01's members, gone through by rising number, less each one without whom the demands still
+// named exceed the capacity.
 fn gather(
     est: &[u32],
     lct: &[u32],

@@ -1,19 +1,18 @@
--- `judge::demands::lean` meets its contract. The loop's invariant: the members among the bits passed are needed. The measure is the number of bits left.
+-- `judge::demands::lean` meets its contract. The loop's invariant: no member among the bits passed is spare. The measure is the number of bits left.
 use Prim.Native.Nat.{_≤_, _*_, _-_}
 use native.Mathlib.Omega.{arith}
 use mathlib.Core.Path.{_≡_, sym, ap, _∙_}
-use mathlib.Core.Bool.{true}
+use mathlib.Core.Bool.{true, not}
 use lib.ListN.{length, length-drop}
 use borrow.Author.Needs.{needs}
-use borrow.Author.Tests.{not-true, not-false}
 use Rattle.lists.specs.Tests.{every}
 use Rattle.journal.specs.Journal.{headWords, jobOf}
-use Rattle.judge.proofs.Steps.{every-none, every-more, every-end, neededAt, lean-fault, lean-all, member-named, needed-is}
+use Rattle.judge.proofs.Steps.{every-none, every-more, every-end, spareAt, lean-fault, lean-all, member-named, spare-is}
 use Rattle.judge.proofs.demands.lean.Statement.{statement}
 use Rattle.judge.proofs.demands.lean.Tie as tie
 
 abbrev Inv-loop : tie.InvT-loop
-Inv-loop dem cap words all set k₀ k = (k ≤ 32 * length set) × (every (neededAt dem cap (jobOf words) set) k ≡ true)
+Inv-loop dem cap words all set k₀ k = (k ≤ 32 * length set) × (every (λ i. not (spareAt dem cap (jobOf words) set i)) k ≡ true)
 
 abbrev μ-loop : tie.MeasureT-loop
 μ-loop dem cap words all set k₀ k = 32 * length set - k
@@ -32,8 +31,8 @@ mul-loop c =
     let s = c .before .before .before .before .before in
     omega (arith, s .pre .1 .words, length-drop headWords (s .args .words .now), ap length (c .before .set-of .ensures))
 
-needed-requires : tie.Need-needed-requires Inv-loop μ-loop
-needed-requires c κs =
+spare-requires : tie.Need-spare-requires Inv-loop μ-loop
+spare-requires c κs =
     let s = c .before .before .before .before .before .before in
     let k = c .before .loop .k in
     member-named (s .args .dem .now) (s .args .cap) (s .args .words .now) _ (c .before .before .set-of .ensures) k (s .pre .1 .members k) _ (c .before .before .before .named .ensures)
@@ -45,8 +44,8 @@ returns c =
     let x = s .args .words .now in
     let k = c .before .before .before .loop .k in
     let is = c .before .before .before .before .set-of .ensures in
-    let asked = needed-is r (s .args .cap) x _ is k (s .pre .1 .members k) _ (c .before .before .before .before .before .named .ensures) in
-    sym (lean-fault r (s .args .cap) x _ is k (c .before .before .loop-test .taken) (sym asked ∙ sym (c .before .needed .ensures) ∙ not-true _ (c .if1 .taken)))
+    let asked = spare-is r (s .args .cap) x _ is k (s .pre .1 .members k) _ (c .before .before .before .before .before .named .ensures) in
+    sym (lean-fault r (s .args .cap) x _ is k (c .before .before .loop-test .taken) (sym asked ∙ sym (c .before .spare .ensures) ∙ c .if1 .taken))
 
 add-k : tie.Need-add-k Inv-loop μ-loop
 add-k c =
@@ -61,8 +60,8 @@ loop-again c =
     let s = c .before .before .before .before .before .before .before .before in
     let k = c .before .before .before .loop .k in
     let asked =
-    needed-is (s .args .dem .now) (s .args .cap) (s .args .words .now) _ (c .before .before .before .before .set-of .ensures) k (s .pre .1 .members k) _ (c .before .before .before .before .before .named .ensures) in
-    (omega arith, every-more _ k (c .before .before .before .loop .inv .1) (sym asked ∙ sym (c .before .needed .ensures) ∙ not-false _ (c .if1 .left)))
+    spare-is (s .args .dem .now) (s .args .cap) (s .args .words .now) _ (c .before .before .before .before .set-of .ensures) k (s .pre .1 .members k) _ (c .before .before .before .before .before .named .ensures) in
+    (omega arith, every-more _ k (c .before .before .before .loop .inv .1) (ap not (sym asked ∙ sym (c .before .spare .ensures) ∙ c .if1 .left)))
 
 returns-2 : tie.Need-returns-2 Inv-loop μ-loop
 returns-2 c =
@@ -81,7 +80,7 @@ lean-spec =
     set-of-requires
     loop-holds
     mul-loop
-    needed-requires
+    spare-requires
     returns
     add-k
     loop-less

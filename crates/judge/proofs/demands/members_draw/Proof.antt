@@ -1,19 +1,17 @@
--- `judge::demands::members_draw` meets its contract. The loop's invariant: the sum is that of the jobs passed, at most the largest demand for each. The measure
--- is the number of jobs left.
-use Prim.Native.Nat.{_≤_, _*_, _-_}
+-- `judge::demands::members_draw` meets its contract. The loop's invariant: the sum is that of the jobs passed. The measure is the number of jobs left.
+use Prim.Native.Nat.{_+_, _≤_, _-_}
 use native.Mathlib.Omega.{arith}
 use mathlib.Core.Path.{_≡_, sym, ap, _∙_}
 use lib.ListN.{length}
 use borrow.Author.Needs.{needs}
 use Rattle.lists.proofs.Sums.{total-zero}
 use Rattle.lists.specs.Sums.{total}
-use Rattle.joblist.specs.Limits.{mostDemand}
-use Rattle.judge.proofs.Steps.{shareAt, share-most, draw-more, draw-is}
+use Rattle.judge.proofs.Steps.{shareAt, draw-more, draw-total, draw-most}
 use Rattle.judge.proofs.demands.members_draw.Statement.{statement}
 use Rattle.judge.proofs.demands.members_draw.Tie as tie
 
 abbrev Inv-loop : tie.InvT-loop
-Inv-loop dem words set sum₀ k₀ sum k = (k ≤ length dem) × (sum ≡ total (shareAt dem set) k) × (sum ≤ mostDemand * k)
+Inv-loop dem words set sum₀ k₀ sum k = (k ≤ length dem) × (sum ≡ total (shareAt dem set) k)
 
 abbrev μ-loop : tie.MeasureT-loop
 μ-loop dem words set sum₀ k₀ sum k = length dem - k
@@ -22,13 +20,19 @@ set-of-requires : tie.Need-set-of-requires Inv-loop μ-loop
 set-of-requires c κs = search needs
 
 loop-holds : tie.Need-loop-holds Inv-loop μ-loop
-loop-holds c = (omega arith, sym (total-zero (shareAt (c .before .before .before .args .dem .now) (c .set-of .result .now))), omega arith)
+loop-holds c = (omega arith, sym (total-zero (shareAt (c .before .before .before .args .dem .now) (c .set-of .result .now))))
 
 share-requires : tie.Need-share-requires Inv-loop μ-loop
 share-requires c κs = search needs
 
 add-sum : tie.Need-add-sum Inv-loop μ-loop
-add-sum c = omega (arith, share-most (c .before .before .before .before .before .before .args .dem .now) (c .before .before .before .set-of .result .now) (c .before .before .loop .k), c .before .before .before .before .before .before .pre .0 .small (c .before .before .loop .k))
+add-sum c =
+    let start = c .before .before .before .before .before .before in
+    let r = start .args .dem .now in
+    let s = c .before .before .before .set-of .result .now in
+    let l = c .before .before .loop in
+    let d = start .pre .0 in
+    omega (arith, l .inv .1, draw-more r s (l .k), draw-most r s (l .k + 1) d, c .share .ensures, d .few)
 
 add-k : tie.Need-add-k Inv-loop μ-loop
 add-k c = search needs
@@ -40,16 +44,14 @@ loop-again : tie.Need-loop-again Inv-loop μ-loop
 loop-again c =
     let s = c .before .before .before .set-of .result .now in
     let r = c .before .before .before .before .before .before .args .dem .now in
-    let k = c .before .before .loop .k in
-    (omega arith, omega (arith, draw-more r s k, c .share .ensures), omega (arith, share-most r s k, c .before .before .before .before .before .before .pre .0 .small k, c .share .ensures))
+    (omega arith, omega (arith, draw-more r s (c .before .before .loop .k), c .share .ensures))
 
 returns : tie.Need-returns Inv-loop μ-loop
 returns c =
     let r = c .before .before .before .before .before .args .dem .now in
-    let x = c .before .before .before .before .before .args .words .now in
     let s = c .before .before .set-of .result .now in
     let e : c .before .loop .k ≡ length r = omega arith in
-    (c .before .loop .inv .1 ∙ ap (total (shareAt r s)) e ∙ draw-is r x s (c .before .before .set-of .ensures), omega arith)
+    c .before .loop .inv .1 ∙ ap (total (shareAt r s)) e ∙ draw-total r s (length r) ∙ rw (c .before .before .set-of .ensures)
 
 pub members-draw-spec : {M : Type 1} → statement M
 members-draw-spec =

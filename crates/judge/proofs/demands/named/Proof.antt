@@ -1,7 +1,10 @@
 -- `judge::demands::named` meets its contract: the sum of the demands of the members is small, so that one demand more fits the word.
 use native.Mathlib.Omega.{arith}
 use borrow.Author.Needs.{needs}
-use Rattle.journal.specs.Journal.{jobOf}
+use lib.ListN.{length}
+use Rattle.lists.proofs.Sets.{totalOf-limit}
+use Rattle.joblist.specs.Limits.{mostDemand}
+use Rattle.journal.specs.Journal.{jobOf, isMember}
 use Rattle.judge.proofs.demands.named.Statement.{statement}
 use Rattle.judge.proofs.demands.named.Tie as tie
 
@@ -21,10 +24,15 @@ shared-slice-read-result-2 : tie.Need-shared-slice-read-result-2
 shared-slice-read-result-2 c = search needs
 
 add-result : tie.Need-add-result
-add-result c = omega (arith, c .before .before .before .before .before .pre .0 .small (jobOf (c .before .before .before .before .before .args .words .now)))
+add-result c =
+    let s = c .before .before .before .before .before in
+    let d = s .pre .0 in
+    let r = s .args .dem .now in
+    let x = s .args .words .now in
+    omega (arith, c .before .before .members-draw .ensures, totalOf-limit (length r) r (isMember x) mostDemand (d .small), d .few, d .small (jobOf x))
 
 returns : tie.Need-returns
-returns c = rw (c .before .before .members-draw .ensures .0)
+returns c = rw (c .before .before .members-draw .ensures)
 
 pub named-spec : {M : Type 1} → statement M
 named-spec =

@@ -10,7 +10,7 @@ use Rattle.lists.specs.Spares.{leaned}
 abbrev stay : List ℕ → ℕ → ℕ → List Bool
 stay r own limit = map (leaned (length r) r own limit (λ k. true)) (0 ∷ 1 ∷ 2 ∷ [])
 
--- one is needed, the last that is looked at; against the first total neither would stay
+-- only number 1 is needed, and number 2 counts for nothing; against the first total none would stay
 pub one-of-two : (stay (2 ∷ 1 ∷ 0 ∷ []) 1 1 ≡ false ∷ true ∷ false ∷ []) × (stay (1 ∷ 2 ∷ 0 ∷ []) 1 1 ≡ false ∷ true ∷ false ∷ [])
 unfolding leaned
 one-of-two = (refl, refl)

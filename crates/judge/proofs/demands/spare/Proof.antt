@@ -1,10 +1,10 @@
--- `judge::demands::needed` meets its contract: only a member is looked up, and a member is in the list, its demand among those named.
+-- `judge::demands::spare` meets its contract: only a member is looked up, and a member is in the list, its demand among those named.
 use native.Mathlib.Omega.{arith}
 use mathlib.Core.Path.{sym, _∙_}
 use borrow.Author.Needs.{needs}
 use borrow.Author.Tests.{not-true, not-false}
-use Rattle.judge.proofs.demands.needed.Statement.{statement}
-use Rattle.judge.proofs.demands.needed.Tie as tie
+use Rattle.judge.proofs.demands.spare.Statement.{statement}
+use Rattle.judge.proofs.demands.spare.Tie as tie
 
 has-requires : tie.Need-has-requires
 has-requires c κs = search needs
@@ -30,7 +30,7 @@ sub-result c =
 returns-2 : tie.Need-returns-2
 returns-2 c = rw (sym (c .before .before .has .ensures) ∙ not-false _ (c .before .if1 .left))
 
-pub needed-spec : {M : Type 1} → statement M
-needed-spec =
+pub spare-spec : {M : Type 1} → statement M
+spare-spec =
     tie.close
     (tie.spec has-requires returns mul-result shared-slice-read-result sub-result returns-2)
