@@ -83,6 +83,7 @@ module _ (n : ℕ) (r : List ℕ) (own limit : ℕ) (T : Set) where
             | no e ↦ rw (ne-eqb i m (λ q. omega arith)) (both-yes (left m i) ∙ f (omega arith))
           ]
 
+  -- what is left later was left before
   left-within : (k m i : ℕ) → k ≤ m → left m i ≡ true → left k i ≡ true
   unfolding dropped
   left-within k zero i h q = let e : k ≡ 0 = omega arith in rw e q

@@ -1,5 +1,5 @@
-// Time-tabling in code (01, 'The two time-tabling rules'): the load at a time, the next time at which a rule moves a job's side, and the move. How the time is found
-// is known to `next_time` alone.
+// Time-tabling in code (01, 'The two time-tabling rules'): the load at a time, the next time at which a rule moves a job's side, and the move. How the
+// time is found is known to `next_time` alone.
 ghost use mathlib.Core.Path.{_≡_};
 ghost use mathlib.Core.Bool.{not};
 ghost use Prim.Native.Nat.{_+_, _<_, _≤_};

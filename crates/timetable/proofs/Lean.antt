@@ -68,8 +68,8 @@ module _ (J : Jobs) (few : J .n ≤ 32 * setWords) where
       let named = leanMember J (m .before) (m .job) (m .choice) in
       record {
         counted = refl;
-        exceeds = words-exceed setWords (J .n) (J .r) (J .r ! m .job) (J .cap) named few (lean-exceeds J (m .before) (m .job) (m .choice) c);
         other = λ h. lean-member J (m .before) (m .job) (m .choice) (m .job) (has-given setWords named (m .job) h) .other refl;
+        exceeds = words-exceed setWords (J .n) (J .r) (J .r ! m .job) (J .cap) named few (lean-exceeds J (m .before) (m .job) (m .choice) c);
         lean = words-none-spare setWords (J .n) (J .r) (J .r ! m .job) (J .cap) named few (lean-none-spare J (m .before) (m .job) (m .choice));
       }
 
