@@ -1,5 +1,6 @@
 pub mod Bits
 pub mod Sets
+pub mod Inserted
 pub mod Spares
 pub mod Writing
 pub mod Examples

@@ -1,28 +1,26 @@
--- Member sets, over the number of words: the set of given members and what it has, that the members make the set, how many ones there are,
--- and what is a member after one is put in.
+-- Member sets, over the number of words: the set of given members and what it has, that the members make the set, and how many ones there are.
 use Prim.Native.Nat.{ℕ, zero, suc, _+_, _*_, _/_, _%_, _^_, _≤_, _<_}
 use mathlib.Core.Path.{_≡_, refl, sym, ap, _∙_}
 use mathlib.Core.Bool.{Bool, true, false, not}
 use mathlib.Core.List.{List, [], _∷_}
 use native.Mathlib.Omega.{arith}
-use native.Mathlib.Decide.{decLt, ℕ-discrete}
+use native.Mathlib.Decide.{decLt}
 use native.Mathlib.Nat.{zero-div}
 use native.Mathlib.Numerals.{add-one}
-use borrow.Author.Tests.{eq-eqb}
-use lib.Bits.{bitAnd, bitOr, or-lt}
+use lib.Bits.{bitAnd}
 use lib.Count.{onesIn, ones}
 use lib.Dec.{eqb}
-use lib.ListN.{length, drop, length-set, drop-of-length-le, List·getD-eq-default}
-use lib.Pow.{pow-lt, pow-pos}
-use lib.Seq.{drop-cons, getD-set-same, getD-set-other, set-out}
+use lib.ListN.{length, drop, drop-of-length-le, List·getD-eq-default}
+use lib.Pow.{pow-pos}
+use lib.Seq.{drop-cons}
 use Rattle.lists.specs.Lists.{_!_}
 use Rattle.lists.specs.Tests.{only}
 use Rattle.lists.specs.Sums.{total}
-use Rattle.lists.proofs.Lists.{set-any, same-list}
+use Rattle.lists.proofs.Lists.{same-list}
 use Rattle.lists.proofs.Sums.{total-zero, total-cong}
 use Rattle.lists.proofs.Stretches.{total-join}
-use Rattle.members.specs.Members.{has, onesOf, word, words, setOf, inserted, AreWords}
-use Rattle.members.proofs.Bits.{bitOf, bit-lt, mask-test, ones-bits, ones-most, ones-all, word-lt, word-bit, word-unique, or-same, or-other}
+use Rattle.members.specs.Members.{has, onesOf, word, words, setOf, AreWords}
+use Rattle.members.proofs.Bits.{bitOf, bit-lt, mask-test, ones-bits, ones-most, ones-all, word-lt, word-bit, word-unique}
 
 -- ---- a bit as a test
 
@@ -179,40 +177,3 @@ ones-drop ws i h b = rw (add-one, drop-cons ws i 0 h, ones-cons, ones-all 32 (ws
 
 pub ones-end : (ws : List ℕ) (i : ℕ) → length ws ≤ i → onesOf (drop i ws) ≡ 0
 ones-end ws i h = rw (drop-of-length-le ws h) ones-none
-
--- ---- after one is put in
-
-pub inserted-length : (ws : List ℕ) (k : ℕ) → length (inserted ws k) ≡ length ws
-unfolding inserted
-inserted-length ws k = length-set ws (k / 32) (bitOr (ws ! (k / 32)) (2 ^ (k % 32)))
-
-pub inserted-words : (ws : List ℕ) (k : ℕ) → AreWords ws → AreWords (inserted ws k)
-unfolding inserted
-inserted-words ws k h q =
-    let bit : 2 ^ (k % 32) < 2 ^ 32 = pow-lt {i = k % 32} {j = 32} (omega arith) in
-    set-any (λ x. x < 2 ^ 32) ws (k / 32) (bitOr (ws ! (k / 32)) (2 ^ (k % 32))) q (λ e. or-lt 32 (ws ! (k / 32)) (2 ^ (k % 32)) (h (k / 32)) bit) (h q)
-
--- beyond the words nothing is put in
-pub inserted-past : (ws : List ℕ) (k : ℕ) → 32 * length ws ≤ k → inserted ws k ≡ ws
-unfolding inserted
-inserted-past ws k h = set-out ws (k / 32) (bitOr (ws ! (k / 32)) (2 ^ (k % 32))) (omega arith)
-
-pub inserted-same : (ws : List ℕ) (k : ℕ) → k < 32 * length ws → has (inserted ws k) k ≡ true
-unfolding inserted has
-inserted-same ws k h =
-    let x = ws ! (k / 32) in
-    rw (getD-set-same ws (k / 32) (bitOr x (2 ^ (k % 32))) 0 (omega arith)) (eq-eqb _ 1 (or-same x (k % 32)))
-
-pub inserted-other : (ws : List ℕ) (k i : ℕ) → (i ≡ k → ⊥) → has (inserted ws k) i ≡ has ws i
-unfolding inserted has
-inserted-other ws k i ne =
-    let x = ws ! (k / 32) in
-    let y = bitOr x (2 ^ (k % 32)) in
-    elim (ℕ-discrete (i / 32) (k / 32)) [
-      | no d ↦ rw (getD-set-other ws (k / 32) (i / 32) y 0 d)
-      | yes e ↦
-          elim (decLt k (32 * length ws)) [
-            | yes h ↦ rw (e, getD-set-same ws (k / 32) y 0 (omega arith), or-other x (k % 32) (i % 32) (λ q. ne (omega arith)))
-            | no h ↦ rw (set-out ws (k / 32) y (omega arith))
-          ]
-    ]

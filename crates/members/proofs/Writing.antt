@@ -12,7 +12,8 @@ use lib.Pow.{pow-pos}
 use Rattle.lists.proofs.Lists.{zeros-at}
 use Rattle.lists.specs.Tests.{both}
 use Rattle.members.specs.Members.{has, setOf, inserted, AreWords}
-use Rattle.members.proofs.Sets.{setOf-length, setOf-words, has-setOf, setOf-unique, setOf-cong, inserted-length, inserted-words, inserted-same, inserted-other}
+use Rattle.members.proofs.Sets.{setOf-length, setOf-words, has-setOf, setOf-unique, setOf-cong}
+use Rattle.members.proofs.Inserted.{inserted-length, inserted-words, inserted-same, inserted-other}
 
 -- f's members below k
 abbrev pub below : (ℕ → Bool) → ℕ → ℕ → Bool

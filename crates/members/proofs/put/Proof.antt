@@ -3,7 +3,7 @@ use mathlib.Core.Path.{sym}
 use native.Mathlib.Omega.{arith}
 use borrow.Author.Needs.{needs}
 use Rattle.members.specs.Members.{inserted}
-use Rattle.members.proofs.Sets.{inserted-past}
+use Rattle.members.proofs.Inserted.{inserted-past}
 use Rattle.members.proofs.put.Statement.{statement}
 use Rattle.members.proofs.put.Tie as tie
 
