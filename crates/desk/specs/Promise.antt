@@ -2,7 +2,8 @@
 pub use Rattle.narrowing.specs.Windows.{Win, win, Long}
 pub use Rattle.timetable.specs.Table.{Call, call, Good, AllLong, TooShort, After, leaves}
 pub use Rattle.timetable.specs.Promise.{Scheduled, StableIn, LargestIn, NoneIn, Kept, Narrowest, Narrows}
-pub use Rattle.timetable.specs.Reasons.{Reasons}
+pub use Rattle.timetable.specs.Reason.{LeanRecord}
+pub use Rattle.timetable.specs.Reasons.{Reasons, Shortens, Shortened, Unmoved}
 pub use Rattle.journal.specs.Journal.{recordAt}
 pub use Rattle.replay.specs.Replay.{Checked, finds}
 pub use Rattle.replay.specs.Promise.{Checks}

@@ -3,17 +3,18 @@
 use Prim.Native.Nat.{ℕ, zero, suc, _*_, _≤_, _<_}
 use native.Mathlib.Omega.{arith}
 use mathlib.Core.Path.{_≡_, refl, sym, subst}
-use mathlib.Core.Bool.{true, not}
+use mathlib.Core.Bool.{true, false, not}
 use mathlib.Core.List.{List, [], _∷_, map}
 use lib.Dec.{eqb}
 use lib.ListN.{length, getD}
 use borrow.Author.Tests.{ne-eqb, eqb-false, not-true}
 use Rattle.lists.specs.Lists.{_!_}
 use Rattle.lists.specs.Tests.{both, only}
-use Rattle.lists.specs.Sets.{totalOf}
-use Rattle.lists.specs.Spares.{amount, NoneSpare}
+use Rattle.lists.specs.Sets.{Set, totalOf}
+use Rattle.lists.specs.Spares.{without, amount, NoneSpare}
 use Rattle.lists.proofs.Tests.{both-true, true-both, only-cong}
 use Rattle.lists.proofs.Sums.{total-cong}
+use Rattle.lists.proofs.Sets.{clash, totalOf-sub}
 use Rattle.lists.proofs.Spares.{leaned-in, leaned-exceeds, leaned-none-spare}
 use Rattle.narrowing.specs.Windows.{Win, Side, early}
 use Rattle.narrowing.specs.Search.{Move}
@@ -21,7 +22,7 @@ use Rattle.narrowing.specs.Rounds.{Chosen}
 use Rattle.members.specs.Members.{setWords}
 use Rattle.members.proofs.Sets.{has-given}
 use Rattle.members.proofs.Spares.{words-exceed, words-none-spare}
-use Rattle.journal.specs.Journal.{roomOf, recordAt, logged}
+use Rattle.journal.specs.Journal.{jobOf, isMember, roomOf, recordAt, logged}
 use Rattle.journal.proofs.Records.{logged-record}
 use Rattle.timetable.specs.Time.{Jobs, sure, load, Crowded, Applies}
 use Rattle.timetable.specs.Search.{search, Member, member, leanMember, naming, entry}
@@ -60,6 +61,17 @@ module _ (J : Jobs) (W : Win) (j t : ℕ) where
   lean-none-spare = leaned-none-spare (J .n) (J .r) (J .r ! j) (J .cap) (member J W j t) (λ k h. member-yes J W j t k h .listed)
 
 -- ---- records
+
+-- no part of a lean record's members would do
+pub none-fewer : (J : Jobs) (x : List ℕ) → LeanRecord J x → (S : Set) → ((k : ℕ) → S k ≡ true → isMember x k ≡ true) → (k : ℕ) → isMember x k ≡ true → S k ≡ false
+    → amount (J .n) (J .r) (J .r ! jobOf x) S ≤ J .cap
+none-fewer J x h S some k m out =
+    omega (
+      arith,
+      h .lean k m,
+      totalOf-sub (J .n) (J .r) S (without (isMember x) k)
+          (λ i b q. true-both (not (eqb i k)) (isMember x i) (rw (ne-eqb i k (λ e. clash (S k) (rw e at q) out))) (some i q)),
+    )
 
 module _ (J : Jobs) (few : J .n ≤ 32 * setWords) where
   pub entry-lean : (m : Move) → Crowded J (m .before) (m .job) (m .choice) → LeanRecord J (entry J m)
