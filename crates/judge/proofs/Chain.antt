@@ -2,7 +2,7 @@
 -- tests can look its jobs up.
 use Prim.Native.Nat.{ℕ}
 use native.Mathlib.Omega.{arith}
-use mathlib.Core.Path.{_≡_}
+use mathlib.Core.Path.{_≡_, refl}
 use mathlib.Core.Bool.{true}
 use mathlib.Core.List.{List, []}
 use lib.Dec.{ltb, eqb}
@@ -62,7 +62,7 @@ placed n p r x h q w = record {
 
 -- the demands of a good list
 pub drawn : (W : Win) (p r : List ℕ) (cap : ℕ) → Good (call W p r cap []) → Drawn r
-drawn W p r cap g = record { few = omega (arith, g .few, g .sized .1 .1 .1 .0); small = g .within .1 .1 .1 .0 }
+drawn W p r cap g = record { sized = (refl, tt); few = omega (arith, g .few, g .sized .1 .1 .1 .0); within = (g .within .1 .1 .1 .0, tt); beside = tt }
 
 -- good lists are good without their demands
 pub timed : (W : Win) (p r : List ℕ) (cap : ℕ) → Good (call W p r cap []) → Timed W p

@@ -1,5 +1,5 @@
 -- Each code's test with its fact and its fault; a code is given exactly when 01 says so and no code before it is.
-use Prim.Native.Nat.{ℕ, suc, _+_, _*_, _≤_, _<_}
+use Prim.Native.Nat.{ℕ, _+_, _*_, _≤_, _<_}
 use native.Mathlib.Omega.{arith}
 use mathlib.Core.Path.{_≡_, refl}
 use mathlib.Core.Bool.{Bool, true, not}
@@ -21,7 +21,7 @@ use Rattle.journal.specs.Journal.{sideWord, countWord, setOfRecord, jobOf, time
 use Rattle.timetable.specs.Time.{Jobs, Sure, sure}
 use Rattle.timetable.specs.Reason.{named, Lean}
 use Rattle.judge.specs.Codes.{Coded, inRange, takesPart, partners, ownTrue, statedTrue, tightens, lean, code}
-use Rattle.judge.specs.Facts.{side, InRange, TakesPart, Partners, OwnTrue, StatedTrue, Tightens, GoodRecord}
+use Rattle.judge.specs.Facts.{side, InRange, TakesPart, Partners, OwnTrue, StatedTrue, Tightens, Passes, GoodRecord}
 use Rattle.judge.specs.Faults.{OutOfRange, Idle, BadPartner, OwnFalse, Untrue, Idles, HasSpare, OnlySpare}
 
 -- ---- the tests of the codes
@@ -148,42 +148,38 @@ module _ (J : Jobs) (W : Win) (x : List ℕ) where
       (unless-exactly (tightens-judged (side x)) 26 _ k
       (unless-exactly lean-judged 27 0 k ((λ h. h), (λ h. h))))))))
 
+  -- any other number than 21 to 26 is given where these pass: 27 for a spare member, 0 for none
+  abbrev Behind : ℕ → Type 0
+  Behind k = Passes J W x × ((HasSpare J x × (27 ≡ k)) ⊎ (Lean J x × (0 ≡ k)))
+
+  behind : (k : ℕ) → (21 ≤ k → k ≤ 26 → ⊥) → Coded J W x k → Behind k
+  behind k f (inl q) = absurd (f (omega (arith, q .1)) (omega (arith, q .1)))
+  behind k f (inr (r, inl q)) = absurd (f (omega (arith, q .1)) (omega (arith, q .1)))
+  behind k f (inr (r, inr (a, inl q))) = absurd (f (omega (arith, q .1)) (omega (arith, q .1)))
+  behind k f (inr (r, inr (a, inr (b, inl q)))) = absurd (f (omega (arith, q .1)) (omega (arith, q .1)))
+  behind k f (inr (r, inr (a, inr (b, inr (c, inl q))))) = absurd (f (omega (arith, q .1)) (omega (arith, q .1)))
+  behind k f (inr (r, inr (a, inr (b, inr (c, inr (d, inl q)))))) = absurd (f (omega (arith, q .1)) (omega (arith, q .1)))
+  behind k f (inr (r, inr (a, inr (b, inr (c, inr (d, inr (e, z))))))) =
+      (record { in-range = r; partners = a; counted = b; exceeds = c; stated = d; tightens = e }, z)
+
+  coded : (k : ℕ) → Behind k → Coded J W x k
+  coded k (g, z) = inr (g .in-range, inr (g .partners, inr (g .counted, inr (g .exceeds, inr (g .stated, inr (g .tightens, z))))))
+
   -- 0 is a good record
   pub good-record : code J W x ≡ 0 → GoodRecord J W x
-  good-record h = go (code-exactly 0 .0 h)
+  good-record h = go (behind 0 (λ a b. omega arith) (code-exactly 0 .0 h))
     where
-      zero-not : (m : ℕ) → suc m ≡ 0 → ⊥
-      zero-not m e = omega arith
-
-      go : Coded J W x 0 → GoodRecord J W x
-      go (inl q) = absurd (zero-not 20 (q .1))
-      go (inr (r, inl q)) = absurd (zero-not 21 (q .1))
-      go (inr (r, inr (a, inl q))) = absurd (zero-not 22 (q .1))
-      go (inr (r, inr (a, inr (b, inl q)))) = absurd (zero-not 23 (q .1))
-      go (inr (r, inr (a, inr (b, inr (c, inl q))))) = absurd (zero-not 24 (q .1))
-      go (inr (r, inr (a, inr (b, inr (c, inr (d, inl q)))))) = absurd (zero-not 25 (q .1))
-      go (inr (r, inr (a, inr (b, inr (c, inr (d, inr (e, inl q))))))) = absurd (zero-not 26 (q .1))
-      go (inr (r, inr (a, inr (b, inr (c, inr (d, inr (e, inr q))))))) =
-          record { in-range = r; partners = a; counted = b; exceeds = c; stated = d; tightens = e; lean = q .0 }
+      go : Behind 0 → GoodRecord J W x
+      go (g, inl q) = absurd (omega (arith, q .1))
+      go (g, inr q) = record { passes = g; lean = q .0 }
 
   pub record-good : GoodRecord J W x → code J W x ≡ 0
-  record-good g =
-      code-exactly 0 .1 (inr (g .in-range, inr (g .partners, inr (g .counted, inr (g .exceeds, inr (g .stated, inr (g .tightens, inr (g .lean, refl))))))))
+  record-good g = code-exactly 0 .1 (coded 0 (g .passes, inr (g .lean, refl)))
 
   -- 27 is a spare member in a record that is good else
   pub spare-exactly : Coded J W x 27 ↔ OnlySpare J W x
-  spare-exactly = (go, back)
+  spare-exactly = (λ h. go (behind 27 (λ a b. omega arith) h), λ s. coded 27 (s .passes, inl (s .spare, refl)))
     where
-      go : Coded J W x 27 → OnlySpare J W x
-      go (inl q) = absurd (omega (arith, q .1))
-      go (inr (r, inl q)) = absurd (omega (arith, q .1))
-      go (inr (r, inr (a, inl q))) = absurd (omega (arith, q .1))
-      go (inr (r, inr (a, inr (b, inl q)))) = absurd (omega (arith, q .1))
-      go (inr (r, inr (a, inr (b, inr (c, inl q))))) = absurd (omega (arith, q .1))
-      go (inr (r, inr (a, inr (b, inr (c, inr (d, inl q)))))) = absurd (omega (arith, q .1))
-      go (inr (r, inr (a, inr (b, inr (c, inr (d, inr (e, inl q))))))) =
-          record { in-range = r; partners = a; counted = b; exceeds = c; stated = d; tightens = e; spare = q .0 }
-      go (inr (r, inr (a, inr (b, inr (c, inr (d, inr (e, inr q))))))) = absurd (omega (arith, q .1))
-
-      back : OnlySpare J W x → Coded J W x 27
-      back s = inr (s .in-range, inr (s .partners, inr (s .counted, inr (s .exceeds, inr (s .stated, inr (s .tightens, inl (s .spare, refl)))))))
+      go : Behind 27 → OnlySpare J W x
+      go (g, inl q) = record { passes = g; spare = q .0 }
+      go (g, inr q) = absurd (omega (arith, q .1))

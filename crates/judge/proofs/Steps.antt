@@ -14,7 +14,7 @@ use Rattle.lists.specs.Tests.{both, where?, only, every}
 use Rattle.lists.specs.Sums.{total}
 use Rattle.lists.specs.Sets.{totalOf}
 use Rattle.lists.specs.Spares.{without, amount, spare}
-use Rattle.lists.proofs.Tests.{both-false, every-at}
+use Rattle.lists.proofs.Tests.{both-false, every-fault}
 use Rattle.lists.proofs.Sums.{total-suc}
 use Rattle.lists.proofs.Sets.{totalOf-limit}
 use Rattle.lists.proofs.Spares.{without-total}
@@ -27,28 +27,6 @@ use Rattle.timetable.specs.Reason.{named}
 use Rattle.judge.specs.Facts.{side}
 use Rattle.judge.specs.Codes.{takesPart, partners, ownTrue, statedTrue, tightens, lean}
 use Rattle.judge.specs.Lent.{jobsIn, Drawn}
-
--- ---- a test at every number below m, from 0 up
-
-pub every-none : (f : ℕ → Bool) → every f 0 ≡ true
-unfolding every
-every-none f = refl
-
-pub every-more : (f : ℕ → Bool) (k : ℕ) → every f k ≡ true → f k ≡ true → every f (k + 1) ≡ true
-unfolding every
-every-more f k h q = rw (add-one, q, h)
-
--- where it fails below m
-pub every-fault : (f : ℕ → Bool) (m k : ℕ) → k < m → f k ≡ false → every f m ≡ false
-every-fault f m k b h = go (every f m) refl
-  where
-    go : (x : Bool) → every f m ≡ x → every f m ≡ false
-    go false e = e
-    go true e = let q = every-at f m e k b in cc
-
--- the number of the bits looked at is the number of bits
-pub every-end : (f : ℕ → Bool) (m k : ℕ) → k ≤ m → m ≤ k → every f k ≡ true → every f m ≡ true
-every-end f m k a b h = let e : m ≡ k = omega arith in rw e h
 
 -- ---- sides: any number but 0 is side 1
 
@@ -112,7 +90,7 @@ draw-total r s k = refl
 
 -- so few and so small that a sum fits
 pub draw-most : (r s : List ℕ) (k : ℕ) → Drawn r → total (shareAt r s) k ≤ k * mostDemand
-draw-most r s k d = rw (draw-total r s k) (totalOf-limit k r (has s) mostDemand (d .small))
+draw-most r s k d = rw (draw-total r s k) (totalOf-limit k r (has s) mostDemand (d .within .0))
 
 -- ---- 25
 

@@ -50,12 +50,16 @@ abbrev pub Tightens : Win → ℕ → Side → ℕ → Type 0
 Tightens W j early t = W .e ! j ≤ t
 Tightens W j late t = t < W .l ! j
 
--- a good record
-pub record GoodRecord (J : Jobs) (W : Win) (x : List ℕ) : Type 0 where
+-- the facts of 21 to 26: all that a record's change needs
+pub record Passes (J : Jobs) (W : Win) (x : List ℕ) : Type 0 where
   pub in-range : InRange J x
   pub partners : Partners J x
   pub counted : Counted x
   pub exceeds : Exceeds J x
   pub stated : StatedTrue J W x
   pub tightens : Tightens W (jobOf x) (side x) (timeOf x)
+
+-- a good record
+pub record GoodRecord (J : Jobs) (W : Win) (x : List ℕ) : Type 0 where
+  pub passes : Passes J W x
   pub lean : Lean J x

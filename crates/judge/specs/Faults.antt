@@ -10,8 +10,7 @@ use Rattle.narrowing.specs.Windows.{Win, Side, early, late}
 use Rattle.joblist.specs.Limits.{mostTime}
 use Rattle.journal.specs.Journal.{sideWord, jobOf, timeOf, isMember}
 use Rattle.timetable.specs.Time.{Jobs}
-use Rattle.timetable.specs.Reason.{Counted, Exceeds}
-use Rattle.judge.specs.Facts.{side, InRange, Partners, StatedTrue, Tightens}
+use Rattle.judge.specs.Facts.{side, Passes}
 
 abbrev pub OutOfRange : Jobs → List ℕ → Type 0
 OutOfRange J x = (J .n ≤ jobOf x) ⊎ ((1 < x ! sideWord) ⊎ (mostTime < timeOf x))
@@ -45,10 +44,5 @@ HasSpare J x = (k : ℕ) × Spare (J .n) (J .r) (J .r ! jobOf x) (J .cap) (isMem
 
 -- a record that is good but for a spare member
 pub record OnlySpare (J : Jobs) (W : Win) (x : List ℕ) : Type 0 where
-  pub in-range : InRange J x
-  pub partners : Partners J x
-  pub counted : Counted x
-  pub exceeds : Exceeds J x
-  pub stated : StatedTrue J W x
-  pub tightens : Tightens W (jobOf x) (side x) (timeOf x)
+  pub passes : Passes J W x
   pub spare : HasSpare J x

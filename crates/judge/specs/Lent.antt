@@ -2,11 +2,10 @@
 use Prim.Native.Nat.{ℕ, _≤_, _<_}
 use mathlib.Core.Path.{_≡_}
 use mathlib.Core.Bool.{true}
-use mathlib.Core.List.{List, []}
+use mathlib.Core.List.{List, [], _∷_}
 use lib.ListN.{length}
-use Rattle.lists.specs.Lists.{_!_}
 use Rattle.narrowing.specs.Windows.{Win}
-use Rattle.joblist.specs.Limits.{mostJobs, mostTime, mostDemand, jobs, threeLists}
+use Rattle.joblist.specs.Limits.{mostTime, demands, jobs, threeLists}
 use Rattle.joblist.specs.GoodList.{GoodList}
 use Rattle.journal.specs.Journal.{recordWords, jobOf, timeOf, isMember}
 use Rattle.timetable.specs.Time.{Jobs}
@@ -20,9 +19,8 @@ abbrev pub Timed : Win → List ℕ → Type 0
 Timed W p = GoodList (jobs W) (threeLists W p) []
 
 -- demands that passed the tests 1 to 3
-pub record Drawn (r : List ℕ) : Type 0 where
-  pub few : length r ≤ mostJobs
-  pub small : (k : ℕ) → r ! k ≤ mostDemand
+abbrev pub Drawn : List ℕ → Type 0
+Drawn r = GoodList (length r) (demands r ∷ []) []
 
 -- a record that codes 21 and 22 let through: its job and its members are among n jobs, its time is small
 pub record Placed (n : ℕ) (x : List ℕ) : Type 0 where

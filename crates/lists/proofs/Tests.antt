@@ -1,6 +1,7 @@
 -- Tests and the facts that they stand for.
-use Prim.Native.Nat.{ℕ, zero, suc, _≤_, _<_}
+use Prim.Native.Nat.{ℕ, zero, suc, _+_, _≤_, _<_}
 use native.Mathlib.Omega.{arith}
+use native.Mathlib.Numerals.{add-one}
 use native.Mathlib.Decide.{ℕ-discrete, decLe}
 use mathlib.Core.Path.{_≡_, refl, sym}
 use mathlib.Core.Bool.{Bool, true, false}
@@ -54,6 +55,26 @@ pub at-every : (f : ℕ → Bool) (m : ℕ) → ((k : ℕ) → k < m → f k ≡
 unfolding every
 at-every f zero h = refl
 at-every f (suc m) h = true-both (f m) (every f m) (h m (omega arith)) (at-every f m (λ k b. h k (omega arith)))
+
+-- as a loop makes it, from 0 up
+pub every-none : (f : ℕ → Bool) → every f 0 ≡ true
+unfolding every
+every-none f = refl
+
+pub every-more : (f : ℕ → Bool) (k : ℕ) → every f k ≡ true → f k ≡ true → every f (k + 1) ≡ true
+unfolding every
+every-more f k h q = rw (add-one, q, h)
+
+pub every-end : (f : ℕ → Bool) (m k : ℕ) → k ≤ m → m ≤ k → every f k ≡ true → every f m ≡ true
+every-end f m k a b h = let e : m ≡ k = omega arith in rw e h
+
+-- where it fails below m
+pub every-fault : (f : ℕ → Bool) (m k : ℕ) → k < m → f k ≡ false → every f m ≡ false
+every-fault f m k b h = go (every f m) refl
+  where
+    go : (x : Bool) → every f m ≡ x → every f m ≡ false
+    go false e = e
+    go true e = let q = every-at f m e k b in cc
 
 pub either-left : (a b : Bool) → a ≡ true → either a b ≡ true
 either-left a b h = rw h

@@ -1,4 +1,5 @@
-// Narrowing (document 01, 'Answer table'; document 02, Item 3): the call, on copies of the windows. `rounds` does the work.
+// Narrowing (document 01, 'Answer table'; document 02, Item 3): the call, on copies of the windows. `rounds` does the work, the crate
+// `writer` puts its records down.
 mod rounds;
 
 use answers::Answer;

@@ -23,7 +23,7 @@ use Rattle.timetable.proofs.Law.{lawful}
 use Rattle.timetable.proofs.Rows.{settled-row}
 use Rattle.timetable.proofs.Again.{same-jobs, good-again, long-again, word}
 use Rattle.judge.specs.Codes.{Coded}
-use Rattle.judge.specs.Facts.{side, OwnTrue, StatedTrue, GoodRecord}
+use Rattle.judge.specs.Facts.{side, OwnTrue, StatedTrue, Passes, GoodRecord}
 use Rattle.judge.specs.Faults.{Idles}
 use Rattle.replay.specs.Replay.{rejected, Checked, finds}
 use Rattle.replay.specs.Fate.{reached, nth}
@@ -31,8 +31,8 @@ use Rattle.replay.specs.Promise.{Checks}
 use Rattle.replay.proofs.Taken.{entry-good}
 use Rattle.replay.proofs.Rows.{fate-answers}
 
--- a record that was good on W, on windows U inside W that respect its change: every test passes but the last
-module _ (J : Jobs) (W U : Win) (i : Inside (J .n) U W) (x : List ℕ) (g : GoodRecord J W x) where
+-- a record that passed on W, on windows U inside W that respect its change: its facts are still true, and it tightens nothing
+module _ (J : Jobs) (W U : Win) (i : Inside (J .n) U W) (x : List ℕ) (g : Passes J W x) where
   stated-inside : StatedTrue J U x
   stated-inside =
       record {
@@ -82,7 +82,7 @@ module _ (c : Call) (a : After) (h : Narrows c a) (n : ℕ) (e : a .says ≡ sai
       stable-respects (J .n) (J .p) (Applies J) (lawful J) (a .win) (c .win) (y .job) (y .side) (bound (y .side) (y .choice)) (big .one .inside) (big .one .stable) (ch .listed) (ch .applies) in
       subst (λ (w : List ℕ). Coded (jobsOf again) (a .win) w 26) (sym first)
       (subst (λ (I : Jobs). Coded I (a .win) (entry J y) 26) (sym (same-jobs c a h (suc n) e (a .log)))
-      (spent J (c .win) (a .win) (big .one .inside) (entry J y) good (respects-entry y kept)))
+      (spent J (c .win) (a .win) (big .one .inside) (entry J y) (good .passes) (respects-entry y kept)))
     where
       respects-entry : (y : Move) → Respects (a .win) (y .job) (y .side) (bound (y .side) (y .choice))
           → Respects (a .win) (jobOf (entry J y)) (side (entry J y)) (bound (side (entry J y)) (timeOf (entry J y)))

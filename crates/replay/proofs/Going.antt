@@ -43,7 +43,7 @@ bound-small W p r cap g j late t b m h = m
 
 module _ (p r : List ℕ) (cap : ℕ) (W : Win) (x : List ℕ) (taken : code (jobsIn (length p) p r cap) W x ≡ 0) where
   pub taken-range : InRange (jobsIn (length p) p r cap) x
-  taken-range = good-record (jobsIn (length p) p r cap) W x taken .in-range
+  taken-range = good-record (jobsIn (length p) p r cap) W x taken .passes .in-range
 
   good-changed : Good (call W p r cap []) → closes p (changed W x) (jobOf x) ≡ false → Good (call (changed W x) p r cap [])
   unfolding changed

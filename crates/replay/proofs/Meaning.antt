@@ -43,7 +43,13 @@ module _ (c : Call) where
   fate-takes count (rejected a k) (d, inr (o, q, n)) i b = o .held i b .0
 
   reasoned : (i : ℕ) → Takes c i → Reasoned c i
-  reasoned i g = record { implies = implies (jobsOf c) (reached c i) _ g; true-there = true-there (jobsOf c) (reached c i) _ g; lean = record { counted = g .counted; other = λ h. g .partners .members _ h .1 refl; exceeds = g .exceeds; lean = g .lean } }
+  reasoned i t =
+      let g = t .passes in
+      record {
+        implies = implies (jobsOf c) (reached c i) _ g;
+        true-there = true-there (jobsOf c) (reached c i) _ g;
+        lean = record { counted = g .counted; other = λ h. g .partners .members _ h .1 refl; exceeds = g .exceeds; lean = t .lean };
+      }
 
   fate-kept : (count : ℕ) (v : Verdict) → Fate c count v → (s : List ℕ) → Scheduled c (c .win) s → Scheduled c (judged c count v .win) s
   fate-kept count (holds U) f s x =
@@ -58,7 +64,7 @@ module _ (c : Call) where
   shut-none zero j x = too-short-none c j (x .listed) (x .shorter)
   shut-none (suc h) j (y, q) =
       step-none (jobsOf c .n) (c .p) (Applies (jobsOf c)) (c .win) (reached c (suc h)) (reached-step c (suc h) (closing-takes h y))
-      (closed-none-left (jobsOf c .n) (c .p) (Applies (jobsOf c)) (reached c (suc h)) _ (y .takes .in-range .job) (lt-ltb _ _ (y .closed)))
+      (closed-none-left (jobsOf c .n) (c .p) (Applies (jobsOf c)) (reached c (suc h)) _ (y .takes .passes .in-range .job) (lt-ltb _ _ (y .closed)))
 
   fate-none : (count : ℕ) (v : Verdict) → Fate c count v → judged c count v .says .word ≡ Word.clash → (s : List ℕ) → Scheduled c (c .win) s → ⊥
   fate-none count (holds U) f e s x = not-said Word.holds Word.clash (λ q. omega arith) e

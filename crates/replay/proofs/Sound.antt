@@ -1,4 +1,5 @@
--- A good record is a rule's move, implies its own change from the facts that it names, and these hold of all starts in the windows reached.
+-- A record that passes codes 21 to 26 is a rule's move, implies its own change from the facts that it names, and these hold of all starts in the windows
+-- reached; whether a member is spare plays no part.
 use Prim.Native.Nat.{ℕ, zero, suc, _+_, _≤_, _<_}
 use native.Mathlib.Omega.{arith}
 use native.Mathlib.Decide.{decLt, decLe}
@@ -24,11 +25,11 @@ use Rattle.timetable.specs.Table.{Call, jobsOf}
 use Rattle.timetable.proofs.Facts.{yes-runs, yes-member}
 use Rattle.timetable.proofs.Law.{lawful}
 use Rattle.timetable.proofs.Lean.{members-load}
-use Rattle.judge.specs.Facts.{side, OwnTrue, Tightens, GoodRecord}
+use Rattle.judge.specs.Facts.{side, OwnTrue, Tightens, Passes}
 use Rattle.replay.specs.Replay.{changed}
 use Rattle.replay.specs.Fate.{reached, Takes}
 
-module _ (J : Jobs) (W : Win) (x : List ℕ) (g : GoodRecord J W x) where
+module _ (J : Jobs) (W : Win) (x : List ℕ) (g : Passes J W x) where
   -- ---- a rule's move
 
   -- its members are some of 01's, so that their demands are part of the others' load
@@ -110,4 +111,4 @@ module _ (c : Call) where
   reached-step zero t = step-refl (jobsOf c .n) (c .p) (Applies (jobsOf c)) (c .win)
   reached-step (suc i) t =
       step-trans (jobsOf c .n) (c .p) (Applies (jobsOf c)) (c .win) (reached c i) _ (reached-step i (λ h b. t h (omega arith)))
-      (record-step (jobsOf c) (reached c i) _ (t i (omega arith)))
+      (record-step (jobsOf c) (reached c i) _ (t i (omega arith) .passes))

@@ -57,22 +57,21 @@ module _ (J : Jobs) (W : Win) (few : J .n ≤ 32 * setWords) (L : Long (J .n) (J
       let c = crowded-at J W j s t a in
       let lean = entry-lean J few (move W j s t) c in
       record {
-        in-range = record { job = b; side = number-most s; time = omega (arith, before-end s a) };
-        partners = record {
-          lasts = c .lasts;
-          takes = c .takes;
-          members = λ k h.
-              let m = named-member k h in
-              let q = m .sure-there in
-              (record { listed = m .listed; lasts = omega (arith, q .from, q .to, L k (m .listed)); takes = m .takes }, m .other);
+        passes = record {
+          in-range = record { job = b; side = number-most s; time = omega (arith, before-end s a) };
+          partners = record {
+            lasts = c .lasts;
+            takes = c .takes;
+            members = λ k h.
+                let m = named-member k h in
+                let q = m .sure-there in
+                (record { listed = m .listed; lasts = omega (arith, q .from, q .to, L k (m .listed)); takes = m .takes }, m .other);
+          };
+          counted = lean .counted;
+          exceeds = lean .exceeds;
+          stated = record { own = rw (side-number s) (own-at s a); members = λ k h. named-member k h .sure-there };
+          tightens = rw (side-number s) (tightens-at s a);
         };
-        counted = lean .counted;
-        exceeds = lean .exceeds;
-        stated = record {
-          own = rw (side-number s) (own-at s a);
-          members = λ k h. named-member k h .sure-there;
-        };
-        tightens = rw (side-number s) (tightens-at s a);
         lean = lean .lean;
       }
 

@@ -7,8 +7,9 @@ use lib.ListN.{length, length-drop}
 use borrow.Author.Needs.{needs}
 use borrow.Author.Tests.{not-true, not-false}
 use Rattle.lists.specs.Tests.{every}
+use Rattle.lists.proofs.Tests.{every-none, every-more, every-end}
 use Rattle.journal.specs.Journal.{headWords, setOfRecord}
-use Rattle.judge.proofs.Steps.{partnerAt, every-none, every-more, every-end, partners-own, partners-fault, partners-all}
+use Rattle.judge.proofs.Steps.{partnerAt, partners-own, partners-fault, partners-all}
 use Rattle.judge.proofs.partners.Statement.{statement}
 use Rattle.judge.proofs.partners.Tie as tie
 

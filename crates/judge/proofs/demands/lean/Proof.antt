@@ -6,8 +6,9 @@ use mathlib.Core.Bool.{true, not}
 use lib.ListN.{length, length-drop}
 use borrow.Author.Needs.{needs}
 use Rattle.lists.specs.Tests.{every}
+use Rattle.lists.proofs.Tests.{every-none, every-more, every-end}
 use Rattle.journal.specs.Journal.{headWords, jobOf}
-use Rattle.judge.proofs.Steps.{every-none, every-more, every-end, spareAt, lean-fault, lean-all, member-named, spare-is}
+use Rattle.judge.proofs.Steps.{spareAt, lean-fault, lean-all, member-named, spare-is}
 use Rattle.judge.proofs.demands.lean.Statement.{statement}
 use Rattle.judge.proofs.demands.lean.Tie as tie
 

@@ -29,7 +29,7 @@ add-result c =
     let d = s .pre .0 in
     let r = s .args .dem .now in
     let x = s .args .words .now in
-    omega (arith, c .before .before .members-draw .ensures, totalOf-limit (length r) r (isMember x) mostDemand (d .small), d .few, d .small (jobOf x))
+    omega (arith, c .before .before .members-draw .ensures, totalOf-limit (length r) r (isMember x) mostDemand (d .within .0), d .few, d .within .0 (jobOf x))
 
 returns : tie.Need-returns
 returns c = rw (c .before .before .members-draw .ensures)

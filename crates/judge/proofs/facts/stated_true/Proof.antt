@@ -7,9 +7,10 @@ use lib.ListN.{length, length-drop}
 use borrow.Author.Needs.{needs}
 use borrow.Author.Tests.{not-true, not-false}
 use Rattle.lists.specs.Tests.{every}
+use Rattle.lists.proofs.Tests.{every-none, every-more, every-end}
 use Rattle.narrowing.specs.Windows.{win}
 use Rattle.journal.specs.Journal.{headWords, setOfRecord}
-use Rattle.judge.proofs.Steps.{trueAt, every-none, every-more, every-end, stated-own, stated-fault, stated-all}
+use Rattle.judge.proofs.Steps.{trueAt, stated-own, stated-fault, stated-all}
 use Rattle.judge.proofs.facts.stated_true.Statement.{statement}
 use Rattle.judge.proofs.facts.stated_true.Tie as tie
 
