@@ -1,2 +1,3 @@
 pub mod Paths
 pub mod Passes
+pub mod Listed

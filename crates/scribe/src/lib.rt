@@ -1,0 +1,1 @@
+// A project written as a text (document 01, 'Library layouts'; document 02, Item 13).
