@@ -2,3 +2,4 @@ pub mod Tokens
 pub mod Numbers
 pub mod Readings
 pub mod Exactly
+pub mod Given

@@ -3,7 +3,7 @@
 use Prim.Native.Nat.{ℕ, zero, suc}
 use mathlib.Core.Bool.{cond}
 use mathlib.Core.List.{List, [], _∷_}
-use lib.Dec.{leb}
+use lib.Dec.{leb, eqb}
 use Rattle.texts.specs.Tokens.{Token, number, other}
 
 -- a refusal's number, or what was read and the tokens behind it
@@ -21,6 +21,12 @@ unfoldable pub one : ℕ → ℕ → List Token → Read ℕ
 one top code [] = bad 30
 one top code (other ∷ ts) = bad 30
 one top code (number v ∷ ts) = cond (leb v top) (good v ts) (bad code)
+
+-- the number v: 30 for anything else
+unfoldable pub exactly : ℕ → List Token → Read ℕ
+exactly v [] = bad 30
+exactly v (other ∷ ts) = bad 30
+exactly v (number x ∷ ts) = cond (eqb x v) (good x ts) (bad 30)
 
 -- m readings, the first of them numbered j
 unfoldable pub times : {A : Type 0} → (ℕ → List Token → Read A) → ℕ → ℕ → List Token → Read (List A)

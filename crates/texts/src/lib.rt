@@ -6,7 +6,7 @@ use scan::next_number;
 ghost use mathlib.Core.Path.{_≡_};
 ghost use lib.ListN.{drop};
 ghost use Rattle.texts.specs.Tokens.{tokens};
-ghost use Rattle.texts.specs.Readings.{one};
+ghost use Rattle.texts.specs.Readings.{one, exactly};
 ghost use Rattle.texts.specs.Scan.{GotSays, none?};
 
 // A number with the place behind it, or a refusal.
@@ -28,6 +28,21 @@ pub fn next_up_to(text: &[u8], at: usize, top: u32, code: u32) -> Got
         }
         Next::Other => Got::Bad(30),
         Next::End => Got::Bad(30),
+    }
+}
+
+// The number v from `at` on: 30 where anything else stands there.
+pub fn next_exactly(text: &[u8], at: usize, v: u32) -> Got
+    ensures { λ r. ⌜ GotSays (exactly v (tokens (drop at (now (text .entry))))) (now (text .entry)) r ⌝ }
+{
+    match next_up_to(text, at, v, 30) {
+        Got::Good(x, to) => {
+            if x != v {
+                return Got::Bad(30);
+            }
+            Got::Good(x, to)
+        }
+        Got::Bad(c) => Got::Bad(c),
     }
 }
 
