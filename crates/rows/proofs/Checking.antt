@@ -15,6 +15,7 @@ use Rattle.texts.specs.Tokens.{Token, tokens}
 use Rattle.texts.specs.Readings.{Read, bad, good}
 use Rattle.rows.specs.Walk.{Seen, seeing, addPair, addRow, see, Fit, StepSays, FoundSays}
 use Rattle.rows.specs.declared.Walk.{Walk}
+use Rattle.rows.specs.declared.Table.{Table}
 use Rattle.rows.specs.declared.Step.the-variants.{Successor, Begun, Done, Stop}
 use Rattle.rows.specs.declared.Found.the-variants.{All, Not}
 
@@ -41,7 +42,7 @@ below-snoc n [] p f h k a b (inr e) = absurd e
 below-snoc n (x ∷ ps) p f h k a b (inl e) = f a b (inl e)
 below-snoc n (x ∷ ps) p f h k a b (inr r) = below-snoc n ps p (λ c d q. f c d (inr q)) h k a b r
 
-pub record Checking (n k res : ℕ) (t₀ : List Token) (s durs dems : List ℕ) (w : Walk) (pairs : ℕ) : Type 0 where
+pub record Checking (n : ℕ) (table : Table) (res : ℕ) (t₀ : List Token) (s durs dems : List ℕ) (w : Walk) (pairs : ℕ) : Type 0 where
   pub fit : Fit n w
   pub room : pairs + w .left ≤ mostJobs * w .next
   pub ps : List Pair
@@ -50,11 +51,11 @@ pub record Checking (n k res : ℕ) (t₀ : List Token) (s durs dems : List ℕ)
   pub long-durs : length durs ≡ mostJobs
   pub long-dems : length dems ≡ mostJobs
   pub low : (j : ℕ) → durs ! j ≤ mostTime
-  pub same : seeing n k res 0 0 t₀ ≡ behind (take (w .next) durs) (take (w .next) dems) ps (see n k res s w)
+  pub same : seeing n table res 0 0 t₀ ≡ behind (take (w .next) durs) (take (w .next) dems) ps (see n table res s w)
 
-module _ (n k res : ℕ) (s : List ℕ) where
+module _ (n : ℕ) (table : Table) (res : ℕ) (s : List ℕ) where
   pub checking-start : (at : ℕ) (durs dems : List ℕ) → length durs ≡ mostJobs → length dems ≡ mostJobs → ((j : ℕ) → durs ! j ≤ mostTime)
-      → Checking n k res (tokens (drop at s)) s durs dems (record { next = 0; left = 0; at = at }) 0
+      → Checking n table res (tokens (drop at s)) s durs dems (record { next = 0; left = 0; at = at }) 0
   checking-start at durs dems p q low = record {
     fit = record { begun = omega arith; owned = omega arith };
     room = omega arith;
@@ -64,11 +65,11 @@ module _ (n k res : ℕ) (s : List ℕ) where
     long-durs = p;
     long-dems = q;
     low = low;
-    same = sym (behind-nil (seeing n k res 0 0 (tokens (drop at s))));
+    same = sym (behind-nil (seeing n table res 0 0 (tokens (drop at s))));
   }
 
-  module _ (t₀ : List Token) (durs dems : List ℕ) (w : Walk) (pairs : ℕ) (g : Checking n k res t₀ s durs dems w pairs) where
-    pub checking-successor : (v : ℕ) (u : Walk) → StepSays n k res s w (Successor v u) → Checking n k res t₀ s durs dems u (pairs + 1)
+  module _ (t₀ : List Token) (durs dems : List ℕ) (w : Walk) (pairs : ℕ) (g : Checking n table res t₀ s durs dems w pairs) where
+    pub checking-successor : (v : ℕ) (u : Walk) → StepSays n table res s w (Successor v u) → Checking n table res t₀ s durs dems u (pairs + 1)
     checking-successor v u t =
         let p : Pair = pair (w .next - 1) v in
         record {
@@ -82,11 +83,11 @@ module _ (n k res : ℕ) (s : List ℕ) where
           low = g .low;
           same =
               g .same ∙ ap (behind (take (w .next) durs) (take (w .next) dems) (g .ps)) (t .0)
-              ∙ behind-pair (take (w .next) durs) (take (w .next) dems) (g .ps) p (see n k res s u)
-              ∙ ap (λ (x : ℕ). behind (take x durs) (take x dems) (g .ps ++ p ∷ []) (see n k res s u)) (sym (t .4));
+              ∙ behind-pair (take (w .next) durs) (take (w .next) dems) (g .ps) p (see n table res s u)
+              ∙ ap (λ (x : ℕ). behind (take x durs) (take x dems) (g .ps ++ p ∷ []) (see n table res s u)) (sym (t .4));
         }
 
-    pub checking-begun : (d q : ℕ) (u : Walk) → n ≤ mostJobs → StepSays n k res s w (Begun d q u) → Checking n k res t₀ s (set durs (w .next) d) (set dems (w .next) q) u pairs
+    pub checking-begun : (d q : ℕ) (u : Walk) → n ≤ mostJobs → StepSays n table res s w (Begun d q u) → Checking n table res t₀ s (set durs (w .next) d) (set dems (w .next) q) u pairs
     checking-begun d q u b t =
         let below : w .next < mostJobs = omega (arith, t .5, t .1 .begun) in
         record {
@@ -100,11 +101,11 @@ module _ (n k res : ℕ) (s : List ℕ) where
           long-dems = length-set dems (w .next) q ∙ g .long-dems;
           same =
               g .same ∙ ap (behind (take (w .next) durs) (take (w .next) dems) (g .ps)) (t .0)
-              ∙ behind-row (take (w .next) durs) (take (w .next) dems) (g .ps) d q (see n k res s u)
+              ∙ behind-row (take (w .next) durs) (take (w .next) dems) (g .ps) d q (see n table res s u)
               ∙ rw (t .5, add-one (w .next), take-suc-set durs (w .next) d (rw (g .long-durs) below), take-suc-set dems (w .next) q (rw (g .long-dems) below));
         }
 
-    pub checking-done : StepSays n k res s w Done → FoundSays (seeing n k res 0 0 t₀) s n durs dems (All pairs (w .at))
+    pub checking-done : StepSays n table res s w Done → FoundSays (seeing n table res 0 0 t₀) s n durs dems (All pairs (w .at))
     checking-done t = (
       record { durs = take n durs; dems = take n dems; pairs = g .ps },
       g .same ∙ ap (behind (take (w .next) durs) (take (w .next) dems) (g .ps)) (t .0) ∙ rw (t .1, append-nil (take n durs), append-nil (take n dems), append-nil (g .ps)),
@@ -114,5 +115,5 @@ module _ (n k res : ℕ) (s : List ℕ) where
       g .range,
     )
 
-    pub checking-stop : (c : ℕ) → StepSays n k res s w (Stop c) → FoundSays (seeing n k res 0 0 t₀) s n durs dems (Not c)
+    pub checking-stop : (c : ℕ) → StepSays n table res s w (Stop c) → FoundSays (seeing n table res 0 0 t₀) s n durs dems (Not c)
     checking-stop c t = g .same ∙ ap (behind (take (w .next) durs) (take (w .next) dems) (g .ps)) t

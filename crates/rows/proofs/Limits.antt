@@ -13,6 +13,8 @@ use Rattle.texts.specs.Readings.{bad, good, andThen, one, times, many, nothingM
 use Rattle.texts.proofs.Readings.{bad-not-good, good-same, then-good, one-takes, one-codes, many-takes, many-codes, times-takes, times-codes, each-within}
 use Rattle.rows.specs.Projects.{Row, Project, tagged, pairsFrom, pairsOf, durations, demandsOn}
 use Rattle.rows.specs.Patterson.{row, Opening, opening, project, patterson}
+use Rattle.rows.specs.Walk.{headIn, rowIn}
+use Rattle.rows.specs.declared.Table.the-variants.{Whole}
 use Rattle.rows.proofs.Takes.{OfText, low-code, then-codes, row-codes, Limited, row-takes}
 
 -- a project within the limits
@@ -77,12 +79,12 @@ pub record Takes (x : Project) (rest : List Token) : Type 0 where
   pub over : rest ≡ []
 
 project-takes : (ts rest : List Token) (x : Project) → project ts ≡ good x rest → Takes x rest
-unfolding project
+unfolding project row rowIn headIn
 project-takes ts rest x e =
     let s = then-good (opening ts) (λ o u. andThen (times (row (o .jobs) (o .resources)) 0 (o .jobs) u) (λ rs v. nothingMore (made o rs) v)) x rest e in
     let t = then-good (times (row (s .0 .jobs) (s .0 .resources)) 0 (s .0 .jobs) (s .1)) (λ rs v. nothingMore (made (s .0) rs) v) x rest (s .3) in
     let o = opening-takes ts (s .1) (s .0) (s .2) in
-    let q = times-takes (row (s .0 .jobs) (s .0 .resources)) (Limited (s .0 .jobs)) (λ j u v r p. row-takes (s .0 .jobs) (s .0 .resources) j u v r p) 0 (s .0 .jobs) (s .1) (t .1) (t .0) (t .2) in
+    let q = times-takes (row (s .0 .jobs) (s .0 .resources)) (Limited (s .0 .jobs)) (λ j u v r p. row-takes (Whole (s .0 .resources)) (s .0 .jobs) j u v r p) 0 (s .0 .jobs) (s .1) (t .1) (t .0) (t .2) in
     let y = over-good (made (s .0) (t .0)) x (t .1) rest (t .3) in
     record {
       within = subst Within (y .0) (record {
@@ -110,9 +112,9 @@ opening-codes c ts =
     then-codes (many mostDemand k v) _ c (λ q. low-code (many-codes mostDemand k c v q)) (λ cs w p'' q. bad-not-good _ c _ w q refl)))
 
 pub patterson-codes : (s : List ℕ) (c : ℕ) → patterson s ≡ bad c → OfText c
-unfolding patterson project
+unfolding patterson project row rowIn headIn
 patterson-codes s c =
     then-codes (opening (tokens s)) _ c (opening-codes c (tokens s)) (λ o u p.
     then-codes (times (row (o .jobs) (o .resources)) 0 (o .jobs) u) _ c
-    (times-codes (row (o .jobs) (o .resources)) OfText (λ j d v q. row-codes (o .jobs) (o .resources) j d v q) 0 (o .jobs) c u)
+    (times-codes (row (o .jobs) (o .resources)) OfText (λ j d v q. row-codes (Whole (o .resources)) (o .jobs) j d v q) 0 (o .jobs) c u)
     (λ rs v p' q. low-code (inl (over-codes (record { capacities = o .capacities; rows = rs }) v c q))))

@@ -10,10 +10,13 @@ use Rattle.lists.specs.Lists.{_!_}
 use Rattle.lists.specs.Tests.{pick}
 use Rattle.joblist.specs.Limits.{mostTime, mostDemand}
 use Rattle.texts.specs.Tokens.{Token, tokens}
-use Rattle.texts.specs.Readings.{bad, good, one, times, many}
+use Rattle.texts.specs.Readings.{bad, good, one, exactly, times, many}
 use Rattle.texts.proofs.Readings.{ahead, ahead-nil, times-step, times-bad, times-done}
 use Rattle.rows.specs.Projects.{link}
 use Rattle.rows.specs.Patterson.{head}
+use Rattle.rows.specs.Relations.{relationHead}
+use Rattle.rows.specs.Walk.{headIn}
+use Rattle.rows.specs.declared.Table.the-variants.{Whole, Relations}
 
 -- the number at a place, with one number more read
 pick-step : (ys : List ℕ) (v res : ℕ) → (ys ++ v ∷ []) ! res ≡ pick (eqb (length ys) res) v (ys ! res)
@@ -75,7 +78,7 @@ module _ (n : ℕ) (ts : List Token) where
   unfolding link
   link-bad c e = rw e
 
--- ---- the head of a row
+-- ---- the head of a row, by its table
 
 module _ (n k : ℕ) (ts : List Token) where
   pub head-bad : (c : ℕ) → one mostTime 31 ts ≡ bad c → head n k ts ≡ bad c
@@ -95,3 +98,30 @@ module _ (n k : ℕ) (ts : List Token) where
       pub head-good : (c : ℕ) (t₃ : List Token) → one n 31 t₂ ≡ good c t₃ → head n k ts ≡ good (record { duration = d; demands = qs; count = c }) t₃
       unfolding head
       head-good c t₃ e = rw (e₁, e₂, e)
+
+module _ (n j : ℕ) (ts : List Token) where
+  pub relation-bad : (c : ℕ) → exactly (j + 1) ts ≡ bad c → relationHead n j ts ≡ bad c
+  unfolding relationHead
+  relation-bad c e = rw e
+
+  module _ (a : ℕ) (t₁ : List Token) (e₁ : exactly (j + 1) ts ≡ good a t₁) where
+    pub relation-bad₂ : (c : ℕ) → exactly 1 t₁ ≡ bad c → relationHead n j ts ≡ bad c
+    unfolding relationHead
+    relation-bad₂ c e = rw (e₁, e)
+
+    module _ (b : ℕ) (t₂ : List Token) (e₂ : exactly 1 t₁ ≡ good b t₂) where
+      pub relation-bad₃ : (c : ℕ) → one n 31 t₂ ≡ bad c → relationHead n j ts ≡ bad c
+      unfolding relationHead
+      relation-bad₃ c e = rw (e₁, e₂, e)
+
+      pub relation-good : (c : ℕ) (t₃ : List Token) → one n 31 t₂ ≡ good c t₃ → relationHead n j ts ≡ good (record { duration = 0; demands = []; count = c }) t₃
+      unfolding relationHead
+      relation-good c t₃ e = rw (e₁, e₂, e)
+
+pub head-whole : (n k j : ℕ) (ts : List Token) → headIn (Whole k) n j ts ≡ head n k ts
+unfolding headIn
+head-whole n k j ts = refl
+
+pub head-relations : (n j : ℕ) (ts : List Token) → headIn Relations n j ts ≡ relationHead n j ts
+unfolding headIn
+head-relations n j ts = refl

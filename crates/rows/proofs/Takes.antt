@@ -1,9 +1,9 @@
 -- What the parts of a row take: tokens, and numbers within their limits; and the numbers of their refusals.
-use Prim.Native.Nat.{ℕ, _-_, _≤_, _<_}
+use Prim.Native.Nat.{ℕ, _+_, _-_, _≤_, _<_}
 use native.Mathlib.Omega.{arith}
 use mathlib.Core.Path.{_≡_, refl, ap, subst}
 use mathlib.Core.Bool.{Bool, true, false, cond}
-use mathlib.Core.List.{List}
+use mathlib.Core.List.{List, []}
 use mathlib.Core.Logic.{_⊎_, inl, inr}
 use lib.Dec.{eqb}
 use lib.ListN.{length}
@@ -11,10 +11,15 @@ use borrow.Author.Tests.{eqb-false}
 use Rattle.lists.specs.Lists.{Every}
 use Rattle.joblist.specs.Limits.{mostTime, mostDemand}
 use Rattle.texts.specs.Tokens.{Token}
-use Rattle.texts.specs.Readings.{Read, bad, good, andThen, one, times, many}
+use Rattle.texts.specs.Readings.{Read, bad, good, andThen, one, exactly, times, many}
 use Rattle.texts.proofs.Readings.{bad-not-good, good-same, then-good, then-bad, one-takes, one-codes, many-takes, many-codes, times-takes, times-codes}
-use Rattle.rows.specs.Projects.{Row, link}
-use Rattle.rows.specs.Patterson.{Head, head, row}
+use Rattle.texts.proofs.Given.{exactly-takes, exactly-refused}
+use Rattle.rows.specs.Projects.{Row, Head, headed, link}
+use Rattle.rows.specs.Patterson.{head}
+use Rattle.rows.specs.Relations.{relationHead}
+use Rattle.rows.specs.Walk.{headIn, rowIn}
+use Rattle.rows.specs.declared.Table.{Table}
+use Rattle.rows.specs.declared.Table.the-variants.{Whole, Relations}
 
 pub link-takes : (n v : ℕ) (ts rest : List Token) → link n ts ≡ good v rest → (length rest < length ts) × (v < n)
 unfolding link
@@ -41,13 +46,13 @@ link-codes n c ts e = go (then-bad (one n 32 ts) (λ x u. cond (eqb x 0) (bad 32
     go (inr q) = inr (zero-go (eqb (q .0) 0) (q .0) (q .1) (q .3))
 
 -- what is known of a head that was read
-pub record HeadTakes (n k : ℕ) (ts rest : List Token) (h : Head) : Type 0 where
+pub record HeadTakes (n : ℕ) (ts rest : List Token) (h : Head) : Type 0 where
   pub fewer : length rest < length ts
   pub count : h .count ≤ n
   pub duration : h .duration ≤ mostTime
   pub demands : Every (λ x. x ≤ mostDemand) (h .demands)
 
-pub head-takes : (n k : ℕ) (ts rest : List Token) (h : Head) → head n k ts ≡ good h rest → HeadTakes n k ts rest h
+head-takes : (n k : ℕ) (ts rest : List Token) (h : Head) → head n k ts ≡ good h rest → HeadTakes n ts rest h
 unfolding head
 head-takes n k ts rest h e =
     let s = then-good (one mostTime 31 ts) (λ d u. andThen (many mostDemand k u) (λ qs v. andThen (one n 31 v) (λ c w. good (made d qs c) w))) h rest e in
@@ -57,10 +62,30 @@ head-takes n k ts rest h e =
     let a = one-takes mostTime 31 (s .0) ts (s .1) (s .2) in
     let b = many-takes mostDemand k (s .1) (t .1) (t .0) (t .2) in
     let d = one-takes n 31 (r .0) (t .1) (r .1) (r .2) in
-    subst (HeadTakes n k ts rest) (o .0) (record { fewer = omega (arith, a .0, b .2, d .0, ap length (o .1)); count = d .1; duration = a .1; demands = b .1 })
+    subst (HeadTakes n ts rest) (o .0) (record { fewer = omega (arith, a .0, b .2, d .0, ap length (o .1)); count = d .1; duration = a .1; demands = b .1 })
   where
     made : ℕ → List ℕ → ℕ → Head
     made d qs c = record { duration = d; demands = qs; count = c }
+
+relation-takes : (n j : ℕ) (ts rest : List Token) (h : Head) → relationHead n j ts ≡ good h rest → HeadTakes n ts rest h
+unfolding relationHead
+relation-takes n j ts rest h e =
+    let s = then-good (exactly (j + 1) ts) (λ a u. andThen (exactly 1 u) (λ b v. andThen (one n 31 v) (λ c w. good (made c) w))) h rest e in
+    let t = then-good (exactly 1 (s .1)) (λ b v. andThen (one n 31 v) (λ c w. good (made c) w)) h rest (s .3) in
+    let r = then-good (one n 31 (t .1)) (λ c w. good (made c) w) h rest (t .3) in
+    let o = good-same (made (r .0)) h (r .1) rest (r .3) in
+    let a = exactly-takes (j + 1) (s .0) ts (s .1) (s .2) in
+    let b = exactly-takes 1 (t .0) (s .1) (t .1) (t .2) in
+    let d = one-takes n 31 (r .0) (t .1) (r .1) (r .2) in
+    subst (HeadTakes n ts rest) (o .0) (record { fewer = omega (arith, a .0, b .0, d .0, ap length (o .1)); count = d .1; duration = omega arith; demands = tt })
+  where
+    made : ℕ → Head
+    made c = record { duration = 0; demands = []; count = c }
+
+pub head-in-takes : (table : Table) (n j : ℕ) (ts rest : List Token) (h : Head) → headIn table n j ts ≡ good h rest → HeadTakes n ts rest h
+unfolding headIn
+head-in-takes (Whole k) n j ts rest h e = head-takes n k ts rest h e
+head-in-takes Relations n j ts rest h e = relation-takes n j ts rest h e
 
 -- 30, 31 or 32
 abbrev pub OfText : ℕ → Type 0
@@ -87,10 +112,22 @@ head-codes n k c ts =
     then-codes (many mostDemand k u) _ c (λ q. low-code (many-codes mostDemand k c u q)) (λ qs v p'.
     then-codes (one n 31 v) _ c (λ q. low-code (one-codes n 31 c v q)) (λ m w p'' q. bad-not-good _ c _ w q refl)))
 
-pub row-codes : (n k j c : ℕ) (ts : List Token) → row n k j ts ≡ bad c → OfText c
-unfolding row
-row-codes n k j c ts =
-    then-codes (head n k ts) _ c (head-codes n k c ts) (λ h u p.
+relation-codes : (n j c : ℕ) (ts : List Token) → relationHead n j ts ≡ bad c → OfText c
+unfolding relationHead
+relation-codes n j c ts =
+    then-codes (exactly (j + 1) ts) _ c (λ q. inl (exactly-refused (j + 1) c ts .0 q .1)) (λ a u p.
+    then-codes (exactly 1 u) _ c (λ q. inl (exactly-refused 1 c u .0 q .1)) (λ b v p'.
+    then-codes (one n 31 v) _ c (λ q. low-code (one-codes n 31 c v q)) (λ m w p'' q. bad-not-good _ c _ w q refl)))
+
+head-in-codes : (table : Table) (n j c : ℕ) (ts : List Token) → headIn table n j ts ≡ bad c → OfText c
+unfolding headIn
+head-in-codes (Whole k) n j c ts e = head-codes n k c ts e
+head-in-codes Relations n j c ts e = relation-codes n j c ts e
+
+pub row-codes : (table : Table) (n j c : ℕ) (ts : List Token) → rowIn table n j ts ≡ bad c → OfText c
+unfolding rowIn headed
+row-codes table n j c ts =
+    then-codes (headIn table n j ts) _ c (head-in-codes table n j c ts) (λ h u p.
     then-codes (times (λ i. link n) 0 (h .count) u) _ c (times-codes (λ i. link n) OfText (λ i d v q. high-code (link-codes n d v q)) 0 (h .count) c u) (λ ss w p' q. bad-not-good _ c _ w q refl))
 
 -- a row whose numbers are within their limits, for n jobs
@@ -99,13 +136,13 @@ pub record Limited (n : ℕ) (r : Row) : Type 0 where
   pub demands : Every (λ x. x ≤ mostDemand) (r .demands)
   pub successors : Every (λ v. v < n) (r .successors)
 
-pub row-takes : (n k j : ℕ) (ts rest : List Token) (r : Row) → row n k j ts ≡ good r rest → Limited n r × (length rest ≤ length ts)
-unfolding row
-row-takes n k j ts rest r e =
-    let s = then-good (head n k ts) (λ h u. andThen (times (λ i. link n) 0 (h .count) u) (λ ss v. good (made h ss) v)) r rest e in
+pub row-takes : (table : Table) (n j : ℕ) (ts rest : List Token) (r : Row) → rowIn table n j ts ≡ good r rest → Limited n r × (length rest ≤ length ts)
+unfolding rowIn headed
+row-takes table n j ts rest r e =
+    let s = then-good (headIn table n j ts) (λ h u. andThen (times (λ i. link n) 0 (h .count) u) (λ ss v. good (made h ss) v)) r rest e in
     let t = then-good (times (λ i. link n) 0 (s .0 .count) (s .1)) (λ ss v. good (made (s .0) ss) v) r rest (s .3) in
     let o = good-same (made (s .0) (t .0)) r (t .1) rest (t .3) in
-    let h = head-takes n k ts (s .1) (s .0) (s .2) in
+    let h = head-in-takes table n j ts (s .1) (s .0) (s .2) in
     let q = times-takes (λ i. link n) (λ v. v < n) (λ i u w a p. let y = link-takes n a u w p in (y .1, omega (arith, y .0))) 0 (s .0 .count) (s .1) (t .1) (t .0) (t .2) in
     (subst (Limited n) (o .0) (record { duration = h .duration; demands = h .demands; successors = q .1 }), omega (arith, h .fewer, q .2, ap length (o .1)))
   where

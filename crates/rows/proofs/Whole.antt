@@ -9,7 +9,8 @@ use Rattle.texts.specs.Readings.{Read, bad, good, andThen, one, times, many}
 use Rattle.texts.proofs.Readings.{bad-not-good}
 use Rattle.rows.specs.Projects.{Row, pairsFrom, durations, demandsOn}
 use Rattle.rows.specs.Patterson.{row, Opening, opening, project}
-use Rattle.rows.specs.Walk.{Seen, seeing}
+use Rattle.rows.specs.Walk.{rowIn, Seen, seeing}
+use Rattle.rows.specs.declared.Table.{Table}
 
 -- ---- the counts and the capacities
 
@@ -37,20 +38,20 @@ module _ (ts : List Token) where
 abbrev pub viewed : ℕ → List Row → Seen
 viewed res rs = record { durs = durations rs; dems = demandsOn res rs; pairs = pairsFrom 0 rs }
 
-seeing-all : (n k res : ℕ) (ts : List Token) → seeing n k res 0 0 ts ≡ andThen (times (row n k) 0 n ts) (λ rs u. good (viewed res rs) u)
+seeing-all : (n : ℕ) (table : Table) (res : ℕ) (ts : List Token) → seeing n table res 0 0 ts ≡ andThen (times (rowIn table n) 0 n ts) (λ rs u. good (viewed res rs) u)
 unfolding seeing times
-seeing-all n k res ts = let z : n - 0 ≡ n = omega arith in ap (λ (m : ℕ). andThen (times (row n k) 0 m ts) (λ rs u. good (viewed res rs) u)) z
+seeing-all n table res ts = let z : n - 0 ≡ n = omega arith in ap (λ (m : ℕ). andThen (times (rowIn table n) 0 m ts) (λ rs u. good (viewed res rs) u)) z
 
-pub rows-good : (n k res : ℕ) (ts rest : List Token) (x : Seen) → seeing n k res 0 0 ts ≡ good x rest
-    → (rs : List Row) × (times (row n k) 0 n ts ≡ good rs rest) × (x ≡ viewed res rs)
-rows-good n k res ts rest x e = go (times (row n k) 0 n ts) (sym (seeing-all n k res ts) ∙ e)
+pub rows-good : (n : ℕ) (table : Table) (res : ℕ) (ts rest : List Token) (x : Seen) → seeing n table res 0 0 ts ≡ good x rest
+    → (rs : List Row) × (times (rowIn table n) 0 n ts ≡ good rs rest) × (x ≡ viewed res rs)
+rows-good n table res ts rest x e = go (times (rowIn table n) 0 n ts) (sym (seeing-all n table res ts) ∙ e)
   where
     go : (r : Read (List Row)) → andThen r (λ rs u. good (viewed res rs) u) ≡ good x rest → (rs : List Row) × (r ≡ good rs rest) × (x ≡ viewed res rs)
     go (bad c) q = bad-not-good (bad c) c x rest refl q
     go (good rs u) q = (rs, let y : u ≡ rest = cc in rw y, cc)
 
-pub rows-bad : (n k res : ℕ) (ts : List Token) (c : ℕ) → seeing n k res 0 0 ts ≡ bad c → times (row n k) 0 n ts ≡ bad c
-rows-bad n k res ts c e = go (times (row n k) 0 n ts) (sym (seeing-all n k res ts) ∙ e)
+pub rows-bad : (n : ℕ) (table : Table) (res : ℕ) (ts : List Token) (c : ℕ) → seeing n table res 0 0 ts ≡ bad c → times (rowIn table n) 0 n ts ≡ bad c
+rows-bad n table res ts c e = go (times (rowIn table n) 0 n ts) (sym (seeing-all n table res ts) ∙ e)
   where
     go : (r : Read (List Row)) → andThen r (λ rs u. good (viewed res rs) u) ≡ bad c → r ≡ bad c
     go (bad d) q = cc

@@ -1,3 +1,4 @@
 pub mod Projects
 pub mod Patterson
+pub mod Relations
 pub mod Walk

@@ -5,14 +5,9 @@ use mathlib.Core.List.{List}
 use Rattle.joblist.specs.Limits.{mostTime, mostDemand, mostJobs, mostResources}
 use Rattle.texts.specs.Tokens.{Token, tokens}
 use Rattle.texts.specs.Readings.{Read, good, andThen, one, times, many, nothingMore}
-use Rattle.rows.specs.Projects.{Row, Project, link}
+use Rattle.rows.specs.Projects.{Row, Project, Head, headed}
 
 -- a job's row up to its successors: duration, a demand for each of k resources, how many successors (no more than the n jobs)
-pub record Head : Type 0 where
-  pub duration : ℕ
-  pub demands : List ℕ
-  pub count : ℕ
-
 unfoldable pub head : ℕ → ℕ → List Token → Read Head
 unfolding one many
 head n k ts =
@@ -21,13 +16,10 @@ head n k ts =
     andThen (one n 31 t₂) (λ c t₃.
     good (record { duration = d; demands = qs; count = c }) t₃)))
 
--- a whole row: the head, then so many successors. Its number j is for layouts that write it
+-- a whole row; its number j does not stand there
 unfoldable pub row : ℕ → ℕ → ℕ → List Token → Read Row
-unfolding head times link
-row n k j ts =
-    andThen (head n k ts) (λ h rest.
-    andThen (times (λ i. link n) 0 (h .count) rest) (λ ss end.
-    good (record { duration = h .duration; demands = h .demands; successors = ss }) end))
+unfolding head headed
+row n k j ts = headed n (head n k ts)
 
 -- the counts and the capacities
 pub record Opening : Type 0 where

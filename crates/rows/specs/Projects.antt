@@ -7,7 +7,7 @@ use lib.Dec.{eqb}
 use Rattle.lists.specs.Lists.{_!_}
 use Rattle.chains.specs.Paths.{Pair, pair}
 use Rattle.texts.specs.Tokens.{Token}
-use Rattle.texts.specs.Readings.{Read, bad, good, andThen, one}
+use Rattle.texts.specs.Readings.{Read, bad, good, andThen, one, times}
 
 -- a job: a demand for each resource, its successors numbered from 0
 pub record Row : Type 0 where
@@ -24,6 +24,20 @@ pub record Project : Type 0 where
 unfoldable pub link : ℕ → List Token → Read ℕ
 unfolding one
 link n ts = andThen (one n 32 ts) (λ v rest. cond (eqb v 0) (bad 32) (good (v - 1) rest))
+
+-- what stands before a row's successors: a duration, a demand for each resource, how many successors
+pub record Head : Type 0 where
+  pub duration : ℕ
+  pub demands : List ℕ
+  pub count : ℕ
+
+-- a whole row: its head, however that is laid out, then so many successors
+unfoldable pub headed : ℕ → Read Head → Read Row
+unfolding times link
+headed n r =
+    andThen r (λ h rest.
+    andThen (times (λ i. link n) 0 (h .count) rest) (λ ss end.
+    good (record { duration = h .duration; demands = h .demands; successors = ss }) end))
 
 -- job j with each of its successors
 abbrev pub tagged : ℕ → List ℕ → List Pair

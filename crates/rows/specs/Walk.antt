@@ -11,8 +11,11 @@ use Rattle.texts.specs.Tokens.{Token, tokens}
 use Rattle.texts.specs.Readings.{Read, bad, good, andThen, times}
 use Rattle.texts.specs.declared.Got.{Got}
 use Rattle.texts.specs.declared.Got.the-variants.{Good, Bad}
-use Rattle.rows.specs.Projects.{link, tagged, pairsFrom, durations, demandsOn}
-use Rattle.rows.specs.Patterson.{Head, row, Opening}
+use Rattle.rows.specs.Projects.{Row, Head, headed, link, tagged, pairsFrom, durations, demandsOn}
+use Rattle.rows.specs.Patterson.{head, Opening}
+use Rattle.rows.specs.Relations.{relationHead}
+use Rattle.rows.specs.declared.Table.{Table}
+use Rattle.rows.specs.declared.Table.the-variants.{Whole, Relations}
 use Rattle.rows.specs.declared.parts.HeadGot.{HeadGot}
 use Rattle.rows.specs.declared.parts.HeadGot.the-variants.{Line, NoLine}
 use Rattle.rows.specs.declared.Opened.{Opened}
@@ -39,6 +42,16 @@ OpenSays r s res (Ready n k cap at) =
     (o : Opening) × (r ≡ good o (tokens (drop at s))) × (o .jobs ≡ n) × (o .resources ≡ k) × (o .capacities ! res ≡ cap) × (n ≤ mostJobs) × (length (o .capacities) ≡ k)
 OpenSays r s res (Closed c) = r ≡ bad c
 
+-- the head of row j of a table for n jobs: whole rows on k resources, or precedence relations
+unfoldable pub headIn : Table → ℕ → ℕ → List Token → Read Head
+unfolding head relationHead
+headIn (Whole k) n j ts = head n k ts
+headIn Relations n j ts = relationHead n j ts
+
+unfoldable pub rowIn : Table → ℕ → ℕ → List Token → Read Row
+unfolding headIn headed
+rowIn table n j ts = headed n (headIn table n j ts)
+
 -- what rows say of one resource
 pub record Seen : Type 0 where
   pub durs : List ℕ
@@ -46,11 +59,11 @@ pub record Seen : Type 0 where
   pub pairs : List Pair
 
 -- what is left: `left` successors of job next - 1, then the rows from `next` on
-unfoldable pub seeing : ℕ → ℕ → ℕ → ℕ → ℕ → List Token → Read Seen
-unfolding times link row pairsFrom
-seeing n k res next left ts =
+unfoldable pub seeing : ℕ → Table → ℕ → ℕ → ℕ → List Token → Read Seen
+unfolding times link rowIn pairsFrom
+seeing n table res next left ts =
     andThen (times (λ i. link n) 0 left ts) (λ ss t₁.
-    andThen (times (row n k) next (n - next) t₁) (λ rs t₂.
+    andThen (times (rowIn table n) next (n - next) t₁) (λ rs t₂.
     good (record { durs = durations rs; dems = demandsOn res rs; pairs = tagged (next - 1) ss ++ pairsFrom next rs }) t₂))
 
 -- the same with a pair more, and with a row more, in front
@@ -63,8 +76,8 @@ addRow d q (bad c) = bad c
 addRow d q (good x ts) = good (record { durs = d ∷ x .durs; dems = q ∷ x .dems; pairs = x .pairs }) ts
 
 -- what is left at a place of the walk
-abbrev pub see : ℕ → ℕ → ℕ → List ℕ → Walk → Read Seen
-see n k res s w = seeing n k res (w .next) (w .left) (tokens (drop (w .at) s))
+abbrev pub see : ℕ → Table → ℕ → List ℕ → Walk → Read Seen
+see n table res s w = seeing n table res (w .next) (w .left) (tokens (drop (w .at) s))
 
 -- successors are left only of rows that were begun, at most mostJobs of each
 pub record Fit (n : ℕ) (w : Walk) : Type 0 where
@@ -76,13 +89,13 @@ abbrev pub Further : List ℕ → Walk → Walk → Type 0
 Further s w u = length (tokens (drop (u .at) s)) < length (tokens (drop (w .at) s))
 
 -- a step's answer: what is left before it, by what is left behind it
-abbrev pub StepSays : ℕ → ℕ → ℕ → List ℕ → Walk → Step → Type 0
-StepSays n k res s w (Successor v u) =
-    (see n k res s w ≡ addPair (pair (w .next - 1) v) (see n k res s u)) × Fit n u × Further s w u × (v < n) × (u .next ≡ w .next) × (w .left ≡ u .left + 1)
-StepSays n k res s w (Begun d q u) =
-    (see n k res s w ≡ addRow d q (see n k res s u)) × Fit n u × Further s w u × (d ≤ mostTime) × (w .left ≡ 0) × (u .next ≡ w .next + 1) × (u .left ≤ mostJobs)
-StepSays n k res s w Done = (see n k res s w ≡ good (record { durs = []; dems = []; pairs = [] }) (tokens (drop (w .at) s))) × (w .next ≡ n)
-StepSays n k res s w (Stop c) = see n k res s w ≡ bad c
+abbrev pub StepSays : ℕ → Table → ℕ → List ℕ → Walk → Step → Type 0
+StepSays n table res s w (Successor v u) =
+    (see n table res s w ≡ addPair (pair (w .next - 1) v) (see n table res s u)) × Fit n u × Further s w u × (v < n) × (u .next ≡ w .next) × (w .left ≡ u .left + 1)
+StepSays n table res s w (Begun d q u) =
+    (see n table res s w ≡ addRow d q (see n table res s u)) × Fit n u × Further s w u × (d ≤ mostTime) × (w .left ≡ 0) × (u .next ≡ w .next + 1) × (u .left ≤ mostJobs)
+StepSays n table res s w Done = (see n table res s w ≡ good (record { durs = []; dems = []; pairs = [] }) (tokens (drop (w .at) s))) × (w .next ≡ n)
+StepSays n table res s w (Stop c) = see n table res s w ≡ bad c
 
 -- the rows checked: durations and demands stand in the first n places
 abbrev pub FoundSays : Read Seen → List ℕ → ℕ → List ℕ → List ℕ → Found → Type 0

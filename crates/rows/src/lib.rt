@@ -1,9 +1,9 @@
-// The rows of a text in the Patterson layout (document 01, 'Library layouts'; refusals of document 02, Item 1): its counts, one step along its
-// rows, and all of its rows checked.
+// The rows of a text (document 01, 'Library layouts'; refusals of document 02, Item 1): the counts of the Patterson layout, one step along the rows of
+// a table in either layout, and all of its rows checked.
 mod parts;
 
 use parts::HeadGot;
-use parts::read_head;
+use parts::read_front;
 use parts::read_link;
 use parts::read_many;
 use texts::Got;
@@ -20,6 +20,12 @@ ghost use Rattle.rows.specs.Walk.{OpenSays, Fit, StepSays, FoundSays, se
 pub enum Opened {
     Ready(u32, u32, u32, usize),
     Closed(u32),
+}
+
+// A table of rows: whole jobs on so many resources, as in Patterson's layout, or PSPLIB's precedence relations.
+pub enum Table {
+    Whole(u32),
+    Relations,
 }
 
 // A place among the rows: the next row, the successors left of the row before it, and the place in the text.
@@ -60,9 +66,9 @@ pub fn open_text(text: &[u8], res: u32) -> Opened
 }
 
 // One step along the rows.
-pub fn advance(text: &[u8], n: u32, k: u32, res: u32, w: Walk) -> Step
+pub fn advance(text: &[u8], n: u32, table: Table, res: u32, w: Walk) -> Step
     requires { ⌜ Fit n w × (n ≤ mostJobs) ⌝ }
-    ensures { λ r. ⌜ StepSays n k res (now (text .entry)) w r ⌝ }
+    ensures { λ r. ⌜ StepSays n table res (now (text .entry)) w r ⌝ }
 {
     let at = w.at;
     let next = w.next;
@@ -87,7 +93,7 @@ pub fn advance(text: &[u8], n: u32, k: u32, res: u32, w: Walk) -> Step
     if next == n {
         return Step::Done;
     }
-    match read_head(text, at, n, k, res) {
+    match read_front(text, at, n, table, next, res) {
         HeadGot::Line(d, q, m, to) => Step::Begun(
             d,
             q,
@@ -106,13 +112,13 @@ pub fn validate(
     text: &[u8],
     at: usize,
     n: u32,
-    k: u32,
+    table: Table,
     res: u32,
     dur: &mut [u32; joblist::MOST],
     dem: &mut [u32; joblist::MOST],
 ) -> Found
     requires { ⌜ (n ≤ mostJobs) × (length (now dur) ≡ mostJobs) × (length (now dem) ≡ mostJobs) × ((j : ℕ) → now dur ! j ≤ mostTime) ⌝ }
-    ensures { λ r. ⌜ FoundSays (seeing n k res 0 0 (tokens (drop at (now (text .entry))))) (now (text .entry)) n (now (dur .exit)) (now (dem .exit)) r × (length (now (dur .exit)) ≡ mostJobs) × (length (now (dem .exit)) ≡ mostJobs) × ((j : ℕ) → now (dur .exit) ! j ≤ mostTime) ⌝ }
+    ensures { λ r. ⌜ FoundSays (seeing n table res 0 0 (tokens (drop at (now (text .entry))))) (now (text .entry)) n (now (dur .exit)) (now (dem .exit)) r × (length (now (dur .exit)) ≡ mostJobs) × (length (now (dem .exit)) ≡ mostJobs) × ((j : ℕ) → now (dur .exit) ! j ≤ mostTime) ⌝ }
 {
     let mut w = Walk {
         next: 0,
@@ -121,7 +127,7 @@ pub fn validate(
     };
     let mut pairs: usize = 0;
     loop {
-        match advance(text, n, k, res, w) {
+        match advance(text, n, table, res, w) {
             Step::Successor(_, u) => {
                 pairs += 1;
                 w = u;

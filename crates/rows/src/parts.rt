@@ -1,6 +1,8 @@
 // The parts of a row: a successor, several numbers, and what stands before the successors.
+use crate::Table;
 use texts::Got;
 ghost use mathlib.Core.Path.{_≡_};
+ghost use Prim.Native.Nat.{_<_};
 ghost use lib.Dec.{eqb};
 ghost use lib.ListN.{drop};
 ghost use Rattle.lists.specs.Tests.{pick};
@@ -9,7 +11,8 @@ ghost use Rattle.texts.specs.Readings.{many};
 ghost use Rattle.texts.specs.Scan.{GotSays};
 ghost use Rattle.rows.specs.Projects.{link};
 ghost use Rattle.rows.specs.Patterson.{head};
-ghost use Rattle.rows.specs.Walk.{PickSays, HeadSays};
+ghost use Rattle.rows.specs.Relations.{relationHead};
+ghost use Rattle.rows.specs.Walk.{PickSays, HeadSays, headIn};
 
 // Duration, demand of the chosen resource, successor count, and the place behind them; or a refusal.
 pub enum HeadGot {
@@ -65,7 +68,7 @@ pub fn read_many(text: &[u8], at: usize, m: u32, top: u32, res: u32) -> Got
 }
 
 // A row up to its successor count.
-pub fn read_head(text: &[u8], at: usize, n: u32, k: u32, res: u32) -> HeadGot
+fn read_head(text: &[u8], at: usize, n: u32, k: u32, res: u32) -> HeadGot
     ensures { λ r. ⌜ HeadSays (head n k (tokens (drop at (now (text .entry))))) (now (text .entry)) res r ⌝ }
 {
     match texts::next_up_to(text, at, joblist::TIME, 31) {
@@ -77,5 +80,33 @@ pub fn read_head(text: &[u8], at: usize, n: u32, k: u32, res: u32) -> HeadGot
                 Got::Good(m, e) => HeadGot::Line(d, q, m, e),
             },
         },
+    }
+}
+
+// The same of a row of precedence relations: the numbers of the job and of its modes are those that they have to be.
+fn read_relation(text: &[u8], at: usize, n: u32, j: u32, res: u32) -> HeadGot
+    requires { ⌜ j < n ⌝ }
+    ensures { λ r. ⌜ HeadSays (relationHead n j (tokens (drop at (now (text .entry))))) (now (text .entry)) res r ⌝ }
+{
+    match texts::next_exactly(text, at, j + 1) {
+        Got::Bad(c) => HeadGot::NoLine(c),
+        Got::Good(_, a) => match texts::next_exactly(text, a, 1) {
+            Got::Bad(c) => HeadGot::NoLine(c),
+            Got::Good(_, b) => match texts::next_up_to(text, b, n, 31) {
+                Got::Bad(c) => HeadGot::NoLine(c),
+                Got::Good(m, e) => HeadGot::Line(0, 0, m, e),
+            },
+        },
+    }
+}
+
+// What stands before the successors of row j.
+pub fn read_front(text: &[u8], at: usize, n: u32, table: Table, j: u32, res: u32) -> HeadGot
+    requires { ⌜ j < n ⌝ }
+    ensures { λ r. ⌜ HeadSays (headIn table n j (tokens (drop at (now (text .entry))))) (now (text .entry)) res r ⌝ }
+{
+    match table {
+        Table::Whole(resources) => read_head(text, at, n, resources, res),
+        Table::Relations => read_relation(text, at, n, j, res),
     }
 }

@@ -28,8 +28,8 @@ returns-2 c = step-stop _ _ _ _ _ (c .before .before .before .before .before .be
 returns-3 : tie.Need-returns-3
 returns-3 c = step-done _ _ _ _ _ (c .before .before .before .pre .0) (omega (arith, c .before .if1 .left)) (c .if2 .taken)
 
-read-head-requires : tie.Need-read-head-requires
-read-head-requires c κs = search needs
+read-front-requires : tie.Need-read-front-requires
+read-front-requires c κs = search needs
 
 enum-known-d : tie.Need-enum-known-d
 enum-known-d c = search needs
@@ -42,11 +42,11 @@ enum-known-c-2 c = search needs
 
 returns-4 : tie.Need-returns-4
 returns-4 c =
-    let q = rw (c .before .d .given .1) at (c .before .before .before .read-head .ensures) in
+    let q = rw (c .before .d .given .1) at (c .before .before .before .read-front .ensures) in
     step-begun _ _ _ _ _ (c .before .before .before .before .before .before .before .pre .0) (omega (arith, c .before .before .before .before .before .if1 .left)) _ _ _ _ (q .0) (c .before .before .before .before .before .before .before .pre .1) (c .before .before .before .before .if2 .left) (q .1) (q .2) (q .3) (q .4)
 
 returns-5 : tie.Need-returns-5
-returns-5 c = step-headless _ _ _ _ _ (c .before .before .before .before .before .before .before .pre .0) (omega (arith, c .before .before .before .before .before .if1 .left)) _ (c .before .before .before .before .if2 .left) (rw (c .before .c2 .given .1) at (c .before .before .before .read-head .ensures))
+returns-5 c = step-headless _ _ _ _ _ (c .before .before .before .before .before .before .before .pre .0) (omega (arith, c .before .before .before .before .before .if1 .left)) _ (c .before .before .before .before .if2 .left) (rw (c .before .c2 .given .1) at (c .before .before .before .read-front .ensures))
 
 pub advance-spec : {M : Type 1} → statement M
 advance-spec =
@@ -59,7 +59,7 @@ advance-spec =
     enum-known-c
     returns-2
     returns-3
-    read-head-requires
+    read-front-requires
     enum-known-d
     add-t23
     enum-known-c-2

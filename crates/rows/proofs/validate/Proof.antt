@@ -9,10 +9,10 @@ use Rattle.rows.proofs.validate.Statement.{statement}
 use Rattle.rows.proofs.validate.Tie as tie
 
 abbrev Inv-loop : tie.InvT-loop
-Inv-loop text at n k res dur₀ dem₀ w₀ pairs₀ dur dem w pairs = Checking n k res (tokens (drop at text)) text dur dem w pairs
+Inv-loop text at n table res dur₀ dem₀ w₀ pairs₀ dur dem w pairs = Checking n table res (tokens (drop at text)) text dur dem w pairs
 
 abbrev μ-loop : tie.MeasureT-loop
-μ-loop text at n k res dur₀ dem₀ w₀ pairs₀ dur dem w pairs = length (tokens (drop (w .at) text))
+μ-loop text at n table res dur₀ dem₀ w₀ pairs₀ dur dem w pairs = length (tokens (drop (w .at) text))
 
 loop-holds : tie.Need-loop-holds Inv-loop μ-loop
 loop-holds c = checking-start _ _ _ _ _ _ _ (c .before .pre .1) (c .before .pre .2) (c .before .pre .3)
