@@ -1,16 +1,18 @@
--- `order::relax` meets its contract: the pairs passed have made the values of the first ones, and the rest makes of them what all pairs make.
+-- `order::relax` meets its contract: the pairs passed have made the values of the first ones, and the rest makes of them what all pairs make; the walk fits.
 use Prim.Native.Nat.{_-_}
 use native.Mathlib.Omega.{arith}
 use borrow.Author.Needs.{needs}
 use lib.ListN.{length, drop}
 use Rattle.joblist.specs.Limits.{mostJobs}
 use Rattle.texts.specs.Tokens.{tokens}
+use Rattle.rows.specs.Walk.{Fit}
+use Rattle.order.specs.Pairs.{comes, first}
 use Rattle.order.proofs.Relaxing.{Relaxing, relaxing-start, relaxing-kept, relaxing-rose, relaxing-over, relaxing-same, relaxing-changed, both-below}
 use Rattle.order.proofs.rounds.relax.Statement.{statement}
 use Rattle.order.proofs.rounds.relax.Tie as tie
 
 abbrev Inv-loop : tie.InvT-loop
-Inv-loop text n k at p back top v₀ w₀ changed₀ v w changed = Relaxing n k text at p back top v₀ v w changed
+Inv-loop text n k at p back top v₀ w₀ changed₀ v w changed = Fit n w × Relaxing (comes n k text (first at)) (comes n k text w) p back top v₀ v changed
 
 abbrev μ-loop : tie.MeasureT-loop
 μ-loop text n k at p back top v₀ w₀ changed₀ v w changed = length (tokens (drop (w .at) text))
@@ -18,10 +20,10 @@ abbrev μ-loop : tie.MeasureT-loop
 loop-holds : tie.Need-loop-holds Inv-loop μ-loop
 loop-holds c =
     let q = c .before .pre in
-    relaxing-start _ _ _ _ _ _ _ _ (q .0 .2) (q .1 .1)
+    (record { begun = omega arith; owned = omega arith }, relaxing-start _ _ _ _ _ (q .0 .2) (q .1 .1))
 
 next-pair-requires : tie.Need-next-pair-requires Inv-loop μ-loop
-next-pair-requires c κs = (c .loop .inv .fit, c .before .before .pre .0 .0)
+next-pair-requires c κs = (c .loop .inv .0, c .before .before .pre .0 .0)
 
 enum-told : tie.Need-enum-told Inv-loop μ-loop
 enum-told c = search needs
@@ -29,14 +31,14 @@ enum-told c = search needs
 returns : tie.Need-returns Inv-loop μ-loop
 returns c =
     let t = rw (c .before .enum-told .given .1) at (c .before .before .before .next-pair .ensures) in
-    let g = c .before .before .before .before .loop .inv in
-    (relaxing-changed _ _ _ _ _ _ _ _ _ _ _ g t (c .if1 .taken), g .long)
+    let g = c .before .before .before .before .loop .inv .1 in
+    (relaxing-changed _ _ _ _ _ _ _ _ g t (c .if1 .taken), g .long)
 
 returns-2 : tie.Need-returns-2 Inv-loop μ-loop
 returns-2 c =
     let t = rw (c .before .enum-told .given .1) at (c .before .before .before .next-pair .ensures) in
-    let g = c .before .before .before .before .loop .inv in
-    (relaxing-same _ _ _ _ _ _ _ _ _ _ _ g t (c .if1 .left), g .long)
+    let g = c .before .before .before .before .loop .inv .1 in
+    (relaxing-same _ _ _ _ _ _ _ _ g t (c .if1 .left), g .long)
 
 enum-known-a : tie.Need-enum-known-a Inv-loop μ-loop
 enum-known-a c = search needs
@@ -63,7 +65,7 @@ lift-requires : tie.Need-lift-requires Inv-loop μ-loop
 lift-requires c κs =
     let t = rw (c .before .before .before .before .before .a .given .1) at (c .before .before .before .before .before .before .before .next-pair .ensures) in
     let m = c .before .before .before .before .before .before .before .before .before .before .pre in
-    let g = c .before .before .before .before .before .before .before .before .loop .inv in
+    let g = c .before .before .before .before .before .before .before .before .loop .inv .1 in
     let h = both-below (c .before .before .before .before .before .before .before .before .before .before .args .back) _ _ _ _ _ mostJobs (c .before .before .before .select .ensures) (c .before .before .select2 .ensures) (t .3) (t .4) (m .0 .0) in
     (h .0, h .1, g .long, omega (arith, g .low (c .before .before .before .select .result), m .0 .3), omega (arith, m .1 .0 (c .before .before .before .select .result), m .1 .0 (c .before .before .select2 .result)))
 
@@ -79,7 +81,7 @@ loop-again : tie.Need-loop-again Inv-loop μ-loop
 loop-again c =
     let t = rw (c .before .before .before .before .before .before .before .before .a .given .1) at (c .before .before .before .before .before .before .before .before .before .before .next-pair .ensures) in
     let h = rw (c .enum-told2 .given .1) at (c .before .before .lift .ensures .0) in
-    relaxing-kept _ _ _ _ _ _ _ _ _ _ _ (c .before .before .before .before .before .before .before .before .before .before .before .loop .inv) _ _ _ t _ _ (c .before .before .before .before .before .before .select .ensures) (c .before .before .before .before .before .select2 .ensures) _ h
+    (t .1, relaxing-kept _ _ _ _ _ _ _ _ (c .before .before .before .before .before .before .before .before .before .before .before .loop .inv .1) _ _ _ (t .0) _ _ (c .before .before .before .before .before .before .select .ensures) (c .before .before .before .before .before .select2 .ensures) _ h)
 
 enum-told-3 : tie.Need-enum-told-3 Inv-loop μ-loop
 enum-told-3 c = search needs
@@ -93,7 +95,7 @@ loop-again-2 : tie.Need-loop-again-2 Inv-loop μ-loop
 loop-again-2 c =
     let t = rw (c .before .before .before .before .before .before .before .before .a .given .1) at (c .before .before .before .before .before .before .before .before .before .before .next-pair .ensures) in
     let h = rw (c .enum-told3 .given .1) at (c .before .before .lift .ensures .0) in
-    relaxing-rose _ _ _ _ _ _ _ _ _ _ _ (c .before .before .before .before .before .before .before .before .before .before .before .loop .inv) _ _ _ t _ _ (c .before .before .before .before .before .before .select .ensures) (c .before .before .before .before .before .select2 .ensures) _ (c .before .before .before .before .before .before .before .before .before .before .before .before .before .pre .0 .0) h
+    (t .1, relaxing-rose _ _ _ _ _ _ _ _ (c .before .before .before .before .before .before .before .before .before .before .before .loop .inv .1) _ _ _ (t .0) _ _ (c .before .before .before .before .before .before .select .ensures) (c .before .before .before .before .before .select2 .ensures) _ (both-below (c .before .before .before .before .before .before .before .before .before .before .before .before .before .args .back) _ _ _ _ _ mostJobs (c .before .before .before .before .before .before .select .ensures) (c .before .before .before .before .before .select2 .ensures) (t .3) (t .4) (c .before .before .before .before .before .before .before .before .before .before .before .before .before .pre .0 .0) .1) h)
 
 enum-told-4 : tie.Need-enum-told-4 Inv-loop μ-loop
 enum-told-4 c = search needs
@@ -102,7 +104,7 @@ returns-3 : tie.Need-returns-3 Inv-loop μ-loop
 returns-3 c =
     let t = rw (c .before .before .before .before .before .before .before .before .a .given .1) at (c .before .before .before .before .before .before .before .before .before .before .next-pair .ensures) in
     let h = rw (c .enum-told4 .given .1) at (c .before .before .lift .ensures .0) in
-    (relaxing-over _ _ _ _ _ _ _ _ _ _ _ (c .before .before .before .before .before .before .before .before .before .before .before .loop .inv) _ _ _ t _ _ (c .before .before .before .before .before .before .select .ensures) (c .before .before .before .before .before .select2 .ensures) _ h, c .before .before .lift .ensures .1)
+    (relaxing-over _ _ _ _ _ _ _ _ (c .before .before .before .before .before .before .before .before .before .before .before .loop .inv .1) _ _ _ (t .0) _ _ (c .before .before .before .before .before .before .select .ensures) (c .before .before .before .before .before .select2 .ensures) _ h, c .before .before .lift .ensures .1)
 
 pub relax-spec : {M : Type 1} → statement M
 relax-spec =
