@@ -19,10 +19,8 @@ use Rattle.chains.specs.Passes.{longest, acyclic?}
 use Rattle.chains.proofs.Chains.{chain-map}
 use Rattle.chains.proofs.Longest.{longest-chained, longest-is}
 use Rattle.chains.proofs.Cycles.{judged-acyclic, cycle-back, cycle-map}
-use Rattle.texts.specs.Readings.{good}
-use Rattle.rows.specs.Projects.{Project, pairsOf, durations, demandsOn}
-use Rattle.rows.specs.Patterson.{patterson}
-use Rattle.rows.proofs.Limits.{patterson-takes}
+use Rattle.texts.specs.Readings.{Read, good}
+use Rattle.rows.specs.Projects.{Project, pairsOf, durations, demandsOn, Within}
 use Rattle.order.specs.Rounds.{turned}
 use Rattle.order.proofs.Orders.{back-of, of-back}
 use Rattle.order.proofs.Settling.{below-turned}
@@ -52,14 +50,14 @@ short? x h = every (λ j. leb (heads x ! j + durationOf x j) h) (length (x .rows
 abbrev pub ends? : Project → ℕ → List ℕ → Bool
 ends? x h lct = every (λ j. eqb (lct ! j + tails x ! j) h) (length (x .rows))
 
-module _ (s : List ℕ) (x : Project) (e : patterson s ≡ good x []) (res h : ℕ) (L : Lent) (near : h ≤ mostTime) (a : TextAfter) (r : Reads (asked s res h L) a) where
+module _ (t : Read Project) (x : Project) (e : t ≡ good x []) (limits : Within x) (res h : ℕ) (L : Lent) (near : h ≤ mostTime) (a : TextAfter) (r : Reads (asked t res h L) a) where
   range : Below (length (x .rows)) (Order x)
-  range = patterson-takes s [] x e .within .range
+  range = limits .range
 
   -- the number of the first test that fails, where one does
   pub by-number : (k : ℕ) → Tested x res h L (suc k) → a ≡ refused L (suc k)
-  by-number k t =
-      answered-one (asked s res h L) a (refused L (suc k)) (r .answered) (record { number = suc k; refusal = refusal-of (asked s res h L) x [] e (suc k) near t; leaves = refl })
+  by-number k q =
+      answered-one (asked t res h L) a (refused L (suc k)) (r .answered) (record { number = suc k; refusal = refusal-of (asked t res h L) x [] e (suc k) near q; leaves = refl })
 
   module _ (chosen : res < length (x .capacities)) (fits : Fits x L) where
     pub by-33 : calm? x ≡ false → a ≡ refused L 33
@@ -84,10 +82,10 @@ module _ (s : List ℕ) (x : Project) (e : patterson s ≡ good x []) (res h : �
 
       tail-is : (j : ℕ) → j < length (x .rows) → Longest (Back (Order x)) (durationOf x) j (tails x ! j)
       tail-is j b =
-          let t = longest-is (durationOf x) (turned true (pairsOf x)) (length (x .rows)) turned-range no-turned j b in
+          let l = longest-is (durationOf x) (turned true (pairsOf x)) (length (x .rows)) turned-range no-turned j b in
           record {
-            one = chain-map (Precedes (turned true (pairsOf x))) (Back (Order x)) (durationOf x) (durationOf x) (λ p q d. (back-of (pairsOf x) p q d, refl)) (t .one);
-            most = λ M c. t .most M (chain-map (Back (Order x)) (Precedes (turned true (pairsOf x))) (durationOf x) (durationOf x) (λ p q d. (of-back (pairsOf x) p q d, refl)) c);
+            one = chain-map (Precedes (turned true (pairsOf x))) (Back (Order x)) (durationOf x) (durationOf x) (λ p q d. (back-of (pairsOf x) p q d, refl)) (l .one);
+            most = λ M c. l .most M (chain-map (Back (Order x)) (Precedes (turned true (pairsOf x))) (durationOf x) (durationOf x) (λ p q d. (of-back (pairsOf x) p q d, refl)) c);
           }
 
       -- the text is read, and the lists are those computed
@@ -104,9 +102,9 @@ module _ (s : List ℕ) (x : Project) (e : patterson s ≡ good x []) (res h : �
             };
           }
       by-reading short lct long ends l =
-          answered-one (asked s res h L) a _ (r .answered) (record {
+          answered-one (asked t res h L) a _ (r .answered) (record {
             number = 0;
-            refusal = refusal-of (asked s res h L) x [] e 0 near (none-tested x res h L (record { chosen = chosen; fits = fits; acyclic = no-cycle; short = no-longer }));
+            refusal = refusal-of (asked t res h L) x [] e 0 near (none-tested x res h L (record { chosen = chosen; fits = fits; acyclic = no-cycle; short = no-longer }));
             leaves = record {
               x = x;
               rest = [];
@@ -126,10 +124,10 @@ module _ (s : List ℕ) (x : Project) (e : patterson s ≡ good x []) (res h : �
           })
         where
           no-longer : Longer (Order x) (length (x .rows)) (durationOf x) h → ⊥
-          no-longer t =
+          no-longer q =
               omega (
                 arith,
-                head-is (t .last) (t .job) .most (t .before) (t .chain),
-                leb-true (heads x ! (t .last) + durationOf x (t .last)) h (every-at (λ i. leb (heads x ! i + durationOf x i) h) (length (x .rows)) short (t .last) (t .job)),
-                t .over,
+                head-is (q .last) (q .job) .most (q .before) (q .chain),
+                leb-true (heads x ! (q .last) + durationOf x (q .last)) h (every-at (λ i. leb (heads x ! i + durationOf x i) h) (length (x .rows)) short (q .last) (q .job)),
+                q .over,
               )

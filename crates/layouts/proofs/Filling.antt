@@ -11,9 +11,11 @@ use Rattle.lists.specs.Lists.{_!_}
 use Rattle.chains.specs.Paths.{Pair, pair}
 use Rattle.texts.specs.Tokens.{Token}
 use Rattle.texts.specs.Readings.{Read, good}
+use Rattle.rows.specs.declared.Table.{Table}
 use Rattle.rows.specs.declared.Walk.{Walk}
 use Rattle.rows.specs.Walk.{Fit}
-use Rattle.order.specs.Pairs.{comes, first, PullSays}
+use Rattle.rows.specs.Parsed.{comes, first}
+use Rattle.order.specs.Pairs.{PullSays}
 use Rattle.order.specs.declared.Pull.the-variants.{Next, NoMore}
 use Rattle.layouts.specs.Parts.{Wrote}
 
@@ -38,14 +40,14 @@ pub record Midway (js₀ ss₀ js ss : List ℕ) (now : Read (List Pair)) (i : �
   pub js-are : js ≡ map (λ (p : Pair). p .job) done ++ drop i js₀
   pub ss-are : ss ≡ map (λ (p : Pair). p .successor) done ++ drop i ss₀
 
-pub record Writing (n k : ℕ) (s : List ℕ) (at : ℕ) (js₀ ss₀ js ss : List ℕ) (w : Walk) (i : ℕ) : Type 0 where
+pub record Writing (n : ℕ) (table : Table) (s : List ℕ) (at : ℕ) (js₀ ss₀ js ss : List ℕ) (w : Walk) (i : ℕ) : Type 0 where
   pub fit : Fit n w
   pub long-js : length js ≡ length js₀
   pub long-ss : length ss ≡ length ss₀
-  pub mid : (ps : List Pair) (end : List Token) → comes n k s (first at) ≡ good ps end → Midway js₀ ss₀ js ss (comes n k s w) i ps end
+  pub mid : (ps : List Pair) (end : List Token) → comes n table s (first at) ≡ good ps end → Midway js₀ ss₀ js ss (comes n table s w) i ps end
 
-module _ (n k : ℕ) (s : List ℕ) (at : ℕ) (js₀ ss₀ : List ℕ) where
-  pub writing-start : Writing n k s at js₀ ss₀ js₀ ss₀ (first at) 0
+module _ (n : ℕ) (table : Table) (s : List ℕ) (at : ℕ) (js₀ ss₀ : List ℕ) where
+  pub writing-start : Writing n table s at js₀ ss₀ js₀ ss₀ (first at) 0
   writing-start = record {
     fit = record { begun = omega arith; owned = omega arith };
     long-js = refl;
@@ -53,8 +55,8 @@ module _ (n k : ℕ) (s : List ℕ) (at : ℕ) (js₀ ss₀ : List ℕ) where
     mid = λ ps end e. record { done = []; rest = ps; all = refl; long = refl; ahead = e; js-are = refl; ss-are = refl };
   }
 
-  module _ (js ss : List ℕ) (w : Walk) (i : ℕ) (g : Writing n k s at js₀ ss₀ js ss w i) where
-    pub writing-end : PullSays n k s w NoMore → Wrote (comes n k s (first at)) js₀ ss₀ js ss
+  module _ (js ss : List ℕ) (w : Walk) (i : ℕ) (g : Writing n table s at js₀ ss₀ js ss w i) where
+    pub writing-end : PullSays n table s w NoMore → Wrote (comes n table s (first at)) js₀ ss₀ js ss
     writing-end t = record {
       are = λ ps end e.
           let m = g .mid ps end e in
@@ -63,8 +65,8 @@ module _ (n k : ℕ) (s : List ℕ) (at : ℕ) (js₀ ss₀ : List ℕ) where
           rw (y, z) (m .js-are, m .ss-are);
     }
 
-    module _ (a b : ℕ) (u : Walk) (t : PullSays n k s w (Next a b u)) where
-      pub writing-step : i < length js → i < length ss → Writing n k s at js₀ ss₀ (set js i a) (set ss i b) u (i + 1)
+    module _ (a b : ℕ) (u : Walk) (t : PullSays n table s w (Next a b u)) where
+      pub writing-step : i < length js → i < length ss → Writing n table s at js₀ ss₀ (set js i a) (set ss i b) u (i + 1)
       writing-step h₁ h₂ = record {
         fit = t .1;
         long-js = length-set js i a ∙ g .long-js;
@@ -84,7 +86,7 @@ module _ (n k : ℕ) (s : List ℕ) (at : ℕ) (js₀ ss₀ : List ℕ) where
       }
 
       -- there are more pairs than have been written
-      pub more-left : (ps : List Pair) (end : List Token) → comes n k s (first at) ≡ good ps end → i < length ps
+      pub more-left : (ps : List Pair) (end : List Token) → comes n table s (first at) ≡ good ps end → i < length ps
       more-left ps end e =
           let m = g .mid ps end e in
           let d = t .0 (m .rest) end (m .ahead) in

@@ -1,4 +1,3 @@
-pub mod Parsing
 pub mod Filling
 pub mod Tests
 pub mod Answering

@@ -1,12 +1,13 @@
 // The lent lists filled: latest ends, and the pairs.
 use order::Pull;
+use rows::Table;
 use rows::Walk;
 ghost use mathlib.Core.Path.{_≡_};
 ghost use Prim.Native.Nat.{ℕ, _≤_};
 ghost use lib.ListN.{length};
 ghost use Rattle.lists.specs.Lists.{_!_};
 ghost use Rattle.joblist.specs.Limits.{mostJobs};
-ghost use Rattle.order.specs.Pairs.{comes, first};
+ghost use Rattle.rows.specs.Parsed.{comes, first};
 ghost use Rattle.layouts.specs.Parts.{Lessened, Roomy, Wrote};
 
 // The horizon less each chain.
@@ -22,9 +23,9 @@ pub fn latest(tails: &[u32; joblist::MOST], h: u32, to: &mut [u32])
 }
 
 // The pairs of the text, in its order, where there is room for them. Each turn takes a token.
-pub fn write_pairs(text: &[u8], n: u32, k: u32, at: usize, js: &mut [u32], ss: &mut [u32])
-    requires { ⌜ (n ≤ mostJobs) × Roomy (comes n k (now text) (first at)) (now js) (now ss) ⌝ }
-    ensures { λ _. ⌜ Wrote (comes n k (now (text .entry)) (first at)) (now (js .entry)) (now (ss .entry)) (now (js .exit)) (now (ss .exit)) ⌝ }
+pub fn write_pairs(text: &[u8], n: u32, table: Table, at: usize, js: &mut [u32], ss: &mut [u32])
+    requires { ⌜ (n ≤ mostJobs) × Roomy (comes n table (now text) (first at)) (now js) (now ss) ⌝ }
+    ensures { λ _. ⌜ Wrote (comes n table (now (text .entry)) (first at)) (now (js .entry)) (now (ss .entry)) (now (js .exit)) (now (ss .exit)) ⌝ }
 {
     let mut w = Walk {
         next: 0,
@@ -33,7 +34,7 @@ pub fn write_pairs(text: &[u8], n: u32, k: u32, at: usize, js: &mut [u32], ss: &
     };
     let mut i: usize = 0;
     loop {
-        match order::next_pair(text, n, k, w) {
+        match order::next_pair(text, n, table, w) {
             Pull::NoMore => {
                 return;
             }

@@ -1,4 +1,4 @@
--- The next pair of a walk; and the pairs do not depend on the resource that the walk looks at.
+-- The next pair of a walk.
 use Prim.Native.Nat.{ℕ, _-_, _≤_}
 use native.Mathlib.Omega.{arith}
 use mathlib.Core.Path.{_≡_, refl, sym, ap, _∙_}
@@ -8,29 +8,14 @@ use Rattle.chains.specs.Paths.{Pair, pair}
 use Rattle.texts.specs.Tokens.{Token, tokens}
 use Rattle.texts.specs.Readings.{Read, bad, good, andThen, times}
 use Rattle.texts.proofs.Readings.{bad-not-good}
+use Rattle.rows.specs.declared.Table.{Table}
 use Rattle.rows.specs.declared.Walk.{Walk}
 use Rattle.rows.specs.declared.Step.the-variants as steps
 use Rattle.rows.specs.Projects.{Row, link, tagged, pairsFrom, durations, demandsOn}
-use Rattle.rows.specs.Patterson.{row}
-use Rattle.rows.specs.Walk.{Seen, seeing, see, Fit, addPair, addRow, StepSays}
+use Rattle.rows.specs.Walk.{rowIn, Seen, seeing, see, Fit, addPair, addRow, StepSays}
 use Rattle.order.specs.declared.Pull.the-variants.{Next, NoMore}
-use Rattle.order.specs.Pairs.{onlyPairs, comes, PullSays}
-
-pub pairs-any : (n k a b next left : ℕ) (ts : List Token) → onlyPairs (seeing n k a next left ts) ≡ onlyPairs (seeing n k b next left ts)
-unfolding seeing
-pairs-any n k a b next left ts = go (times (λ i. link n) 0 left ts)
-  where
-    rest : (ss : List ℕ) (r : Read (List Row))
-        → onlyPairs (andThen r (λ rs t₂. good (record { durs = durations rs; dems = demandsOn a rs; pairs = tagged (next - 1) ss ++ pairsFrom next rs }) t₂))
-        ≡ onlyPairs (andThen r (λ rs t₂. good (record { durs = durations rs; dems = demandsOn b rs; pairs = tagged (next - 1) ss ++ pairsFrom next rs }) t₂))
-    rest ss (bad c) = refl
-    rest ss (good rs t₂) = refl
-
-    go : (r : Read (List ℕ))
-        → onlyPairs (andThen r (λ ss t₁. andThen (times (row n k) next (n - next) t₁) (λ rs t₂. good (record { durs = durations rs; dems = demandsOn a rs; pairs = tagged (next - 1) ss ++ pairsFrom next rs }) t₂)))
-        ≡ onlyPairs (andThen r (λ ss t₁. andThen (times (row n k) next (n - next) t₁) (λ rs t₂. good (record { durs = durations rs; dems = demandsOn b rs; pairs = tagged (next - 1) ss ++ pairsFrom next rs }) t₂)))
-    go (bad c) = refl
-    go (good ss t₁) = rest ss (times (row n k) next (n - next) t₁)
+use Rattle.rows.specs.Parsed.{onlyPairs, comes}
+use Rattle.order.specs.Pairs.{PullSays}
 
 only-row : (d q : ℕ) (r : Read Seen) → onlyPairs (addRow d q r) ≡ onlyPairs r
 only-row d q (bad c) = refl
@@ -42,30 +27,30 @@ only-pair p (bad c) ps end e = bad-not-good (bad c) c ps end refl e
 only-pair p (good x ts) ps end e = let u : ts ≡ end = cc in (x .pairs, cc, rw u)
 
 -- from w₀ to w there were heads of rows alone
-pub record Pulling (n k : ℕ) (s : List ℕ) (w₀ w : Walk) : Type 0 where
+pub record Pulling (n : ℕ) (table : Table) (s : List ℕ) (w₀ w : Walk) : Type 0 where
   pub fit : Fit n w
-  pub same : comes n k s w₀ ≡ comes n k s w
+  pub same : comes n table s w₀ ≡ comes n table s w
   pub later : length (tokens (drop (w .at) s)) ≤ length (tokens (drop (w₀ .at) s))
 
-module _ (n k : ℕ) (s : List ℕ) (w₀ w : Walk) (g : Pulling n k s w₀ w) where
-  pub pulling-row : (d q : ℕ) (u : Walk) → StepSays n k 0 s w (steps.Begun d q u) → Pulling n k s w₀ u
+module _ (n : ℕ) (table : Table) (s : List ℕ) (w₀ w : Walk) (g : Pulling n table s w₀ w) where
+  pub pulling-row : (d q : ℕ) (u : Walk) → StepSays n table 0 s w (steps.Begun d q u) → Pulling n table s w₀ u
   pulling-row d q u t = record {
     fit = t .1;
-    same = g .same ∙ ap onlyPairs (t .0) ∙ only-row d q (see n k 0 s u);
+    same = g .same ∙ ap onlyPairs (t .0) ∙ only-row d q (see n table 0 s u);
     later = omega (arith, t .2, g .later);
   }
 
-  pub pulling-pair : (v : ℕ) (u : Walk) → StepSays n k 0 s w (steps.Successor v u) → PullSays n k s w₀ (Next (w .next - 1) v u)
+  pub pulling-pair : (v : ℕ) (u : Walk) → StepSays n table 0 s w (steps.Successor v u) → PullSays n table s w₀ (Next (w .next - 1) v u)
   pulling-pair v u t = (
-    (λ ps end e. only-pair (pair (w .next - 1) v) (see n k 0 s u) ps end (sym (ap onlyPairs (t .0)) ∙ sym (g .same) ∙ e)),
+    (λ ps end e. only-pair (pair (w .next - 1) v) (see n table 0 s u) ps end (sym (ap onlyPairs (t .0)) ∙ sym (g .same) ∙ e)),
     t .1,
     omega (arith, t .2, g .later),
     omega (arith, g .fit .begun, g .fit .owned, t .5),
     t .3,
   )
 
-  pub pulling-done : StepSays n k 0 s w steps.Done → PullSays n k s w₀ NoMore
+  pub pulling-done : StepSays n table 0 s w steps.Done → PullSays n table s w₀ NoMore
   pulling-done t ps end e = let q : good [] (tokens (drop (w .at) s)) ≡ good ps end = sym (ap onlyPairs (t .0)) ∙ sym (g .same) ∙ e in cc
 
-  pub pulling-stop : (c : ℕ) → StepSays n k 0 s w (steps.Stop c) → PullSays n k s w₀ NoMore
+  pub pulling-stop : (c : ℕ) → StepSays n table 0 s w (steps.Stop c) → PullSays n table s w₀ NoMore
   pulling-stop c t ps end e = bad-not-good (bad c) c ps end refl (sym (ap onlyPairs t) ∙ sym (g .same) ∙ e)

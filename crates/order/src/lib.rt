@@ -5,6 +5,7 @@ mod rounds;
 use rounds::exceeds;
 use rounds::settle;
 use rows::Step;
+use rows::Table;
 use rows::Walk;
 ghost use mathlib.Core.Path.{_≡_};
 ghost use mathlib.Core.List.{List};
@@ -16,7 +17,8 @@ ghost use Rattle.chains.specs.Paths.{Pair, Precedes, Below};
 ghost use Rattle.texts.specs.Tokens.{Token};
 ghost use Rattle.texts.specs.Readings.{good};
 ghost use Rattle.rows.specs.Walk.{Fit};
-ghost use Rattle.order.specs.Pairs.{PullSays, comes, first};
+ghost use Rattle.rows.specs.Parsed.{comes, first};
+ghost use Rattle.order.specs.Pairs.{PullSays};
 ghost use Rattle.order.specs.Chains.{OrderSays};
 
 // A job, one of its successors, and the walk behind them; or no more pairs.
@@ -26,13 +28,13 @@ pub enum Pull {
 }
 
 // The next pair of the text. Each turn takes a token.
-pub fn next_pair(text: &[u8], n: u32, k: u32, start: Walk) -> Pull
+pub fn next_pair(text: &[u8], n: u32, table: Table, start: Walk) -> Pull
     requires { ⌜ Fit n start × (n ≤ mostJobs) ⌝ }
-    ensures { λ r. ⌜ PullSays n k (now (text .entry)) start r ⌝ }
+    ensures { λ r. ⌜ PullSays n table (now (text .entry)) start r ⌝ }
 {
     let mut w = start;
     loop {
-        match rows::advance(text, n, k, 0, w) {
+        match rows::advance(text, n, table, 0, w) {
             Step::Successor(v, u) => {
                 let next = w.next;
                 return Pull::Next(next - 1, v, u);
@@ -55,7 +57,7 @@ pub fn next_pair(text: &[u8], n: u32, k: u32, start: Walk) -> Pull
 pub fn longest_chains(
     text: &[u8],
     n: u32,
-    k: u32,
+    table: Table,
     at: usize,
     dur: &[u32; joblist::MOST],
     h: u32,
@@ -64,17 +66,17 @@ pub fn longest_chains(
 ) -> u32
     requires { ⌜ (n ≤ mostJobs) × (length (now dur) ≡ mostJobs) × (now heads ≡ replicate mostJobs 0) × (now tails ≡ replicate mostJobs 0) × (h ≤ mostTime) ⌝ }
     requires { ⌜ ((j : ℕ) → now dur ! j ≤ mostTime) ⌝ }
-    ensures { λ r. ⌜ ((ps : List Pair) (end : List Token) → comes n k (now (text .entry)) (first at) ≡ good ps end → Below n (Precedes ps) → OrderSays ps n (now (dur .entry)) h (now (heads .exit)) (now (tails .exit)) r) × (length (now (heads .exit)) ≡ mostJobs) × (length (now (tails .exit)) ≡ mostJobs) ⌝ }
+    ensures { λ r. ⌜ ((ps : List Pair) (end : List Token) → comes n table (now (text .entry)) (first at) ≡ good ps end → Below n (Precedes ps) → OrderSays ps n (now (dur .entry)) h (now (heads .exit)) (now (tails .exit)) r) × (length (now (heads .exit)) ≡ mostJobs) × (length (now (tails .exit)) ≡ mostJobs) ⌝ }
 {
     let ones = [1u32; joblist::MOST];
     let mut levels = [0u32; joblist::MOST];
-    if !settle(text, n, k, at, &ones, false, n, &mut levels) {
+    if !settle(text, n, table, at, &ones, false, n, &mut levels) {
         return 33;
     }
-    if !settle(text, n, k, at, dur, false, h, heads) {
+    if !settle(text, n, table, at, dur, false, h, heads) {
         return 34;
     }
-    if !settle(text, n, k, at, dur, true, h, tails) {
+    if !settle(text, n, table, at, dur, true, h, tails) {
         return 34;
     }
     if exceeds(heads, dur, n, h) {

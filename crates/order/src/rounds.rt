@@ -2,6 +2,7 @@
 // longest chain has jobs, and one in which nothing changes; where there is a cycle, no more than there are jobs and one.
 use crate::Pull;
 use crate::next_pair;
+use rows::Table;
 use rows::Walk;
 ghost use mathlib.Core.Path.{_≡_};
 ghost use Prim.Native.Nat.{ℕ, _≤_, _<_};
@@ -9,7 +10,7 @@ ghost use lib.ListN.{length, replicate};
 ghost use Rattle.lists.specs.Lists.{_!_};
 ghost use mathlib.Core.Bool.{cond};
 ghost use Rattle.joblist.specs.Limits.{mostTime, mostJobs};
-ghost use Rattle.order.specs.Pairs.{comes, first};
+ghost use Rattle.rows.specs.Parsed.{comes, first};
 ghost use Rattle.order.specs.Rounds.{RiseSays, RoundSays, SettleSays, ExceedsSays};
 
 // A value stays; it is raised; it would rise above the limit.
@@ -58,7 +59,7 @@ fn select(back: bool, a: u32, b: u32) -> u32
 fn relax(
     text: &[u8],
     n: u32,
-    k: u32,
+    table: Table,
     at: usize,
     p: &[u32; joblist::MOST],
     back: bool,
@@ -67,7 +68,7 @@ fn relax(
 ) -> Round
     requires { ⌜ (n ≤ mostJobs) × (length (now p) ≡ mostJobs) × (length (now v) ≡ mostJobs) × (top ≤ mostTime) ⌝ }
     requires { ⌜ ((j : ℕ) → now p ! j ≤ mostTime) × ((j : ℕ) → now v ! j ≤ top) ⌝ }
-    ensures { λ r. ⌜ RoundSays (comes n k (now (text .entry)) (first at)) (now (p .entry)) back top (now (v .entry)) (now (v .exit)) r × (length (now (v .exit)) ≡ mostJobs) ⌝ }
+    ensures { λ r. ⌜ RoundSays (comes n table (now (text .entry)) (first at)) (now (p .entry)) back top (now (v .entry)) (now (v .exit)) r × (length (now (v .exit)) ≡ mostJobs) ⌝ }
 {
     let mut w = Walk {
         next: 0,
@@ -76,7 +77,7 @@ fn relax(
     };
     let mut changed = false;
     loop {
-        match next_pair(text, n, k, w) {
+        match next_pair(text, n, table, w) {
             Pull::NoMore => {
                 if changed {
                     return Round::Changed;
@@ -108,7 +109,7 @@ fn relax(
 pub fn settle(
     text: &[u8],
     n: u32,
-    k: u32,
+    table: Table,
     at: usize,
     p: &[u32; joblist::MOST],
     back: bool,
@@ -117,10 +118,10 @@ pub fn settle(
 ) -> bool
     requires { ⌜ (n ≤ mostJobs) × (length (now p) ≡ mostJobs) × (now v ≡ replicate mostJobs 0) × (top ≤ mostTime) ⌝ }
     requires { ⌜ ((j : ℕ) → now p ! j ≤ mostTime) ⌝ }
-    ensures { λ r. ⌜ SettleSays (comes n k (now (text .entry)) (first at)) n (now (p .entry)) back top (now (v .exit)) r × (length (now (v .exit)) ≡ mostJobs) ⌝ }
+    ensures { λ r. ⌜ SettleSays (comes n table (now (text .entry)) (first at)) n (now (p .entry)) back top (now (v .exit)) r × (length (now (v .exit)) ≡ mostJobs) ⌝ }
 {
     loop {
-        match relax(text, n, k, at, p, back, top, v) {
+        match relax(text, n, table, at, p, back, top, v) {
             Round::Same => {
                 return true;
             }

@@ -5,5 +5,6 @@ pub mod Whole
 pub mod Steps
 pub mod Checking
 pub mod Limits
+pub mod Parsing
 pub mod Exactly
 pub mod Cases

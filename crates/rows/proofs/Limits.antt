@@ -11,19 +11,11 @@ use Rattle.chains.specs.Paths.{Pair, Precedes, Below}
 use Rattle.texts.specs.Tokens.{Token, tokens}
 use Rattle.texts.specs.Readings.{bad, good, andThen, one, times, many, nothingMore}
 use Rattle.texts.proofs.Readings.{bad-not-good, good-same, then-good, one-takes, one-codes, many-takes, many-codes, times-takes, times-codes, each-within}
-use Rattle.rows.specs.Projects.{Row, Project, tagged, pairsFrom, pairsOf, durations, demandsOn}
+use Rattle.rows.specs.Projects.{Row, Project, tagged, pairsFrom, durations, demandsOn, Within}
 use Rattle.rows.specs.Patterson.{row, Opening, opening, project, patterson}
 use Rattle.rows.specs.Walk.{headIn, rowIn}
 use Rattle.rows.specs.declared.Table.the-variants.{Whole}
 use Rattle.rows.proofs.Takes.{OfText, low-code, then-codes, row-codes, Limited, row-takes}
-
--- a project within the limits
-pub record Within (x : Project) : Type 0 where
-  pub few : length (x .rows) ≤ mostJobs
-  pub capacities : (k : ℕ) → x .capacities ! k ≤ mostDemand
-  pub durations : (j : ℕ) → durations (x .rows) ! j ≤ mostTime
-  pub demands : (resource j : ℕ) → demandsOn resource (x .rows) ! j ≤ mostDemand
-  pub range : Below (length (x .rows)) (Precedes (pairsOf x))
 
 durations-limited : (n : ℕ) (rs : List Row) → Every (Limited n) rs → (j : ℕ) → durations rs ! j ≤ mostTime
 durations-limited n [] h j = omega arith

@@ -95,6 +95,11 @@ pub low-code : {c : ℕ} → (c ≡ 30) ⊎ (c ≡ 31) → OfText c
 low-code (inl e) = inl e
 low-code (inr e) = inr (inl e)
 
+pub some-code : {c : ℕ} → OfText c → c ≡ 0 → ⊥
+some-code (inl e) z = omega arith
+some-code (inr (inl e)) z = omega arith
+some-code (inr (inr e)) z = omega arith
+
 high-code : {c : ℕ} → (c ≡ 30) ⊎ (c ≡ 32) → OfText c
 high-code (inl e) = inl e
 high-code (inr e) = inr (inr e)

@@ -1,11 +1,13 @@
 -- What a text of a public library says, whatever its layout: jobs with a duration, a demand on each resource, and successors (document 01, 'Library
 -- layouts').
-use Prim.Native.Nat.{ℕ, suc, _-_}
+use Prim.Native.Nat.{ℕ, suc, _-_, _≤_}
 use mathlib.Core.Bool.{cond}
 use mathlib.Core.List.{List, [], _∷_, _++_, map}
 use lib.Dec.{eqb}
+use lib.ListN.{length}
 use Rattle.lists.specs.Lists.{_!_}
-use Rattle.chains.specs.Paths.{Pair, pair}
+use Rattle.joblist.specs.Limits.{mostTime, mostDemand, mostJobs}
+use Rattle.chains.specs.Paths.{Pair, pair, Precedes, Below}
 use Rattle.texts.specs.Tokens.{Token}
 use Rattle.texts.specs.Readings.{Read, bad, good, andThen, one, times}
 
@@ -59,3 +61,11 @@ durations rs = map (λ (r : Row). r .duration) rs
 
 abbrev pub demandsOn : ℕ → List Row → List ℕ
 demandsOn resource rs = map (λ (r : Row). r .demands ! resource) rs
+
+-- a project whose numbers are within their limits, its successors among its jobs
+pub record Within (x : Project) : Type 0 where
+  pub few : length (x .rows) ≤ mostJobs
+  pub capacities : (k : ℕ) → x .capacities ! k ≤ mostDemand
+  pub durations : (j : ℕ) → durations (x .rows) ! j ≤ mostTime
+  pub demands : (resource j : ℕ) → demandsOn resource (x .rows) ! j ≤ mostDemand
+  pub range : Below (length (x .rows)) (Precedes (pairsOf x))

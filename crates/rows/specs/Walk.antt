@@ -18,8 +18,8 @@ use Rattle.rows.specs.declared.Table.{Table}
 use Rattle.rows.specs.declared.Table.the-variants.{Whole, Relations}
 use Rattle.rows.specs.declared.parts.HeadGot.{HeadGot}
 use Rattle.rows.specs.declared.parts.HeadGot.the-variants.{Line, NoLine}
-use Rattle.rows.specs.declared.Opened.{Opened}
-use Rattle.rows.specs.declared.Opened.the-variants.{Ready, Closed}
+use Rattle.rows.specs.declared.parts.Opened.{Opened}
+use Rattle.rows.specs.declared.parts.Opened.the-variants.{Ready, Closed}
 use Rattle.rows.specs.declared.Walk.{Walk}
 use Rattle.rows.specs.declared.Step.{Step}
 use Rattle.rows.specs.declared.Step.the-variants.{Successor, Begun, Done, Stop}

@@ -3,9 +3,10 @@
 mod parts;
 
 use parts::HeadGot;
+use parts::Opened;
+use parts::open_text;
 use parts::read_front;
 use parts::read_link;
-use parts::read_many;
 use texts::Got;
 ghost use mathlib.Core.Path.{_≡_};
 ghost use Prim.Native.Nat.{ℕ, _≤_};
@@ -13,14 +14,9 @@ ghost use lib.ListN.{length, drop};
 ghost use Rattle.lists.specs.Lists.{_!_};
 ghost use Rattle.joblist.specs.Limits.{mostTime, mostJobs};
 ghost use Rattle.texts.specs.Tokens.{tokens};
-ghost use Rattle.rows.specs.Patterson.{opening};
-ghost use Rattle.rows.specs.Walk.{OpenSays, Fit, StepSays, FoundSays, seeing};
-
-// Job count, resource count, the chosen capacity (0 where there is no such resource) and the place of the rows; or a refusal.
-pub enum Opened {
-    Ready(u32, u32, u32, usize),
-    Closed(u32),
-}
+ghost use Rattle.rows.specs.Patterson.{patterson};
+ghost use Rattle.rows.specs.Walk.{Fit, StepSays, FoundSays, seeing};
+ghost use Rattle.rows.specs.Parsed.{ParsedSays};
 
 // A table of rows: whole jobs on so many resources, as in Patterson's layout, or PSPLIB's precedence relations.
 pub enum Table {
@@ -49,20 +45,20 @@ pub enum Found {
     Not(u32),
 }
 
-// The counts and the capacities.
-pub fn open_text(text: &[u8], res: u32) -> Opened
-    ensures { λ r. ⌜ OpenSays (opening (tokens (now (text .entry)))) (now (text .entry)) res r ⌝ }
-{
-    match texts::next_up_to(text, 0, joblist::MOST as u32, 31) {
-        Got::Bad(c) => Opened::Closed(c),
-        Got::Good(n, a) => match texts::next_up_to(text, a, joblist::RESOURCES, 31) {
-            Got::Bad(c) => Opened::Closed(c),
-            Got::Good(k, b) => match read_many(text, b, k, joblist::DRAW, res) {
-                Got::Bad(c) => Opened::Closed(c),
-                Got::Good(cap, at) => Opened::Ready(n, k, cap, at),
-            },
-        },
-    }
+// Job count, resource count, the chosen capacity, the pair count, and where the rows with the pairs stand.
+pub struct Shape {
+    pub n: u32,
+    pub k: u32,
+    pub cap: u32,
+    pub pairs: usize,
+    pub table: Table,
+    pub at: usize,
+}
+
+// A text read whole, or its refusal.
+pub enum Parsed {
+    Entire(Shape),
+    Broken(u32),
 }
 
 // One step along the rows.
@@ -144,6 +140,40 @@ pub fn validate(
             }
             Step::Stop(c) => {
                 return Found::Not(c);
+            }
+        }
+    }
+}
+
+// A whole text of the Patterson layout, durations and demands kept.
+pub fn parse(
+    text: &[u8],
+    res: u32,
+    dur: &mut [u32; joblist::MOST],
+    dem: &mut [u32; joblist::MOST],
+) -> Parsed
+    requires { ⌜ (length (now dur) ≡ mostJobs) × (length (now dem) ≡ mostJobs) × ((j : ℕ) → now dur ! j ≤ mostTime) ⌝ }
+    ensures { λ r. ⌜ ParsedSays (patterson (now (text .entry))) (now (text .entry)) res (now (dur .exit)) (now (dem .exit)) r × (length (now (dur .exit)) ≡ mostJobs) × (length (now (dem .exit)) ≡ mostJobs) × ((j : ℕ) → now (dur .exit) ! j ≤ mostTime) ⌝ }
+{
+    match open_text(text, res) {
+        Opened::Closed(c) => Parsed::Broken(c),
+        Opened::Ready(n, k, cap, at) => {
+            let table = Table::Whole(k);
+            match validate(text, at, n, table, res, dur, dem) {
+                Found::Not(c) => Parsed::Broken(c),
+                Found::All(pairs, to) => {
+                    if !texts::is_over(text, to) {
+                        return Parsed::Broken(30);
+                    }
+                    Parsed::Entire(Shape {
+                        n,
+                        k,
+                        cap,
+                        pairs,
+                        table,
+                        at,
+                    })
+                }
             }
         }
     }

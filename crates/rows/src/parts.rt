@@ -1,4 +1,4 @@
-// The parts of a row: a successor, several numbers, and what stands before the successors.
+// The parts of a text: a successor, several numbers, what stands before a row's successors, and what stands before the rows.
 use crate::Table;
 use texts::Got;
 ghost use mathlib.Core.Path.{_≡_};
@@ -10,14 +10,20 @@ ghost use Rattle.texts.specs.Tokens.{tokens};
 ghost use Rattle.texts.specs.Readings.{many};
 ghost use Rattle.texts.specs.Scan.{GotSays};
 ghost use Rattle.rows.specs.Projects.{link};
-ghost use Rattle.rows.specs.Patterson.{head};
+ghost use Rattle.rows.specs.Patterson.{head, opening};
 ghost use Rattle.rows.specs.Relations.{relationHead};
-ghost use Rattle.rows.specs.Walk.{PickSays, HeadSays, headIn};
+ghost use Rattle.rows.specs.Walk.{PickSays, HeadSays, OpenSays, headIn};
 
 // Duration, demand of the chosen resource, successor count, and the place behind them; or a refusal.
 pub enum HeadGot {
     Line(u32, u32, u32, usize),
     NoLine(u32),
+}
+
+// Job count, resource count, the chosen capacity (0 where there is no such resource) and the place of the rows; or a refusal.
+pub enum Opened {
+    Ready(u32, u32, u32, usize),
+    Closed(u32),
 }
 
 // A successor, from 0.
@@ -46,7 +52,7 @@ fn choose(i: u32, res: u32, v: u32, old: u32) -> u32
 }
 
 // m numbers up to `top`; the answer is the one at `res`, 0 where there is none.
-pub fn read_many(text: &[u8], at: usize, m: u32, top: u32, res: u32) -> Got
+fn read_many(text: &[u8], at: usize, m: u32, top: u32, res: u32) -> Got
     ensures { λ r. ⌜ PickSays (many top m (tokens (drop at (now (text .entry))))) (now (text .entry)) res r ⌝ }
 {
     let mut picked: u32 = 0;
@@ -90,9 +96,9 @@ fn read_relation(text: &[u8], at: usize, n: u32, j: u32, res: u32) -> HeadGot
 {
     match texts::next_exactly(text, at, j + 1) {
         Got::Bad(c) => HeadGot::NoLine(c),
-        Got::Good(_, a) => match texts::next_exactly(text, a, 1) {
+        Got::Good(_, mode) => match texts::next_exactly(text, mode, 1) {
             Got::Bad(c) => HeadGot::NoLine(c),
-            Got::Good(_, b) => match texts::next_up_to(text, b, n, 31) {
+            Got::Good(_, count) => match texts::next_up_to(text, count, n, 31) {
                 Got::Bad(c) => HeadGot::NoLine(c),
                 Got::Good(m, e) => HeadGot::Line(0, 0, m, e),
             },
@@ -108,5 +114,21 @@ pub fn read_front(text: &[u8], at: usize, n: u32, table: Table, j: u32, res: u32
     match table {
         Table::Whole(resources) => read_head(text, at, n, resources, res),
         Table::Relations => read_relation(text, at, n, j, res),
+    }
+}
+
+// The counts and the capacities.
+pub fn open_text(text: &[u8], res: u32) -> Opened
+    ensures { λ r. ⌜ OpenSays (opening (tokens (now (text .entry)))) (now (text .entry)) res r ⌝ }
+{
+    match texts::next_up_to(text, 0, joblist::MOST as u32, 31) {
+        Got::Bad(c) => Opened::Closed(c),
+        Got::Good(n, a) => match texts::next_up_to(text, a, joblist::RESOURCES, 31) {
+            Got::Bad(c) => Opened::Closed(c),
+            Got::Good(k, b) => match read_many(text, b, k, joblist::DRAW, res) {
+                Got::Bad(c) => Opened::Closed(c),
+                Got::Good(cap, at) => Opened::Ready(n, k, cap, at),
+            },
+        },
     }
 }

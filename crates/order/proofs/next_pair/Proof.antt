@@ -10,10 +10,10 @@ use Rattle.order.proofs.next_pair.Statement.{statement}
 use Rattle.order.proofs.next_pair.Tie as tie
 
 abbrev Inv-loop : tie.InvT-loop
-Inv-loop text n k w₀ w = Pulling n k text w₀ w
+Inv-loop text n table w₀ w = Pulling n table text w₀ w
 
 abbrev μ-loop : tie.MeasureT-loop
-μ-loop text n k w₀ w = length (tokens (drop (w .at) text))
+μ-loop text n table w₀ w = length (tokens (drop (w .at) text))
 
 loop-holds : tie.Need-loop-holds Inv-loop μ-loop
 loop-holds c = record { fit = c .before .pre .0; same = refl; later = omega arith }

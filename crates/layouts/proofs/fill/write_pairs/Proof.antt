@@ -9,10 +9,10 @@ use Rattle.layouts.proofs.fill.write_pairs.Statement.{statement}
 use Rattle.layouts.proofs.fill.write_pairs.Tie as tie
 
 abbrev Inv-loop : tie.InvT-loop
-Inv-loop text n k at js₀ ss₀ w₀ i₀ js ss w i = Writing n k text at js₀ ss₀ js ss w i
+Inv-loop text n table at js₀ ss₀ w₀ i₀ js ss w i = Writing n table text at js₀ ss₀ js ss w i
 
 abbrev μ-loop : tie.MeasureT-loop
-μ-loop text n k at js₀ ss₀ w₀ i₀ js ss w i = length (tokens (drop (w .at) text))
+μ-loop text n table at js₀ ss₀ w₀ i₀ js ss w i = length (tokens (drop (w .at) text))
 
 loop-holds : tie.Need-loop-holds Inv-loop μ-loop
 loop-holds c = writing-start _ _ _ _ _ _

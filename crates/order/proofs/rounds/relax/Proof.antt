@@ -6,16 +6,16 @@ use lib.ListN.{length, drop}
 use Rattle.joblist.specs.Limits.{mostJobs}
 use Rattle.texts.specs.Tokens.{tokens}
 use Rattle.rows.specs.Walk.{Fit}
-use Rattle.order.specs.Pairs.{comes, first}
+use Rattle.rows.specs.Parsed.{comes, first}
 use Rattle.order.proofs.Relaxing.{Relaxing, relaxing-start, relaxing-kept, relaxing-rose, relaxing-over, relaxing-same, relaxing-changed, both-below}
 use Rattle.order.proofs.rounds.relax.Statement.{statement}
 use Rattle.order.proofs.rounds.relax.Tie as tie
 
 abbrev Inv-loop : tie.InvT-loop
-Inv-loop text n k at p back top v₀ w₀ changed₀ v w changed = Fit n w × Relaxing (comes n k text (first at)) (comes n k text w) p back top v₀ v changed
+Inv-loop text n table at p back top v₀ w₀ changed₀ v w changed = Fit n w × Relaxing (comes n table text (first at)) (comes n table text w) p back top v₀ v changed
 
 abbrev μ-loop : tie.MeasureT-loop
-μ-loop text n k at p back top v₀ w₀ changed₀ v w changed = length (tokens (drop (w .at) text))
+μ-loop text n table at p back top v₀ w₀ changed₀ v w changed = length (tokens (drop (w .at) text))
 
 loop-holds : tie.Need-loop-holds Inv-loop μ-loop
 loop-holds c =

@@ -1,7 +1,7 @@
 -- `order::settle` meets its contract: the values are chains' lengths below the limit, and their sum rises with each round.
 use Prim.Native.Nat.{_-_, _*_}
 use borrow.Author.Needs.{needs}
-use Rattle.order.specs.Pairs.{comes, first}
+use Rattle.rows.specs.Parsed.{comes, first}
 use Rattle.order.specs.Rounds.{sum}
 use Rattle.joblist.specs.Limits.{mostJobs}
 use Rattle.order.proofs.Settling.{Settling, settling-start, settling-again, settling-less, settling-true, settling-false}
@@ -9,10 +9,10 @@ use Rattle.order.proofs.rounds.settle.Statement.{statement}
 use Rattle.order.proofs.rounds.settle.Tie as tie
 
 abbrev Inv-loop : tie.InvT-loop
-Inv-loop text n k at p back top v₀ v = Settling (comes n k text (first at)) p back top v
+Inv-loop text n table at p back top v₀ v = Settling (comes n table text (first at)) p back top v
 
 abbrev μ-loop : tie.MeasureT-loop
-μ-loop text n k at p back top v₀ v = mostJobs * top - sum v
+μ-loop text n table at p back top v₀ v = mostJobs * top - sum v
 
 loop-holds : tie.Need-loop-holds Inv-loop μ-loop
 loop-holds c = settling-start _ _ _ _ _ (c .before .pre .0 .2)

@@ -14,8 +14,8 @@ next-exactly-requires c κs = search needs
 enum-known-c : tie.Need-enum-known-c
 enum-known-c c = search needs
 
-enum-known-a : tie.Need-enum-known-a
-enum-known-a c = search needs
+enum-known-mode : tie.Need-enum-known-mode
+enum-known-mode c = search needs
 
 next-exactly-requires-2 : tie.Need-next-exactly-requires-2
 next-exactly-requires-2 c κs = search needs
@@ -23,8 +23,8 @@ next-exactly-requires-2 c κs = search needs
 enum-known-c-2 : tie.Need-enum-known-c-2
 enum-known-c-2 c = search needs
 
-enum-known-b : tie.Need-enum-known-b
-enum-known-b c = search needs
+enum-known-count : tie.Need-enum-known-count
+enum-known-count c = search needs
 
 next-up-to-requires : tie.Need-next-up-to-requires
 next-up-to-requires c κs = search needs
@@ -40,21 +40,21 @@ returns c = relation-bad _ _ _ _ (rw (c .before .c .given .1) at (c .before .bef
 
 returns-2 : tie.Need-returns-2
 returns-2 c =
-    let p = rw (c .before .before .before .before .before .a .given .1) at (c .before .before .before .before .before .before .before .next-exactly .ensures) in
+    let p = rw (c .before .before .before .before .before .mode .given .1) at (c .before .before .before .before .before .before .before .next-exactly .ensures) in
     let q = rw (c .before .c2 .given .1) at (c .before .before .before .next-exactly2 .ensures) in
     relation-bad₂ _ _ _ _ _ p _ q
 
 returns-3 : tie.Need-returns-3
 returns-3 c =
-    let p = rw (c .before .before .before .before .before .before .before .before .before .a .given .1) at (c .before .before .before .before .before .before .before .before .before .before .before .next-exactly .ensures) in
-    let q = rw (c .before .before .before .before .before .b .given .1) at (c .before .before .before .before .before .before .before .next-exactly2 .ensures) in
+    let p = rw (c .before .before .before .before .before .before .before .before .before .mode .given .1) at (c .before .before .before .before .before .before .before .before .before .before .before .next-exactly .ensures) in
+    let q = rw (c .before .before .before .before .before .count .given .1) at (c .before .before .before .before .before .before .before .next-exactly2 .ensures) in
     let r = rw (c .before .c3 .given .1) at (c .before .before .before .next-up-to .ensures) in
     relation-bad₃ _ _ _ _ _ p _ _ q _ r
 
 returns-4 : tie.Need-returns-4
 returns-4 c =
-    let p = rw (c .before .before .before .before .before .before .before .before .before .a .given .1) at (c .before .before .before .before .before .before .before .before .before .before .before .next-exactly .ensures) in
-    let q = rw (c .before .before .before .before .before .b .given .1) at (c .before .before .before .before .before .before .before .next-exactly2 .ensures) in
+    let p = rw (c .before .before .before .before .before .before .before .before .before .mode .given .1) at (c .before .before .before .before .before .before .before .before .before .before .before .next-exactly .ensures) in
+    let q = rw (c .before .before .before .before .before .count .given .1) at (c .before .before .before .before .before .before .before .next-exactly2 .ensures) in
     let r = rw (c .before .m .given .1) at (c .before .before .before .next-up-to .ensures) in
     (_, relation-good _ _ _ _ _ p _ _ q _ _ r, refl, refl, refl)
 
@@ -65,10 +65,10 @@ read-relation-spec =
     add-next-exactly
     next-exactly-requires
     enum-known-c
-    enum-known-a
+    enum-known-mode
     next-exactly-requires-2
     enum-known-c-2
-    enum-known-b
+    enum-known-count
     next-up-to-requires
     enum-known-c-3
     enum-known-m

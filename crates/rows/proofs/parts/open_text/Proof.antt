@@ -3,8 +3,8 @@ use mathlib.Core.Path.{refl}
 use Rattle.texts.proofs.Readings.{one-takes, many-takes}
 use Rattle.rows.proofs.Whole.{opening-bad, opening-bad₂, opening-bad₃, opening-good}
 use borrow.Author.Needs.{needs}
-use Rattle.rows.proofs.open_text.Statement.{statement}
-use Rattle.rows.proofs.open_text.Tie as tie
+use Rattle.rows.proofs.parts.open_text.Statement.{statement}
+use Rattle.rows.proofs.parts.open_text.Tie as tie
 
 cast-next-up-to : tie.Need-cast-next-up-to
 cast-next-up-to c = search needs

@@ -1,10 +1,10 @@
--- `layouts::parse` meets its contract: the opening, the rows, and nothing behind them.
+-- `rows::parse` meets its contract: the opening, the rows, and nothing behind them.
 use mathlib.Core.Path.{sym, _∙_}
 use borrow.Author.Needs.{needs}
 use borrow.Author.Tests.{not-true, not-false}
-use Rattle.layouts.proofs.Parsing.{parsed-closed, parsed-rows, parsed-over, parsed-whole}
-use Rattle.layouts.proofs.parts.parse.Statement.{statement}
-use Rattle.layouts.proofs.parts.parse.Tie as tie
+use Rattle.rows.proofs.Parsing.{parsed-closed, parsed-rows, parsed-over, parsed-whole}
+use Rattle.rows.proofs.parse.Statement.{statement}
+use Rattle.rows.proofs.parse.Tie as tie
 
 open-text-requires : tie.Need-open-text-requires
 open-text-requires c κs = search needs

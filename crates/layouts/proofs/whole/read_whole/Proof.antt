@@ -1,18 +1,21 @@
 -- `layouts::read_whole` meets its contract: each refusal is answered with the lists as they were, and the lists are written behind the last of them.
-use mathlib.Core.Path.{_≡_, refl}
+use mathlib.Core.Path.{_≡_, refl, subst}
+use mathlib.Core.List.{[]}
 use native.Mathlib.Omega.{arith}
 use borrow.Author.Needs.{needs}
 use borrow.Author.Tests.{not-true, not-false}
-use Rattle.rows.proofs.Limits.{patterson-takes}
+use Rattle.texts.proofs.Readings.{good-same}
+use Rattle.rows.specs.Projects.{Within}
+use Rattle.rows.proofs.Parsing.{parsing-range, parsing-few}
 use Rattle.layouts.proofs.Answering.{no-resource, no-room, no-order, taken}
 use Rattle.layouts.proofs.Meaning.{reads-of}
-use Rattle.layouts.proofs.read_whole.Statement.{statement}
-use Rattle.layouts.proofs.read_whole.Tie as tie
+use Rattle.layouts.proofs.whole.read_whole.Statement.{statement}
+use Rattle.layouts.proofs.whole.read_whole.Tie as tie
 
 returns : tie.Need-returns
 returns c =
     let s = c .before .before .before .before .before .before .before .before .before .pre in
-    reads-of _ (λ x rest e. patterson-takes _ rest x e .within) _ (no-resource _ _ _ _ (s .0) _ _ _ _ (s .1 .1) (s .1 .2) (omega (arith, c .if1 .taken)))
+    λ x p. reads-of _ (λ y rest e. subst Within (good-same x y [] rest e .0) (p .limits)) _ (no-resource _ _ _ _ (s .0) _ _ _ _ x refl p (omega (arith, c .if1 .taken)))
 
 roomy-requires : tie.Need-roomy-requires
 roomy-requires c κs = search needs
@@ -21,27 +24,27 @@ returns-2 : tie.Need-returns-2
 returns-2 c =
     let s = c .before .before .before .before .before .before .before .before .before .before .before .pre in
     let m = rw (not-true (c .before .roomy .result) (c .if2 .taken)) at (c .before .roomy .ensures) in
-    reads-of _ (λ x rest e. patterson-takes _ rest x e .within) _ (no-room _ _ _ _ (s .0) _ _ _ _ (s .1 .1) (s .1 .2) (omega (arith, c .before .before .if1 .left)) m)
+    λ x p. reads-of _ (λ y rest e. subst Within (good-same x y [] rest e .0) (p .limits)) _ (no-room _ _ _ _ (s .0) _ _ _ _ x refl p (omega (arith, c .before .before .if1 .left)) m)
 
 longest-chains-requires : tie.Need-longest-chains-requires
 longest-chains-requires c κs =
     let s = c .before .before .before .before .before .before .before .before .before .before .before .before .before .pre in
-    ((s .1 .2 .few, s .2, refl, refl, s .0), s .4)
+    ((parsing-few _ _ _ _ _ _ (s .1 .1), s .2, refl, refl, s .0), s .4)
 
 returns-3 : tie.Need-returns-3
 returns-3 c =
     let s = c .before .before .before .before .before .before .before .before .before .before .before .before .before .before .before .pre in
     let m = rw (not-false (c .before .before .before .before .before .roomy .result) (c .before .before .before .before .if2 .left)) at (c .before .before .before .before .before .roomy .ensures) in
-    reads-of _ (λ x rest e. patterson-takes _ rest x e .within) _
-    (no-order _ _ _ _ (s .0) _ _ _ _ (s .1 .1) (s .1 .2) (omega (arith, c .before .before .before .before .before .before .if1 .left)) m _ _ _ (λ z. omega (arith, c .if3 .taken, z))
-    (c .before .longest-chains .ensures .0 _ _ (s .1 .2 .come) (s .1 .2 .range)))
+    λ x p. reads-of _ (λ y rest e. subst Within (good-same x y [] rest e .0) (p .limits)) _
+    (no-order _ _ _ _ (s .0) _ _ _ _ x refl p (omega (arith, c .before .before .before .before .before .before .if1 .left)) m _ _ _ (λ z. omega (arith, c .if3 .taken, z))
+    (c .before .longest-chains .ensures .0 _ _ (p .come) (parsing-range _ _ _ _ _ _ p)))
 
 restore-requires : tie.Need-restore-requires
 restore-requires c κs =
     let s = c .before .before .before .before .before .before .before .before .before .before .before .before .before .before .before .before .before .pre in
     let o = c .before .before .before .longest-chains .ensures in
     let m = rw (not-false (c .before .before .before .before .before .before .before .roomy .result) (c .before .before .before .before .before .before .if2 .left)) at (c .before .before .before .before .before .before .before .roomy .ensures) in
-    (omega (arith, m .est, s .1 .2 .few), omega (arith, o .1, o .2))
+    (omega (arith, m .est, parsing-few _ _ _ _ _ _ (s .1 .1)), omega (arith, o .1, o .2))
 
 latest-requires : tie.Need-latest-requires
 latest-requires c κs =
@@ -49,26 +52,26 @@ latest-requires c κs =
     let o = c .before .before .before .before .before .before .before .before .longest-chains .ensures in
     let m = rw (not-false (c .before .before .before .before .before .before .before .before .before .before .before .before .roomy .result) (c .before .before .before .before .before .before .before .before .before .before .before .if2 .left)) at (c .before .before .before .before .before .before .before .before .before .before .before .before .roomy .ensures) in
     let none : c .before .before .before .before .before .before .before .before .longest-chains .result ≡ 0 = omega (arith, c .before .before .before .before .before .before .before .if3 .left) in
-    let p = rw none at (o .0 _ _ (s .1 .2 .come) (s .1 .2 .range)) in
-    (omega (arith, o .1, o .2), omega (arith, m .lct, s .1 .2 .few), λ j. omega (arith, p .low j))
+    let p = rw none at (o .0 _ _ (s .1 .1 .come) (parsing-range _ _ _ _ _ _ (s .1 .1))) in
+    (omega (arith, o .1, o .2), omega (arith, m .lct, parsing-few _ _ _ _ _ _ (s .1 .1)), λ j. omega (arith, p .low j))
 
 restore-requires-2 : tie.Need-restore-requires-2
 restore-requires-2 c κs =
     let s = c .before .before .before .before .before .before .before .before .before .before .before .before .before .before .before .before .before .before .before .before .before .before .before .before .before .before .pre in
     let m = rw (not-false (c .before .before .before .before .before .before .before .before .before .before .before .before .before .before .before .before .roomy .result) (c .before .before .before .before .before .before .before .before .before .before .before .before .before .before .before .if2 .left)) at (c .before .before .before .before .before .before .before .before .before .before .before .before .before .before .before .before .roomy .ensures) in
-    (omega (arith, m .dur, s .1 .2 .few), s .2)
+    (omega (arith, m .dur, parsing-few _ _ _ _ _ _ (s .1 .1)), s .2)
 
 restore-requires-3 : tie.Need-restore-requires-3
 restore-requires-3 c κs =
     let s = c .before .before .before .before .before .before .before .before .before .before .before .before .before .before .before .before .before .before .before .before .before .before .before .before .before .before .before .before .before .before .pre in
     let m = rw (not-false (c .before .before .before .before .before .before .before .before .before .before .before .before .before .before .before .before .before .before .before .before .roomy .result) (c .before .before .before .before .before .before .before .before .before .before .before .before .before .before .before .before .before .before .before .if2 .left)) at (c .before .before .before .before .before .before .before .before .before .before .before .before .before .before .before .before .before .before .before .before .roomy .ensures) in
-    (omega (arith, m .dem, s .1 .2 .few), s .3)
+    (omega (arith, m .dem, parsing-few _ _ _ _ _ _ (s .1 .1)), s .3)
 
 write-pairs-requires : tie.Need-write-pairs-requires
 write-pairs-requires c κs =
-    let p = c .before .before .before .before .before .before .before .before .before .before .before .before .before .before .before .before .before .before .before .before .before .before .before .before .before .before .before .before .before .before .before .before .before .before .before .pre .1 .2 in
+    let p = c .before .before .before .before .before .before .before .before .before .before .before .before .before .before .before .before .before .before .before .before .before .before .before .before .before .before .before .before .before .before .before .before .before .before .before .pre .1 .1 in
     let m = rw (not-false (c .before .before .before .before .before .before .before .before .before .before .before .before .before .before .before .before .before .before .before .before .before .before .before .before .before .roomy .result) (c .before .before .before .before .before .before .before .before .before .before .before .before .before .before .before .before .before .before .before .before .before .before .before .before .if2 .left)) at (c .before .before .before .before .before .before .before .before .before .before .before .before .before .before .before .before .before .before .before .before .before .before .before .before .before .roomy .ensures) in
-    (p .few, record { ps = _; end = _; come = p .come; jobs = omega (arith, m .jobs, p .count); successors = omega (arith, m .successors, p .count) })
+    (parsing-few _ _ _ _ _ _ p, record { ps = _; end = _; come = p .come; jobs = omega (arith, m .jobs, p .count); successors = omega (arith, m .successors, p .count) })
 
 same-length : tie.Need-same-length
 same-length c = search needs
@@ -94,8 +97,8 @@ returns-4 c =
     let o = c .before .before .before .before .before .before .before .before .before .before .before .before .before .before .before .before .before .before .before .before .before .before .before .before .before .before .longest-chains .ensures in
     let m = rw (not-false (c .before .before .before .before .before .before .before .before .before .before .before .before .before .before .before .before .before .before .before .before .before .before .before .before .before .before .before .before .before .before .roomy .result) (c .before .before .before .before .before .before .before .before .before .before .before .before .before .before .before .before .before .before .before .before .before .before .before .before .before .before .before .before .before .if2 .left)) at (c .before .before .before .before .before .before .before .before .before .before .before .before .before .before .before .before .before .before .before .before .before .before .before .before .before .before .before .before .before .before .roomy .ensures) in
     let none : c .before .before .before .before .before .before .before .before .before .before .before .before .before .before .before .before .before .before .before .before .before .before .before .before .before .before .longest-chains .result ≡ 0 = omega (arith, c .before .before .before .before .before .before .before .before .before .before .before .before .before .before .before .before .before .before .before .before .before .before .before .before .before .if3 .left) in
-    reads-of _ (λ x rest e. patterson-takes _ rest x e .within) _
-    (taken _ _ _ _ (s .0) _ _ _ _ (s .1 .1) (s .1 .2) (omega (arith, c .before .before .before .before .before .before .before .before .before .before .before .before .before .before .before .before .before .before .before .before .before .before .before .before .before .before .before .before .before .before .before .if1 .left)) m _ _ _ _ none (o .0 _ _ (s .1 .2 .come) (s .1 .2 .range)) (o .1)
+    λ x p. reads-of _ (λ y rest e. subst Within (good-same x y [] rest e .0) (p .limits)) _
+    (taken _ _ _ _ (s .0) _ _ _ _ x refl p (omega (arith, c .before .before .before .before .before .before .before .before .before .before .before .before .before .before .before .before .before .before .before .before .before .before .before .before .before .before .before .before .before .before .before .if1 .left)) m _ _ _ _ none (o .0 _ _ (p .come) (parsing-range _ _ _ _ _ _ p)) (o .1)
     (c .before .before .before .before .before .before .before .before .before .before .before .before .before .before .before .before .before .before .before .before .before .before .restore .ensures) (c .before .before .before .before .before .before .before .before .before .before .before .before .before .before .before .before .before .latest .ensures) (c .before .before .before .before .before .before .before .before .before .before .before .before .before .restore2 .ensures) (c .before .before .before .before .before .before .before .before .before .restore3 .ensures) (c .before .before .before .before .write-pairs .ensures))
 
 pub read-whole-spec : {M : Type 1} → statement M
