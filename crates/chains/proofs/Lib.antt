@@ -3,3 +3,4 @@ pub mod Chains
 pub mod Passes
 pub mod Longest
 pub mod Cycles
+pub mod Listed

@@ -1,0 +1,64 @@
+-- Pairs in two lists: they are the pairs that stand at the lists' places, and pairs in rising order and pairs that are not are never both there.
+use Prim.Native.Nat.{ℕ, zero, suc, _≤_, _<_}
+use native.Mathlib.Omega.{arith}
+use mathlib.Core.Path.{_≡_, refl}
+use mathlib.Core.List.{List, [], _∷_}
+use mathlib.Core.Logic.{_⊎_, inl, inr}
+use lib.ListN.{length, drop, drop-of-length-le}
+use Rattle.lists.specs.Lists.{_!_}
+use Rattle.chains.specs.Paths.{Pair, pair, Precedes, Listed, Below}
+use Rattle.chains.specs.Listed.{paired, InRange, InOrder, Rising, OutOfRange, OutOfOrder, NotRising}
+
+pub paired-length : (js ss : List ℕ) → length ss ≡ length js → length (paired js ss) ≡ length js
+paired-length [] ss e = refl
+paired-length (j ∷ js) [] e = absurd (omega arith)
+paired-length (j ∷ js) (s ∷ ss) e = let q = paired-length js ss (omega arith) in omega (arith, q)
+
+-- ---- one of the pairs
+
+pub paired-listed : (js ss : List ℕ) (a b : ℕ) → Precedes (paired js ss) a b → Listed js ss (length js) a b
+paired-listed [] ss a b r = absurd r
+paired-listed (j ∷ js) [] a b r = absurd r
+paired-listed (j ∷ js) (s ∷ ss) a b (inl e) = (0, omega arith, e .0, e .1)
+paired-listed (j ∷ js) (s ∷ ss) a b (inr r) = let q = paired-listed js ss a b r in (suc (q .0), omega (arith, q .1), q .2, q .3)
+
+pub listed-paired : (js ss : List ℕ) → length ss ≡ length js → (a b : ℕ) → Listed js ss (length js) a b → Precedes (paired js ss) a b
+listed-paired [] ss e a b q = absurd (omega (arith, q .1))
+listed-paired (j ∷ js) [] e a b q = absurd (omega arith)
+listed-paired (j ∷ js) (s ∷ ss) e a b (zero, h, x, y) = inl (x, y)
+listed-paired (j ∷ js) (s ∷ ss) e a b (suc i, h, x, y) = inr (listed-paired js ss (omega arith) a b (i, omega arith, x, y))
+
+pub paired-below : (n : ℕ) (js ss : List ℕ) → ((i : ℕ) → i < length js → InRange n js ss i) → Below n (Precedes (paired js ss))
+paired-below n js ss f a b r =
+    let q = paired-listed js ss a b r in
+    let g = f (q .0) (q .1) in
+    (omega (arith, q .2, g .0), omega (arith, q .3, g .1))
+
+-- ---- the pairs from a place on
+
+pub paired-next : (js ss : List ℕ) → length ss ≡ length js → (i : ℕ) → i < length js → drop i (paired js ss) ≡ pair (js ! i) (ss ! i) ∷ drop (suc i) (paired js ss)
+paired-next [] ss e i h = absurd (omega arith)
+paired-next (j ∷ js) [] e i h = absurd (omega arith)
+paired-next (j ∷ js) (s ∷ ss) e zero h = refl
+paired-next (j ∷ js) (s ∷ ss) e (suc i) h = paired-next js ss (omega arith) i (omega arith)
+
+pub paired-end : (js ss : List ℕ) → length ss ≡ length js → (i : ℕ) → length js ≤ i → drop i (paired js ss) ≡ []
+paired-end js ss e i h = drop-of-length-le (paired js ss) {i = i} (omega (arith, paired-length js ss e))
+
+-- ---- the order of the pairs
+
+module _ (n : ℕ) (js ss : List ℕ) (i : ℕ) where
+  range-one : InRange n js ss i → OutOfRange n js ss i → ⊥
+  range-one f (inl h) = omega (arith, f .0)
+  range-one f (inr h) = omega (arith, f .1)
+
+  order-one : InOrder js ss i → OutOfOrder js ss i → ⊥
+  order-one (inl f) (inl h) = omega arith
+  order-one (inl f) (inr h) = omega (arith, h .0)
+  order-one (inr f) (inl h) = omega (arith, f .0)
+  order-one (inr f) (inr h) = omega (arith, f .1, h .1)
+
+-- pairs are in range and in rising order or they are not
+pub rising-one : (n : ℕ) (js ss : List ℕ) → Rising n js ss → NotRising n js ss → ⊥
+rising-one n js ss f (inl h) = range-one n js ss (h .0) (f .range (h .0) (h .1)) (h .2)
+rising-one n js ss f (inr h) = order-one n js ss (h .0) (f .order (h .0) (h .1)) (h .2)
