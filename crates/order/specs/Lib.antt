@@ -1,3 +1,4 @@
 pub mod Pairs
 pub mod Rounds
 pub mod Chains
+pub mod Listed

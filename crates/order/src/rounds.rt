@@ -28,7 +28,7 @@ pub enum Round {
 }
 
 // Raises the value at b to the one at a plus x, up to `top`.
-fn lift(v: &mut [u32; joblist::MOST], a: u32, b: u32, x: u32, top: u32) -> Rise
+pub fn lift(v: &mut [u32; joblist::MOST], a: u32, b: u32, x: u32, top: u32) -> Rise
     requires { ⌜ (a < mostJobs) × (b < mostJobs) × (length (now v) ≡ mostJobs) × (now v ! a ≤ mostTime) × (x ≤ mostTime) ⌝ }
     ensures { λ r. ⌜ RiseSays (now (v .entry)) (now (v .exit)) a b x top r × (length (now (v .exit)) ≡ mostJobs) ⌝ }
 {
