@@ -5,10 +5,8 @@ use native.Mathlib.Numerals.{add-one}
 use mathlib.Core.Path.{_≡_, refl, sym, ap, _∙_, subst}
 use mathlib.Core.Bool.{Bool, true, false}
 use mathlib.Core.List.{List, []}
-use mathlib.Core.Logic.{inl, inr}
-use lib.Dec.{ltb}
+use mathlib.Core.Logic.{_⊎_, inr}
 use lib.ListN.{length, drop, replicate, getD-replicate}
-use borrow.Author.Tests.{ltb-true, ltb-false}
 use Rattle.lists.specs.Lists.{_!_}
 use Rattle.joblist.specs.Limits.{mostJobs}
 use Rattle.chains.specs.Paths.{Pair}
@@ -66,17 +64,10 @@ module _ (js ss : List ℕ) (l : length ss ≡ length js) (n : ℕ) (few : n ≤
     pub place-over : RiseSays v v' (js ! i) (ss ! i) 1 n High → RoundSays (lent js ss 0) (replicate mostJobs 1) false n v₀ v' Over
     place-over t = relaxing-over _ _ _ _ _ _ _ _ g _ _ _ (from-place js ss l i h) (js ! i) (ss ! i) refl refl v' (by-one v v' (js ! i) (ss ! i) n High (omega (arith, f .0)) t)
 
--- the pair at place i beside the next one: of a lower job, of a higher one, of the same
+-- the pair at place i beside the next one
 module _ (n : ℕ) (js ss : List ℕ) (i : ℕ) where
-  pub lower-job : InRange n js ss i → js ! i < js ! (i + 1) → PlacedSays n js ss i true
-  lower-job f h = (f, λ k. inl (rw (← add-one i) h))
+  pub comes-before : InRange n js ss i → (js ! i < js ! (i + 1)) ⊎ ((js ! i ≡ js ! (i + 1)) × (ss ! i < ss ! (i + 1))) → PlacedSays n js ss i true
+  comes-before f h = (f, λ b. rw (← add-one i) h)
 
-  pub higher-job : i + 1 < length js → js ! (i + 1) < js ! i → PlacedSays n js ss i false
-  higher-job b h = inr (i, omega arith, inl (rw (← add-one i) h))
-
-  pub same-job : InRange n js ss i → i + 1 < length js → js ! (i + 1) ≡ js ! i → PlacedSays n js ss i (ltb (ss ! i) (ss ! (i + 1)))
-  same-job f b e = go (ltb (ss ! i) (ss ! (i + 1))) refl
-    where
-      go : (t : Bool) → ltb (ss ! i) (ss ! (i + 1)) ≡ t → PlacedSays n js ss i t
-      go true q = (f, λ k. inr (rw (← add-one i) (sym e), rw (← add-one i) (ltb-true (ss ! i) (ss ! (i + 1)) q)))
-      go false q = inr (i, omega arith, inr (rw (← add-one i) e, rw (← add-one i) (ltb-false (ss ! i) (ss ! (i + 1)) q)))
+  pub not-before : i + 1 < length js → (js ! (i + 1) < js ! i) ⊎ ((js ! (i + 1) ≡ js ! i) × (ss ! (i + 1) ≤ ss ! i)) → PlacedSays n js ss i false
+  not-before b h = inr (i, omega arith, rw (← add-one i) h)

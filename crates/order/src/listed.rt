@@ -40,7 +40,10 @@ fn placed(jobs: &[u32], successors: &[u32], n: u32, i: usize) -> bool
     if c < a {
         return false;
     }
-    b < d
+    if b < d {
+        return true;
+    }
+    false
 }
 
 // Whether every pair is of the n jobs, and they are in strictly rising order.
@@ -48,17 +51,17 @@ pub fn rising(jobs: &[u32], successors: &[u32], n: u32) -> bool
     requires { ⌜ length (now successors) ≡ length (now jobs) ⌝ }
     ensures { λ r. ⌜ RisingSays n (now (jobs .entry)) (now (successors .entry)) r ⌝ }
 {
-    let mut i: usize = 0;
-    while i < jobs.len() {
-        if !placed(jobs, successors, n, i) {
+    let mut at: usize = 0;
+    while at < jobs.len() {
+        if !placed(jobs, successors, n, at) {
             return false;
         }
-        i += 1;
+        at += 1;
     }
     true
 }
 
-// One round over the pairs, with steps counted up to n.
+// One round over the pairs: a step counts 1, and n is the limit.
 fn round_listed(jobs: &[u32], successors: &[u32], n: u32, v: &mut [u32; joblist::MOST]) -> Round
     requires { ⌜ (n ≤ mostJobs) × (length (now successors) ≡ length (now jobs)) × (length (now v) ≡ mostJobs) ⌝ }
     requires { ⌜ ((i : ℕ) → i < length (now jobs) → InRange n (now jobs) (now successors) i) × ((j : ℕ) → now v ! j ≤ n) ⌝ }

@@ -1,7 +1,7 @@
 -- `order::placed` meets its contract, branch by branch.
 use native.Mathlib.Omega.{arith}
 use mathlib.Core.Logic.{inl, inr}
-use Rattle.order.proofs.Places.{lower-job, higher-job, same-job}
+use Rattle.order.proofs.Places.{comes-before, not-before}
 use borrow.Author.Needs.{needs}
 use Rattle.order.proofs.listed.placed.Statement.{statement}
 use Rattle.order.proofs.listed.placed.Tie as tie
@@ -19,20 +19,16 @@ shared-slice-read-b : tie.Need-shared-slice-read-b
 shared-slice-read-b c = search needs
 
 returns : tie.Need-returns
-returns c =
-    let q = c .before .before .before .pre in
-    inl (c .before .before .before .args .i, q .1, inl (c .if1 .taken))
+returns c = inl (c .before .before .before .args .i, c .before .before .before .pre .1, inl (omega (arith, c .if1 .taken)))
 
 returns-2 : tie.Need-returns-2
-returns-2 c =
-    let q = c .before .before .before .before .pre in
-    inl (c .before .before .before .before .args .i, q .1, inr (c .if2 .taken))
+returns-2 c = inl (c .before .before .before .before .args .i, c .before .before .before .before .pre .1, inr (omega (arith, c .if2 .taken)))
 
 add-k : tie.Need-add-k
 add-k c = search needs
 
 returns-3 : tie.Need-returns-3
-returns-3 c = ((c .before .before .if1 .left, c .before .if2 .left), λ h. absurd (omega (arith, c .if3 .taken)))
+returns-3 c = ((omega (arith, c .before .before .if1 .left), omega (arith, c .before .if2 .left)), λ h. absurd (omega (arith, c .if3 .taken)))
 
 mul-c : tie.Need-mul-c
 mul-c c = search needs
@@ -49,17 +45,22 @@ shared-slice-read-d c = search needs
 returns-4 : tie.Need-returns-4
 returns-4 c =
     let a = c .before .before .before .before .before .before .before .before .args in
-    lower-job (a .n) (a .jobs .now) (a .successors .now) (a .i) (c .before .before .before .before .before .if1 .left, c .before .before .before .before .if2 .left) (c .if4 .taken)
+    comes-before (a .n) (a .jobs .now) (a .successors .now) (a .i) (omega (arith, c .before .before .before .before .before .if1 .left), omega (arith, c .before .before .before .before .if2 .left)) (inl (omega (arith, c .if4 .taken)))
 
 returns-5 : tie.Need-returns-5
 returns-5 c =
     let a = c .before .before .before .before .before .before .before .before .before .args in
-    higher-job (a .n) (a .jobs .now) (a .successors .now) (a .i) (omega (arith, c .before .before .before .before .if3 .left)) (c .if5 .taken)
+    not-before (a .n) (a .jobs .now) (a .successors .now) (a .i) (omega (arith, c .before .before .before .before .if3 .left)) (inl (omega (arith, c .if5 .taken)))
 
 returns-6 : tie.Need-returns-6
 returns-6 c =
-    let a = c .before .before .before .before .before .before .before .before .before .args in
-    same-job (a .n) (a .jobs .now) (a .successors .now) (a .i) (c .before .before .before .before .before .before .if1 .left, c .before .before .before .before .before .if2 .left) (omega (arith, c .before .before .before .before .if3 .left)) (omega (arith, c .before .if4 .left, c .if5 .left))
+    let a = c .before .before .before .before .before .before .before .before .before .before .args in
+    comes-before (a .n) (a .jobs .now) (a .successors .now) (a .i) (omega (arith, c .before .before .before .before .before .before .before .if1 .left), omega (arith, c .before .before .before .before .before .before .if2 .left)) (inr (omega (arith, c .before .before .if4 .left, c .before .if5 .left), omega (arith, c .if6 .taken)))
+
+returns-7 : tie.Need-returns-7
+returns-7 c =
+    let a = c .before .before .before .before .before .before .before .before .before .before .args in
+    not-before (a .n) (a .jobs .now) (a .successors .now) (a .i) (omega (arith, c .before .before .before .before .before .if3 .left)) (inr (omega (arith, c .before .before .if4 .left, c .before .if5 .left), omega (arith, c .if6 .left)))
 
 pub placed-spec : {M : Type 1} → statement M
 placed-spec =
@@ -79,4 +80,5 @@ placed-spec =
     shared-slice-read-d
     returns-4
     returns-5
-    returns-6)
+    returns-6
+    returns-7)

@@ -11,10 +11,10 @@ use Rattle.order.proofs.listed.rising.Statement.{statement}
 use Rattle.order.proofs.listed.rising.Tie as tie
 
 abbrev Inv-loop : tie.InvT-loop
-Inv-loop jobs successors n i₀ i = (k : ℕ) → k < i → InRange n jobs successors k × (suc k < length jobs → InOrder jobs successors k)
+Inv-loop jobs successors n at₀ at = (k : ℕ) → k < at → InRange n jobs successors k × (suc k < length jobs → InOrder jobs successors k)
 
 abbrev μ-loop : tie.MeasureT-loop
-μ-loop jobs successors n i₀ i = length jobs - i
+μ-loop jobs successors n at₀ at = length jobs - at
 
 loop-holds : tie.Need-loop-holds Inv-loop μ-loop
 loop-holds c = λ k b. absurd (omega arith)
@@ -25,8 +25,8 @@ placed-requires c κs = search needs
 returns : tie.Need-returns Inv-loop μ-loop
 returns c = rw (not-true (c .before .placed .result) (c .if1 .taken)) at (c .before .placed .ensures)
 
-add-i : tie.Need-add-i Inv-loop μ-loop
-add-i c = search needs
+add-at : tie.Need-add-at Inv-loop μ-loop
+add-at c = search needs
 
 loop-less : tie.Need-loop-less Inv-loop μ-loop
 loop-less c = search needs
@@ -48,7 +48,7 @@ rising-spec =
     loop-holds
     placed-requires
     returns
-    add-i
+    add-at
     loop-less
     loop-again
     returns-2)
