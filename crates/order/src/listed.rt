@@ -74,12 +74,12 @@ fn round_listed(jobs: &[u32], successors: &[u32], n: u32, v: &mut [u32; joblist:
         let b = successors[i];
         i += 1;
         match lift(v, a, b, 1, n) {
+            Rise::High => {
+                return Round::Over;
+            }
             Rise::Kept => {}
             Rise::Rose => {
                 changed = true;
-            }
-            Rise::High => {
-                return Round::Over;
             }
         }
     }

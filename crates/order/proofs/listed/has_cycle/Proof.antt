@@ -5,7 +5,6 @@ use mathlib.Core.Path.{refl}
 use mathlib.Core.Bool.{false}
 use lib.ListN.{replicate}
 use Rattle.joblist.specs.Limits.{mostJobs}
-use Rattle.chains.specs.Listed.{paired}
 use Rattle.chains.proofs.Listed.{paired-below}
 use Rattle.order.specs.Rounds.{sum}
 use Rattle.order.proofs.Settling.{Settling, settling-start, settling-again, settling-less, settling-true, settling-false}

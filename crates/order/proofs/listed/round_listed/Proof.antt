@@ -1,10 +1,10 @@
 -- `order::round_listed` meets its contract: the pairs passed have made the values of the first ones, and the pairs from place i on make of them what all
 -- pairs make. The measure is what is left of the pairs.
-use Rattle.lists.specs.Lists.{_!_}
-use Prim.Native.Nat.{suc, _-_}
+use Prim.Native.Nat.{_-_}
 use native.Mathlib.Omega.{arith}
 use borrow.Author.Needs.{needs}
 use lib.ListN.{length}
+use Rattle.lists.specs.Lists.{_!_}
 use Rattle.order.proofs.Relaxing.{relaxing-start, relaxing-same, relaxing-changed}
 use Rattle.order.proofs.Places.{Counting, place-kept, place-rose, place-over, from-end}
 use Rattle.order.proofs.listed.round_listed.Statement.{statement}
@@ -46,6 +46,18 @@ lift-requires c κs =
 enum-told : tie.Need-enum-told Inv-loop μ-loop
 enum-told c = search needs
 
+returns : tie.Need-returns Inv-loop μ-loop
+returns c =
+    let q = c .before .before .before .before .before .before .before .before .before .before .pre in
+    let a = c .before .before .before .before .before .before .before .before .before .before .args in
+    let l = c .before .before .before .before .before .before .before .loop in
+    let b = c .before .before .before .before .before .before .loop-test .taken in
+    let h = rw (c .enum-told .given .1) at (c .before .before .lift .ensures .0) in
+    (place-over (a .jobs .now) (a .successors .now) (q .0 .1) (a .n) (q .0 .0) (l .i) b (q .1 .0 (l .i) b) _ (l .v) _ _ (l .inv) (h .0, omega (arith, h .1)), c .before .before .lift .ensures .1)
+
+enum-told-2 : tie.Need-enum-told-2 Inv-loop μ-loop
+enum-told-2 c = search needs
+
 loop-less : tie.Need-loop-less Inv-loop μ-loop
 loop-less c = search needs
 
@@ -55,11 +67,11 @@ loop-again c =
     let a = c .before .before .before .before .before .before .before .before .before .before .args in
     let l = c .before .before .before .before .before .before .before .loop in
     let b = c .before .before .before .before .before .before .loop-test .taken in
-    let h = rw (c .enum-told .given .1) at (c .before .before .lift .ensures .0) in
-    place-kept (a .jobs .now) (a .successors .now) (q .0 .1) (a .n) (q .0 .0) (l .i) b (q .1 .0 (l .i) b) _ _ _ _ (l .inv) h
+    let h = rw (c .enum-told2 .given .1) at (c .before .before .lift .ensures .0) in
+    place-kept (a .jobs .now) (a .successors .now) (q .0 .1) (a .n) (q .0 .0) (l .i) b (q .1 .0 (l .i) b) _ (l .v) _ _ (l .inv) (h .0, omega (arith, h .1))
 
-enum-told-2 : tie.Need-enum-told-2 Inv-loop μ-loop
-enum-told-2 c = search needs
+enum-told-3 : tie.Need-enum-told-3 Inv-loop μ-loop
+enum-told-3 c = search needs
 
 loop-less-2 : tie.Need-loop-less-2 Inv-loop μ-loop
 loop-less-2 c = search needs
@@ -70,32 +82,20 @@ loop-again-2 c =
     let a = c .before .before .before .before .before .before .before .before .before .before .args in
     let l = c .before .before .before .before .before .before .before .loop in
     let b = c .before .before .before .before .before .before .loop-test .taken in
-    let h = rw (c .enum-told2 .given .1) at (c .before .before .lift .ensures .0) in
-    place-rose (a .jobs .now) (a .successors .now) (q .0 .1) (a .n) (q .0 .0) (l .i) b (q .1 .0 (l .i) b) _ _ _ _ (l .inv) h
-
-enum-told-3 : tie.Need-enum-told-3 Inv-loop μ-loop
-enum-told-3 c = search needs
-
-returns : tie.Need-returns Inv-loop μ-loop
-returns c =
-    let q = c .before .before .before .before .before .before .before .before .before .before .pre in
-    let a = c .before .before .before .before .before .before .before .before .before .before .args in
-    let l = c .before .before .before .before .before .before .before .loop in
-    let b = c .before .before .before .before .before .before .loop-test .taken in
     let h = rw (c .enum-told3 .given .1) at (c .before .before .lift .ensures .0) in
-    (place-over (a .jobs .now) (a .successors .now) (q .0 .1) (a .n) (q .0 .0) (l .i) b (q .1 .0 (l .i) b) _ _ _ _ (l .inv) h, c .before .before .lift .ensures .1)
+    place-rose (a .jobs .now) (a .successors .now) (q .0 .1) (a .n) (q .0 .0) (l .i) b (q .1 .0 (l .i) b) _ (l .v) _ _ (l .inv) (h .0, omega (arith, h .1), omega (arith, h .2))
 
 returns-2 : tie.Need-returns-2 Inv-loop μ-loop
 returns-2 c =
     let l = c .before .before .loop in
     let a = c .before .before .before .before .before .args in
-    (relaxing-changed _ _ _ _ _ _ _ _ (l .inv) (from-end (a .jobs .now) (a .successors .now) (c .before .before .before .before .before .pre .0 .1) _ (c .before .loop-test .left)) (c .if1 .taken), l .inv .long)
+    (relaxing-changed _ _ _ _ _ _ _ _ (l .inv) (from-end (a .jobs .now) (a .successors .now) (c .before .before .before .before .before .pre .0 .1) (l .i) (omega (arith, c .before .loop-test .left))) (c .if1 .taken), l .inv .long)
 
 returns-3 : tie.Need-returns-3 Inv-loop μ-loop
 returns-3 c =
     let l = c .before .before .loop in
     let a = c .before .before .before .before .before .args in
-    (relaxing-same _ _ _ _ _ _ _ _ (l .inv) (from-end (a .jobs .now) (a .successors .now) (c .before .before .before .before .before .pre .0 .1) _ (c .before .loop-test .left)) (c .if1 .left), l .inv .long)
+    (relaxing-same _ _ _ _ _ _ _ _ (l .inv) (from-end (a .jobs .now) (a .successors .now) (c .before .before .before .before .before .pre .0 .1) (l .i) (omega (arith, c .before .loop-test .left))) (c .if1 .left), l .inv .long)
 
 pub round-listed-spec : {M : Type 1} → statement M
 round-listed-spec =
@@ -111,12 +111,12 @@ round-listed-spec =
     add-i
     lift-requires
     enum-told
+    returns
+    enum-told-2
     loop-less
     loop-again
-    enum-told-2
+    enum-told-3
     loop-less-2
     loop-again-2
-    enum-told-3
-    returns
     returns-2
     returns-3)
