@@ -1,6 +1,6 @@
 -- `order::round_listed` meets its contract: the pairs passed have made the values of the first ones, and the pairs from place i on make of them what all
 -- pairs make. The measure is what is left of the pairs.
-use Prim.Native.Nat.{_-_}
+use Prim.Native.Nat.{_<_, _-_}
 use native.Mathlib.Omega.{arith}
 use borrow.Author.Needs.{needs}
 use lib.ListN.{length}
@@ -40,7 +40,8 @@ lift-requires : tie.Need-lift-requires Inv-loop μ-loop
 lift-requires c κs =
     let q = c .before .before .before .before .before .before .before .pre in
     let l = c .before .before .before .before .loop in
-    let f = q .1 .0 (l .i) (c .before .before .before .loop-test .taken) in
+    let b : l .i < length (c .before .before .before .before .before .before .before .args .jobs .now) = omega (arith, c .before .before .before .loop-test .taken) in
+    let f = q .1 .0 (l .i) b in
     (omega (arith, f .0, q .0 .0), omega (arith, f .1, q .0 .0), l .inv .long, omega (arith, l .inv .low (c .before .before .before .before .before .before .before .args .jobs .now ! l .i), q .0 .0), omega arith)
 
 enum-told : tie.Need-enum-told Inv-loop μ-loop
@@ -51,7 +52,7 @@ returns c =
     let q = c .before .before .before .before .before .before .before .before .before .before .pre in
     let a = c .before .before .before .before .before .before .before .before .before .before .args in
     let l = c .before .before .before .before .before .before .before .loop in
-    let b = c .before .before .before .before .before .before .loop-test .taken in
+    let b : l .i < length (a .jobs .now) = omega (arith, c .before .before .before .before .before .before .loop-test .taken) in
     let h = rw (c .enum-told .given .1) at (c .before .before .lift .ensures .0) in
     (place-over (a .jobs .now) (a .successors .now) (q .0 .1) (a .n) (q .0 .0) (l .i) b (q .1 .0 (l .i) b) _ (l .v) _ _ (l .inv) (h .0, omega (arith, h .1)), c .before .before .lift .ensures .1)
 
@@ -66,7 +67,7 @@ loop-again c =
     let q = c .before .before .before .before .before .before .before .before .before .before .pre in
     let a = c .before .before .before .before .before .before .before .before .before .before .args in
     let l = c .before .before .before .before .before .before .before .loop in
-    let b = c .before .before .before .before .before .before .loop-test .taken in
+    let b : l .i < length (a .jobs .now) = omega (arith, c .before .before .before .before .before .before .loop-test .taken) in
     let h = rw (c .enum-told2 .given .1) at (c .before .before .lift .ensures .0) in
     place-kept (a .jobs .now) (a .successors .now) (q .0 .1) (a .n) (q .0 .0) (l .i) b (q .1 .0 (l .i) b) _ (l .v) _ _ (l .inv) (h .0, omega (arith, h .1))
 
@@ -81,7 +82,7 @@ loop-again-2 c =
     let q = c .before .before .before .before .before .before .before .before .before .before .pre in
     let a = c .before .before .before .before .before .before .before .before .before .before .args in
     let l = c .before .before .before .before .before .before .before .loop in
-    let b = c .before .before .before .before .before .before .loop-test .taken in
+    let b : l .i < length (a .jobs .now) = omega (arith, c .before .before .before .before .before .before .loop-test .taken) in
     let h = rw (c .enum-told3 .given .1) at (c .before .before .lift .ensures .0) in
     place-rose (a .jobs .now) (a .successors .now) (q .0 .1) (a .n) (q .0 .0) (l .i) b (q .1 .0 (l .i) b) _ (l .v) _ _ (l .inv) (h .0, omega (arith, h .1), omega (arith, h .2))
 
