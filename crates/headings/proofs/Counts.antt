@@ -1,0 +1,39 @@
+-- The number behind a line's colon: where code finds it, its limit, its refusals. And the lines passed over one by one.
+use Prim.Native.Nat.{ℕ, zero, suc, _-_, _≤_, _<_}
+use native.Mathlib.Omega.{arith}
+use mathlib.Core.Path.{_≡_, sym, ap, _∙_}
+use mathlib.Core.List.{List}
+use mathlib.Core.Logic.{_⊎_}
+use lib.ListN.{drop, take}
+use Rattle.texts.specs.Tokens.{Token, tokens}
+use Rattle.texts.specs.Readings.{bad, good, one}
+use Rattle.texts.proofs.Readings.{one-takes, one-codes}
+use Rattle.headings.specs.Lines.{line, nextLine, behindLines, behindColon, counted}
+use Rattle.headings.specs.Found.{behind, LineTo}
+use Rattle.headings.proofs.Places.{colon-is}
+
+-- on the part of the text that ends with the line
+pub counted-part : (top : ℕ) (s : List ℕ) (at end from : ℕ) → LineTo s at end → drop from (take end s) ≡ behind 58 (drop at (take end s))
+    → counted top (drop at s) ≡ one top 31 (tokens (drop from (take end s)))
+unfolding counted
+counted-part top s at end from l e = ap (λ (t : List ℕ). one top 31 (tokens t)) (sym (e ∙ sym (colon-is (drop at (take end s))) ∙ ap behindColon (l .same)))
+
+module _ (top : ℕ) (s : List ℕ) where
+  pub counted-codes : (c : ℕ) → counted top s ≡ bad c → (c ≡ 30) ⊎ (c ≡ 31)
+  unfolding counted
+  counted-codes c e = one-codes top 31 c (tokens (behindColon (line s))) e
+
+  pub counted-takes : (v : ℕ) (rest : List Token) → counted top s ≡ good v rest → v ≤ top
+  unfolding counted
+  counted-takes v rest e = one-takes top 31 v (tokens (behindColon (line s))) rest e .1
+
+-- ---- lines
+
+pub lines-none : (m : ℕ) (s : List ℕ) → m ≡ 0 → s ≡ behindLines m s
+unfolding behindLines
+lines-none m s e = rw e
+
+pub lines-step : (m : ℕ) (s t : List ℕ) → 0 < m → t ≡ nextLine s → behindLines m s ≡ behindLines (m - 1) t
+unfolding behindLines
+lines-step zero s t h e = absurd (omega arith)
+lines-step (suc m) s t h e = let z : suc m - 1 ≡ m = omega arith in rw (z, e)

@@ -1,0 +1,63 @@
+-- The headings of a text line by line, and what is known of them in front of a line.
+use Prim.Native.Nat.{ℕ, zero, suc, _+_, _-_, _≤_, _<_}
+use native.Mathlib.Numerals.{add-one}
+use native.Mathlib.Omega.{arith}
+use native.Mathlib.Decide.{ℕ-discrete}
+use mathlib.Core.Path.{_≡_, refl, sym, ap, _∙_, subst}
+use mathlib.Core.Bool.{Bool, true, false, cond}
+use mathlib.Core.List.{List, [], _∷_, _++_}
+use lib.Dec.{eqb}
+use lib.ListN.{length, drop, set, length-drop, length-set, drop-of-length-le}
+use lib.Seq.{getD-set-same, getD-set-other}
+use borrow.Author.Tests.{eqb-true, eq-eqb, ne-eqb}
+use Rattle.lists.specs.Lists.{_!_}
+use Rattle.headings.specs.Lines.{nextLine}
+use Rattle.headings.specs.Headings.{headings, startsWith, unspaced, Mark, markOf, lineMark, laterMarks, marks, inOrder, section}
+use Rattle.headings.specs.Found.{FindSays}
+
+-- ---- line by line
+
+pub marks-none : marks [] ≡ []
+unfolding marks
+marks-none = refl
+
+-- the headings of later lines are those of the text behind the first line
+later-is : (s : List ℕ) → laterMarks s ≡ marks (nextLine s)
+unfolding laterMarks marks nextLine
+later-is [] = refl
+later-is (b ∷ s) = go (eqb b 10) (later-is s)
+  where
+    go : (t : Bool) → laterMarks s ≡ marks (nextLine s) → cond t (lineMark s ++ laterMarks s) (laterMarks s) ≡ marks (cond t s (nextLine s))
+    go true e = refl
+    go false e = e
+
+pub marks-split : (s : List ℕ) → marks s ≡ lineMark s ++ marks (nextLine s)
+unfolding marks
+marks-split s = ap (λ (ms : List Mark). lineMark s ++ ms) (later-is s)
+
+-- spaces in front of a heading do not matter
+pub line-mark : (s t : List ℕ) (ms : List Mark) → t ≡ unspaced s → markOf 0 headings t ≡ ms → lineMark s ≡ ms
+unfolding lineMark
+line-mark s t ms e q = rw (← e) q
+
+next-most : (s : List ℕ) → length (nextLine s) ≤ length s
+unfolding nextLine
+next-most [] = omega arith
+next-most (b ∷ s) = go (eqb b 10) (next-most s)
+  where
+    go : (t : Bool) → length (nextLine s) ≤ length s → length (cond t s (nextLine s)) ≤ suc (length s)
+    go true k = omega arith
+    go false k = omega arith
+
+-- a line that is left has a byte at least
+next-less : (s : List ℕ) → 0 < length s → length (nextLine s) < length s
+unfolding nextLine
+next-less [] h = absurd (omega arith)
+next-less (b ∷ s) h = go (eqb b 10) s (next-most s)
+  where
+    go : (t : Bool) (u : List ℕ) → length (nextLine u) ≤ length u → length (cond t u (nextLine u)) < suc (length u)
+    go true u k = omega arith
+    go false u k = omega arith
+
+pub next-falls : (s : List ℕ) (at to : ℕ) → at < length s → drop to s ≡ nextLine (drop at s) → length s - to < length s - at
+next-falls s at to h e = omega (arith, length-drop at s, length-drop to s, ap length e, next-less (drop at s) (omega (arith, length-drop at s)))
