@@ -1,14 +1,12 @@
--- The number behind a line's colon: where code finds it, its limit, its refusals. And the lines passed over one by one.
-use Prim.Native.Nat.{ℕ, zero, suc, _-_, _≤_, _<_}
+-- The number behind a line's colon, where code finds it; and lines passed over one by one.
+use Prim.Native.Nat.{ℕ, zero, suc, _-_, _<_}
 use native.Mathlib.Omega.{arith}
 use mathlib.Core.Path.{_≡_, sym, ap, _∙_}
 use mathlib.Core.List.{List}
-use mathlib.Core.Logic.{_⊎_}
 use lib.ListN.{drop, take}
-use Rattle.texts.specs.Tokens.{Token, tokens}
-use Rattle.texts.specs.Readings.{bad, good, one}
-use Rattle.texts.proofs.Readings.{one-takes, one-codes}
-use Rattle.headings.specs.Lines.{line, nextLine, behindLines, behindColon, counted}
+use Rattle.texts.specs.Tokens.{tokens}
+use Rattle.texts.specs.Readings.{one}
+use Rattle.headings.specs.Lines.{nextLine, behindLines, behindColon, counted}
 use Rattle.headings.specs.Found.{behind, LineTo}
 use Rattle.headings.proofs.Places.{colon-is}
 
@@ -17,15 +15,6 @@ pub counted-part : (top : ℕ) (s : List ℕ) (at end from : ℕ) → LineTo s a
     → counted top (drop at s) ≡ one top 31 (tokens (drop from (take end s)))
 unfolding counted
 counted-part top s at end from l e = ap (λ (t : List ℕ). one top 31 (tokens t)) (sym (e ∙ sym (colon-is (drop at (take end s))) ∙ ap behindColon (l .same)))
-
-module _ (top : ℕ) (s : List ℕ) where
-  pub counted-codes : (c : ℕ) → counted top s ≡ bad c → (c ≡ 30) ⊎ (c ≡ 31)
-  unfolding counted
-  counted-codes c e = one-codes top 31 c (tokens (behindColon (line s))) e
-
-  pub counted-takes : (v : ℕ) (rest : List Token) → counted top s ≡ good v rest → v ≤ top
-  unfolding counted
-  counted-takes v rest e = one-takes top 31 v (tokens (behindColon (line s))) rest e .1
 
 -- ---- lines
 

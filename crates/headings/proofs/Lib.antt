@@ -1,3 +1,5 @@
+pub mod Cases
+pub mod Facts
 pub mod Places
 pub mod Marks
 pub mod Looking

@@ -1,18 +1,18 @@
 -- What is known in front of a line at `at`, with so many headings found: the rest decides whether all are in order, and those found start where `places` says.
-use Prim.Native.Nat.{ℕ, zero, suc, _+_, _≤_, _<_}
+use Prim.Native.Nat.{ℕ, suc, _+_, _≤_, _<_}
 use native.Mathlib.Numerals.{add-one}
 use native.Mathlib.Omega.{arith}
 use native.Mathlib.Decide.{ℕ-discrete}
-use mathlib.Core.Path.{_≡_, refl, sym, ap, _∙_, subst}
+use mathlib.Core.Path.{_≡_, refl, ap, _∙_}
 use mathlib.Core.Bool.{Bool, true, false}
-use mathlib.Core.List.{List, [], _∷_, _++_}
+use mathlib.Core.List.{List, [], _∷_}
 use lib.Dec.{eqb}
 use lib.ListN.{length, drop, set, length-set, drop-of-length-le}
 use lib.Seq.{getD-set-same, getD-set-other}
 use borrow.Author.Tests.{eqb-true, eq-eqb, ne-eqb}
 use Rattle.lists.specs.Lists.{_!_}
 use Rattle.headings.specs.Lines.{nextLine}
-use Rattle.headings.specs.Headings.{headings, Mark, lineMark, marks, inOrder, section}
+use Rattle.headings.specs.Headings.{headings, lineMark, marks, inOrder, section}
 use Rattle.headings.specs.Found.{FindSays}
 use Rattle.headings.proofs.Marks.{marks-none, marks-split}
 

@@ -1,19 +1,13 @@
 -- The headings of a text line by line, and what is known of them in front of a line.
-use Prim.Native.Nat.{ℕ, zero, suc, _+_, _-_, _≤_, _<_}
-use native.Mathlib.Numerals.{add-one}
+use Prim.Native.Nat.{ℕ, suc, _-_, _≤_, _<_}
 use native.Mathlib.Omega.{arith}
-use native.Mathlib.Decide.{ℕ-discrete}
-use mathlib.Core.Path.{_≡_, refl, sym, ap, _∙_, subst}
+use mathlib.Core.Path.{_≡_, refl, ap}
 use mathlib.Core.Bool.{Bool, true, false, cond}
 use mathlib.Core.List.{List, [], _∷_, _++_}
 use lib.Dec.{eqb}
-use lib.ListN.{length, drop, set, length-drop, length-set, drop-of-length-le}
-use lib.Seq.{getD-set-same, getD-set-other}
-use borrow.Author.Tests.{eqb-true, eq-eqb, ne-eqb}
-use Rattle.lists.specs.Lists.{_!_}
+use lib.ListN.{length, drop, length-drop}
 use Rattle.headings.specs.Lines.{nextLine}
-use Rattle.headings.specs.Headings.{headings, startsWith, unspaced, Mark, markOf, lineMark, laterMarks, marks, inOrder, section}
-use Rattle.headings.specs.Found.{FindSays}
+use Rattle.headings.specs.Headings.{headings, unspaced, Mark, markOf, lineMark, laterMarks, marks}
 
 -- ---- line by line
 

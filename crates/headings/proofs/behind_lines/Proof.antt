@@ -1,5 +1,4 @@
 -- `headings::behind_lines` meets its contract: the lines left, from `to` on, end where all of them do.
-use Prim.Native.Nat.{ℕ}
 use native.Mathlib.Omega.{arith}
 use mathlib.Core.Path.{_≡_, refl, sym, _∙_}
 use borrow.Author.Needs.{needs}

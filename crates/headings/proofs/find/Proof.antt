@@ -1,6 +1,6 @@
 -- `headings::find` meets its contract. The invariant is `Looking`: the lines from `at` on decide whether the headings are in order, and those found
 -- start where `places` says.
-use Prim.Native.Nat.{_<_, _-_}
+use Prim.Native.Nat.{_-_}
 use native.Mathlib.Omega.{arith}
 use borrow.Author.Needs.{needs}
 use lib.ListN.{length}

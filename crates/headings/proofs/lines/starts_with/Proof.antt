@@ -1,5 +1,5 @@
 -- `headings::starts_with` meets its contract: the first i bytes agree, so the rest decides.
-use Prim.Native.Nat.{_≤_, _<_, _-_}
+use Prim.Native.Nat.{_-_}
 use native.Mathlib.Omega.{arith}
 use mathlib.Core.Path.{_≡_, refl}
 use lib.ListN.{length, drop}
