@@ -44,10 +44,10 @@ module _ (s : List ℕ) (at found : ℕ) (places : List ℕ) (l : Looking s at f
     looking-other h = l .test ∙ rw (marks-split (drop at s), e, ne-eqb _ _ h)
 
     -- it has the next one
-    pub looking-next : (to : ℕ) → which ≡ found → which < length headings → drop to s ≡ nextLine (drop at s) → Looking s to (found + 1) (set places which p)
+    pub looking-next : (to put : ℕ) → put ≡ p → which ≡ found → which < length headings → drop to s ≡ nextLine (drop at s) → Looking s to (found + 1) (set places which put)
     unfolding inOrder section
-    looking-next to h b q = record {
-      size = length-set places which p ∙ l .size;
+    looking-next to put g h b q = record {
+      size = length-set places which put ∙ l .size;
       test = l .test ∙ rw (add-one, with-it, eq-eqb _ _ h);
       kept = placed;
       later = λ j. let z : found + 1 + j ≡ found + suc j = omega arith in rw z (l .later (suc j) ∙ rw with-it);
@@ -56,20 +56,20 @@ module _ (s : List ℕ) (at found : ℕ) (places : List ℕ) (l : Looking s at f
         with-it : marks (drop at s) ≡ record { which = which; from = drop p s } ∷ marks (drop to s)
         with-it = marks-split (drop at s) ∙ rw (e, q)
 
-        placed : (k : ℕ) → k < found + 1 → section k (marks s) ≡ drop (set places which p ! k) s
+        placed : (k : ℕ) → k < found + 1 → section k (marks s) ≡ drop (set places which put ! k) s
         placed k i = elim (ℕ-discrete k which) [
-          | yes d ↦ let z : k ≡ found + 0 = omega arith in let o : which < length places = omega (arith, l .size) in rw (d, getD-set-same places which p 0 o, ← d, z) (l .later 0 ∙ rw with-it)
-          | no d ↦ rw (getD-set-other places which k p 0 d) (l .kept k (omega arith))
+          | yes d ↦ let z : k ≡ found + 0 = omega arith in let o : which < length places = omega (arith, l .size) in rw (d, getD-set-same places which put 0 o, g, ← d, z) (l .later 0 ∙ rw with-it)
+          | no d ↦ rw (getD-set-other places which k put 0 d) (l .kept k (omega arith))
         ]
 
   -- no line is left
-  pub looking-end : length s ≤ at → FindSays s places (eqb found (length headings))
+  pub looking-end : (n : ℕ) → length s ≤ at → n ≡ length headings → FindSays s places (eqb found n)
   unfolding inOrder
-  looking-end h = go (eqb found (length headings)) refl
+  looking-end n h z = go (eqb found n) refl
     where
-      over : inOrder 0 (marks s) ≡ eqb found (length headings)
-      over = l .test ∙ rw (drop-of-length-le s h, marks-none)
+      over : inOrder 0 (marks s) ≡ eqb found n
+      over = l .test ∙ rw (drop-of-length-le s h, marks-none, z)
 
-      go : (t : Bool) → eqb found (length headings) ≡ t → FindSays s places t
-      go true e = let f : found ≡ length headings = eqb-true _ _ e in (over ∙ e, λ k b. l .kept k (omega arith))
+      go : (t : Bool) → eqb found n ≡ t → FindSays s places t
+      go true e = let f : found ≡ n = eqb-true _ _ e in (over ∙ e, λ k b. l .kept k (omega arith))
       go false e = over ∙ e

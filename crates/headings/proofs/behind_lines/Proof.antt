@@ -1,4 +1,5 @@
 -- `headings::behind_lines` meets its contract: the lines left, from `to` on, end where all of them do.
+use Prim.Native.Nat.{_<_}
 use native.Mathlib.Omega.{arith}
 use mathlib.Core.Path.{_≡_, refl, sym, _∙_}
 use borrow.Author.Needs.{needs}
@@ -27,7 +28,10 @@ loop-less : tie.Need-loop-less Inv-loop μ-loop
 loop-less c = omega arith
 
 loop-again : tie.Need-loop-again Inv-loop μ-loop
-loop-again c = c .before .before .loop .inv ∙ lines-step _ _ _ (c .before .loop-test .taken) (c .next-line .ensures)
+loop-again c =
+    let l = c .before .before in
+    let h : 0 < l .loop .left = omega (arith, c .before .loop-test .taken) in
+    l .loop .inv ∙ lines-step _ _ _ h (c .next-line .ensures)
 
 returns : tie.Need-returns Inv-loop μ-loop
 returns c =

@@ -1,7 +1,9 @@
 -- `headings::count_at` meets its contract: the part that ends with the line is read from behind its first colon on.
-use mathlib.Core.Path.{sym, _∙_}
+use mathlib.Core.Path.{sym}
+use lib.ListN.{take, drop}
 use lib.Seq.{length-take-le}
 use borrow.Author.Needs.{needs}
+use Rattle.texts.specs.Tokens.{tokens}
 use Rattle.headings.proofs.Counts.{counted-part}
 use Rattle.headings.proofs.count_at.Statement.{statement}
 use Rattle.headings.proofs.count_at.Tie as tie
@@ -28,13 +30,15 @@ enum-known-c c = search needs
 
 returns : tie.Need-returns
 returns c =
+    let p = c .before .before .before .before in
     let q = rw (c .before .v .given .1) at (c .before .before .before .next-up-to .ensures) in
-    (_, counted-part _ _ _ _ (c .before .before .before .before .behind .result) (c .before .before .before .before .before .before .line-end .ensures) (c .before .before .before .before .behind .ensures) ∙ q)
+    (tokens (drop (c .before .v .given .0 .1 .0) (take (c .before .before .before .before .before .before .line-end .result) (c .before .before .before .before .before .before .before .before .args .text .now))), rw (counted-part _ _ _ _ (p .behind .result) (c .before .before .before .before .before .before .line-end .ensures) (rw (p .behind .ensures)), q))
 
 returns-2 : tie.Need-returns-2
 returns-2 c =
+    let p = c .before .before .before .before in
     let q = rw (c .before .c .given .1) at (c .before .before .before .next-up-to .ensures) in
-    counted-part _ _ _ _ (c .before .before .before .before .behind .result) (c .before .before .before .before .before .before .line-end .ensures) (c .before .before .before .before .behind .ensures) ∙ q
+    rw (counted-part _ _ _ _ (p .behind .result) (c .before .before .before .before .before .before .line-end .ensures) (rw (p .behind .ensures)), q)
 
 pub count-at-spec : {M : Type 1} → statement M
 count-at-spec =

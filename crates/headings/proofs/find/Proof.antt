@@ -58,7 +58,7 @@ loop-again : tie.Need-loop-again Inv-loop μ-loop
 loop-again c =
     let l = c .before .before .before .before .before .before .before .before in
     let q = rw (c .before .before .before .k .given .1) at (c .before .before .before .before .before .heading-at .ensures) in
-    looking-next _ _ _ _ (l .loop .inv) _ _ (line-mark _ _ _ (c .before .before .before .before .before .before .unspaced-at .ensures) (q .1)) _ (omega (arith, c .before .if1 .left)) (q .0) (c .next-line .ensures)
+    looking-next _ _ _ _ (l .loop .inv) _ (c .before .before .before .before .before .before .unspaced-at .result) (line-mark _ _ _ (c .before .before .before .before .before .before .unspaced-at .ensures) (q .1)) _ _ (omega arith) (omega (arith, c .before .if1 .left)) (q .0) (c .next-line .ensures)
 
 enum-told : tie.Need-enum-told Inv-loop μ-loop
 enum-told c = search needs
@@ -77,7 +77,7 @@ loop-again-2 c =
 returns-2 : tie.Need-returns-2 Inv-loop μ-loop
 returns-2 c =
     let i = c .before .loop .inv in
-    (looking-end _ _ _ _ i (c .loop-test .left), i .size)
+    (looking-end _ _ _ _ i _ (c .loop-test .left) (omega arith), i .size)
 
 pub find-spec : {M : Type 1} → statement M
 find-spec =

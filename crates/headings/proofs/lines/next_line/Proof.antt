@@ -1,5 +1,4 @@
 -- `headings::next_line` meets its contract: a line ends at a line feed.
-use mathlib.Core.Path.{sym, _∙_}
 use borrow.Author.Needs.{needs}
 use Rattle.headings.proofs.Places.{next-is}
 use Rattle.headings.proofs.lines.next_line.Statement.{statement}
@@ -9,7 +8,7 @@ behind-requires : tie.Need-behind-requires
 behind-requires c κs = search needs
 
 returns : tie.Need-returns
-returns c = c .behind .ensures ∙ sym (next-is _)
+returns c = rw (c .behind .ensures, next-is)
 
 pub next-line-spec : {M : Type 1} → statement M
 next-line-spec = tie.close (tie.spec behind-requires returns)
