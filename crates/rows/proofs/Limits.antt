@@ -38,6 +38,17 @@ unfolding pairsFrom
 pairs-range n j [] h b = λ a c r. absurd r
 pairs-range n j (r ∷ rs) h b = tagged-range n j (r .successors) (pairsFrom (suc j) rs) (h .0 .successors) (omega arith) (pairs-range n (suc j) rs (h .1) (omega arith))
 
+-- a project of rows within their limits
+pub rows-within : (n : ℕ) (caps : List ℕ) (rs : List Row) → n ≤ mostJobs → ((k : ℕ) → caps ! k ≤ mostDemand) → length rs ≡ n → Every (Limited n) rs
+    → Within (record { capacities = caps; rows = rs })
+rows-within n caps rs few low l h = record {
+  few = omega arith;
+  capacities = low;
+  durations = durations-limited n rs h;
+  demands = λ resource. demands-limited n resource rs h;
+  range = rw l (pairs-range n 0 rs h (omega arith));
+}
+
 -- what is known of the counts and the capacities that were read
 pub record Opens (o : Opening) : Type 0 where
   pub few : o .jobs ≤ mostJobs
@@ -79,13 +90,7 @@ project-takes ts rest x e =
     let q = times-takes (row (s .0 .jobs) (s .0 .resources)) (Limited (s .0 .jobs)) (λ j u v r p. row-takes (Whole (s .0 .resources)) (s .0 .jobs) j u v r p) 0 (s .0 .jobs) (s .1) (t .1) (t .0) (t .2) in
     let y = over-good (made (s .0) (t .0)) x (t .1) rest (t .3) in
     record {
-      within = subst Within (y .0) (record {
-        few = omega (arith, q .0, o .few);
-        capacities = o .capacities;
-        durations = durations-limited (s .0 .jobs) (t .0) (q .1);
-        demands = λ resource. demands-limited (s .0 .jobs) resource (t .0) (q .1);
-        range = rw (q .0) (pairs-range (s .0 .jobs) 0 (t .0) (q .1) (omega (arith, q .0)));
-      });
+      within = subst Within (y .0) (rows-within (s .0 .jobs) (s .0 .capacities) (t .0) (o .few) (o .capacities) (q .0) (q .1));
       over = y .1;
     }
   where

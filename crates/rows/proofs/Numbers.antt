@@ -14,9 +14,9 @@ use Rattle.texts.specs.Readings.{bad, good, one, exactly, times, many}
 use Rattle.texts.proofs.Readings.{ahead, ahead-nil, times-step, times-bad, times-done}
 use Rattle.rows.specs.Projects.{link}
 use Rattle.rows.specs.Patterson.{head}
-use Rattle.rows.specs.Relations.{relationHead}
+use Rattle.rows.specs.Tables.{numbered, relationHead, requestHead}
 use Rattle.rows.specs.Walk.{headIn}
-use Rattle.rows.specs.declared.Table.the-variants.{Whole, Relations}
+use Rattle.rows.specs.declared.Table.the-variants.{Whole, Relations, Requests}
 
 -- the number at a place, with one number more read
 pick-step : (ys : List ℕ) (v res : ℕ) → (ys ++ v ∷ []) ! res ≡ pick (eqb (length ys) res) v (ys ! res)
@@ -99,24 +99,47 @@ module _ (n k : ℕ) (ts : List Token) where
       unfolding head
       head-good c t₃ e = rw (e₁, e₂, e)
 
-module _ (n j : ℕ) (ts : List Token) where
-  pub relation-bad : (c : ℕ) → exactly (j + 1) ts ≡ bad c → relationHead n j ts ≡ bad c
-  unfolding relationHead
-  relation-bad c e = rw e
+module _ (j : ℕ) (ts : List Token) where
+  pub numbered-bad : (c : ℕ) → exactly (j + 1) ts ≡ bad c → numbered j ts ≡ bad c
+  unfolding numbered
+  numbered-bad c e = rw e
 
-  module _ (a : ℕ) (t₁ : List Token) (e₁ : exactly (j + 1) ts ≡ good a t₁) where
-    pub relation-bad₂ : (c : ℕ) → exactly 1 t₁ ≡ bad c → relationHead n j ts ≡ bad c
+  pub numbered-next : (a : ℕ) (rest : List Token) → exactly (j + 1) ts ≡ good a rest → numbered j ts ≡ exactly 1 rest
+  unfolding numbered
+  numbered-next a rest e = rw e
+
+  module _ (n : ℕ) where
+    pub relation-bad : (c : ℕ) → numbered j ts ≡ bad c → relationHead n j ts ≡ bad c
     unfolding relationHead
-    relation-bad₂ c e = rw (e₁, e)
+    relation-bad c e = rw e
 
-    module _ (b : ℕ) (t₂ : List Token) (e₂ : exactly 1 t₁ ≡ good b t₂) where
-      pub relation-bad₃ : (c : ℕ) → one n 31 t₂ ≡ bad c → relationHead n j ts ≡ bad c
+    module _ (a : ℕ) (t₁ : List Token) (e₁ : numbered j ts ≡ good a t₁) where
+      pub relation-bad₂ : (c : ℕ) → one n 31 t₁ ≡ bad c → relationHead n j ts ≡ bad c
       unfolding relationHead
-      relation-bad₃ c e = rw (e₁, e₂, e)
+      relation-bad₂ c e = rw (e₁, e)
 
-      pub relation-good : (c : ℕ) (t₃ : List Token) → one n 31 t₂ ≡ good c t₃ → relationHead n j ts ≡ good (record { duration = 0; demands = []; count = c }) t₃
+      pub relation-good : (c : ℕ) (t₂ : List Token) → one n 31 t₁ ≡ good c t₂ → relationHead n j ts ≡ good (record { duration = 0; demands = []; count = c }) t₂
       unfolding relationHead
-      relation-good c t₃ e = rw (e₁, e₂, e)
+      relation-good c t₂ e = rw (e₁, e)
+
+  module _ (k : ℕ) where
+    pub request-bad : (c : ℕ) → numbered j ts ≡ bad c → requestHead k j ts ≡ bad c
+    unfolding requestHead
+    request-bad c e = rw e
+
+    module _ (a : ℕ) (t₁ : List Token) (e₁ : numbered j ts ≡ good a t₁) where
+      pub request-bad₂ : (c : ℕ) → one mostTime 31 t₁ ≡ bad c → requestHead k j ts ≡ bad c
+      unfolding requestHead
+      request-bad₂ c e = rw (e₁, e)
+
+      module _ (d : ℕ) (t₂ : List Token) (e₂ : one mostTime 31 t₁ ≡ good d t₂) where
+        pub request-bad₃ : (c : ℕ) → many mostDemand k t₂ ≡ bad c → requestHead k j ts ≡ bad c
+        unfolding requestHead
+        request-bad₃ c e = rw (e₁, e₂, e)
+
+        pub request-good : (qs : List ℕ) (t₃ : List Token) → many mostDemand k t₂ ≡ good qs t₃ → requestHead k j ts ≡ good (record { duration = d; demands = qs; count = 0 }) t₃
+        unfolding requestHead
+        request-good qs t₃ e = rw (e₁, e₂, e)
 
 pub head-whole : (n k j : ℕ) (ts : List Token) → headIn (Whole k) n j ts ≡ head n k ts
 unfolding headIn
@@ -125,3 +148,7 @@ head-whole n k j ts = refl
 pub head-relations : (n j : ℕ) (ts : List Token) → headIn Relations n j ts ≡ relationHead n j ts
 unfolding headIn
 head-relations n j ts = refl
+
+pub head-requests : (n k j : ℕ) (ts : List Token) → headIn (Requests k) n j ts ≡ requestHead k j ts
+unfolding headIn
+head-requests n k j ts = refl

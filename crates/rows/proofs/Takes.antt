@@ -16,10 +16,10 @@ use Rattle.texts.proofs.Readings.{bad-not-good, good-same, then-good, then-bad,
 use Rattle.texts.proofs.Given.{exactly-takes, exactly-refused}
 use Rattle.rows.specs.Projects.{Row, Head, headed, link}
 use Rattle.rows.specs.Patterson.{head}
-use Rattle.rows.specs.Relations.{relationHead}
+use Rattle.rows.specs.Tables.{numbered, relationHead, requestHead}
 use Rattle.rows.specs.Walk.{headIn, rowIn}
 use Rattle.rows.specs.declared.Table.{Table}
-use Rattle.rows.specs.declared.Table.the-variants.{Whole, Relations}
+use Rattle.rows.specs.declared.Table.the-variants.{Whole, Relations, Requests}
 
 pub link-takes : (n v : ℕ) (ts rest : List Token) → link n ts ≡ good v rest → (length rest < length ts) × (v < n)
 unfolding link
@@ -67,25 +67,43 @@ head-takes n k ts rest h e =
     made : ℕ → List ℕ → ℕ → Head
     made d qs c = record { duration = d; demands = qs; count = c }
 
+numbered-takes : (j b : ℕ) (ts rest : List Token) → numbered j ts ≡ good b rest → length rest < length ts
+unfolding numbered
+numbered-takes j b ts rest e =
+    let s = then-good (exactly (j + 1) ts) (λ a u. exactly 1 u) b rest e in
+    omega (arith, exactly-takes (j + 1) (s .0) ts (s .1) (s .2) .0, exactly-takes 1 b (s .1) rest (s .3) .0)
+
 relation-takes : (n j : ℕ) (ts rest : List Token) (h : Head) → relationHead n j ts ≡ good h rest → HeadTakes n ts rest h
 unfolding relationHead
 relation-takes n j ts rest h e =
-    let s = then-good (exactly (j + 1) ts) (λ a u. andThen (exactly 1 u) (λ b v. andThen (one n 31 v) (λ c w. good (made c) w))) h rest e in
-    let t = then-good (exactly 1 (s .1)) (λ b v. andThen (one n 31 v) (λ c w. good (made c) w)) h rest (s .3) in
-    let r = then-good (one n 31 (t .1)) (λ c w. good (made c) w) h rest (t .3) in
-    let o = good-same (made (r .0)) h (r .1) rest (r .3) in
-    let a = exactly-takes (j + 1) (s .0) ts (s .1) (s .2) in
-    let b = exactly-takes 1 (t .0) (s .1) (t .1) (t .2) in
-    let d = one-takes n 31 (r .0) (t .1) (r .1) (r .2) in
-    subst (HeadTakes n ts rest) (o .0) (record { fewer = omega (arith, a .0, b .0, d .0, ap length (o .1)); count = d .1; duration = omega arith; demands = tt })
+    let s = then-good (numbered j ts) (λ a u. andThen (one n 31 u) (λ c w. good (made c) w)) h rest e in
+    let t = then-good (one n 31 (s .1)) (λ c w. good (made c) w) h rest (s .3) in
+    let o = good-same (made (t .0)) h (t .1) rest (t .3) in
+    let d = one-takes n 31 (t .0) (s .1) (t .1) (t .2) in
+    subst (HeadTakes n ts rest) (o .0) (record { fewer = omega (arith, numbered-takes j (s .0) ts (s .1) (s .2), d .0, ap length (o .1)); count = d .1; duration = omega arith; demands = tt })
   where
     made : ℕ → Head
     made c = record { duration = 0; demands = []; count = c }
+
+request-takes : (n k j : ℕ) (ts rest : List Token) (h : Head) → requestHead k j ts ≡ good h rest → HeadTakes n ts rest h
+unfolding requestHead
+request-takes n k j ts rest h e =
+    let s = then-good (numbered j ts) (λ a u. andThen (one mostTime 31 u) (λ d v. andThen (many mostDemand k v) (λ qs w. good (made d qs) w))) h rest e in
+    let t = then-good (one mostTime 31 (s .1)) (λ d v. andThen (many mostDemand k v) (λ qs w. good (made d qs) w)) h rest (s .3) in
+    let r = then-good (many mostDemand k (t .1)) (λ qs w. good (made (t .0) qs) w) h rest (t .3) in
+    let o = good-same (made (t .0) (r .0)) h (r .1) rest (r .3) in
+    let d = one-takes mostTime 31 (t .0) (s .1) (t .1) (t .2) in
+    let q = many-takes mostDemand k (t .1) (r .1) (r .0) (r .2) in
+    subst (HeadTakes n ts rest) (o .0) (record { fewer = omega (arith, numbered-takes j (s .0) ts (s .1) (s .2), d .0, q .2, ap length (o .1)); count = omega arith; duration = d .1; demands = q .1 })
+  where
+    made : ℕ → List ℕ → Head
+    made d qs = record { duration = d; demands = qs; count = 0 }
 
 pub head-in-takes : (table : Table) (n j : ℕ) (ts rest : List Token) (h : Head) → headIn table n j ts ≡ good h rest → HeadTakes n ts rest h
 unfolding headIn
 head-in-takes (Whole k) n j ts rest h e = head-takes n k ts rest h e
 head-in-takes Relations n j ts rest h e = relation-takes n j ts rest h e
+head-in-takes (Requests k) n j ts rest h e = request-takes n k j ts rest h e
 
 -- 30, 31 or 32
 abbrev pub OfText : ℕ → Type 0
@@ -117,17 +135,28 @@ head-codes n k c ts =
     then-codes (many mostDemand k u) _ c (λ q. low-code (many-codes mostDemand k c u q)) (λ qs v p'.
     then-codes (one n 31 v) _ c (λ q. low-code (one-codes n 31 c v q)) (λ m w p'' q. bad-not-good _ c _ w q refl)))
 
+numbered-codes : (j c : ℕ) (ts : List Token) → numbered j ts ≡ bad c → OfText c
+unfolding numbered
+numbered-codes j c ts = then-codes (exactly (j + 1) ts) _ c (λ q. inl (exactly-refused (j + 1) c ts .0 q .1)) (λ a u p q. inl (exactly-refused 1 c u .0 q .1))
+
 relation-codes : (n j c : ℕ) (ts : List Token) → relationHead n j ts ≡ bad c → OfText c
 unfolding relationHead
 relation-codes n j c ts =
-    then-codes (exactly (j + 1) ts) _ c (λ q. inl (exactly-refused (j + 1) c ts .0 q .1)) (λ a u p.
-    then-codes (exactly 1 u) _ c (λ q. inl (exactly-refused 1 c u .0 q .1)) (λ b v p'.
-    then-codes (one n 31 v) _ c (λ q. low-code (one-codes n 31 c v q)) (λ m w p'' q. bad-not-good _ c _ w q refl)))
+    then-codes (numbered j ts) _ c (numbered-codes j c ts) (λ a u p.
+    then-codes (one n 31 u) _ c (λ q. low-code (one-codes n 31 c u q)) (λ m w p' q. bad-not-good _ c _ w q refl))
+
+request-codes : (k j c : ℕ) (ts : List Token) → requestHead k j ts ≡ bad c → OfText c
+unfolding requestHead
+request-codes k j c ts =
+    then-codes (numbered j ts) _ c (numbered-codes j c ts) (λ a u p.
+    then-codes (one mostTime 31 u) _ c (λ q. low-code (one-codes mostTime 31 c u q)) (λ d v p'.
+    then-codes (many mostDemand k v) _ c (λ q. low-code (many-codes mostDemand k c v q)) (λ qs w p'' q. bad-not-good _ c _ w q refl)))
 
 head-in-codes : (table : Table) (n j c : ℕ) (ts : List Token) → headIn table n j ts ≡ bad c → OfText c
 unfolding headIn
 head-in-codes (Whole k) n j c ts e = head-codes n k c ts e
 head-in-codes Relations n j c ts e = relation-codes n j c ts e
+head-in-codes (Requests k) n j c ts e = request-codes k j c ts e
 
 pub row-codes : (table : Table) (n j c : ℕ) (ts : List Token) → rowIn table n j ts ≡ bad c → OfText c
 unfolding rowIn headed

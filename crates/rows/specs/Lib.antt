@@ -1,5 +1,5 @@
 pub mod Projects
 pub mod Patterson
-pub mod Relations
+pub mod Tables
 pub mod Walk
 pub mod Parsed

@@ -7,6 +7,7 @@ use parts::Opened;
 use parts::open_text;
 use parts::read_front;
 use parts::read_link;
+pub use parts::read_many;
 use texts::Got;
 ghost use mathlib.Core.Path.{_≡_};
 ghost use Prim.Native.Nat.{ℕ, _≤_};
@@ -18,10 +19,11 @@ ghost use Rattle.rows.specs.Patterson.{patterson};
 ghost use Rattle.rows.specs.Walk.{Fit, StepSays, FoundSays, seeing};
 ghost use Rattle.rows.specs.Parsed.{ParsedSays};
 
-// A table of rows: whole jobs on so many resources, as in Patterson's layout, or PSPLIB's precedence relations.
+// A table of rows: whole jobs on so many resources, as in Patterson's layout; or PSPLIB's precedence relations, and its requests on so many resources.
 pub enum Table {
     Whole(u32),
     Relations,
+    Requests(u32),
 }
 
 // A place among the rows: the next row, the successors left of the row before it, and the place in the text.

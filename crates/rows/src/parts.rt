@@ -6,12 +6,13 @@ ghost use Prim.Native.Nat.{_<_};
 ghost use lib.Dec.{eqb};
 ghost use lib.ListN.{drop};
 ghost use Rattle.lists.specs.Tests.{pick};
+ghost use Rattle.joblist.specs.Limits.{mostJobs};
 ghost use Rattle.texts.specs.Tokens.{tokens};
 ghost use Rattle.texts.specs.Readings.{many};
 ghost use Rattle.texts.specs.Scan.{GotSays};
 ghost use Rattle.rows.specs.Projects.{link};
 ghost use Rattle.rows.specs.Patterson.{head, opening};
-ghost use Rattle.rows.specs.Relations.{relationHead};
+ghost use Rattle.rows.specs.Tables.{numbered, relationHead, requestHead};
 ghost use Rattle.rows.specs.Walk.{PickSays, HeadSays, OpenSays, headIn};
 
 // Duration, demand of the chosen resource, successor count, and the place behind them; or a refusal.
@@ -52,7 +53,7 @@ fn choose(i: u32, res: u32, v: u32, old: u32) -> u32
 }
 
 // m numbers up to `top`; the answer is the one at `res`, 0 where there is none.
-fn read_many(text: &[u8], at: usize, m: u32, top: u32, res: u32) -> Got
+pub fn read_many(text: &[u8], at: usize, m: u32, top: u32, res: u32) -> Got
     ensures { λ r. ⌜ PickSays (many top m (tokens (drop at (now (text .entry))))) (now (text .entry)) res r ⌝ }
 {
     let mut picked: u32 = 0;
@@ -89,18 +90,43 @@ fn read_head(text: &[u8], at: usize, n: u32, k: u32, res: u32) -> HeadGot
     }
 }
 
-// The same of a row of precedence relations: the numbers of the job and of its modes are those that they have to be.
-fn read_relation(text: &[u8], at: usize, n: u32, j: u32, res: u32) -> HeadGot
-    requires { ⌜ j < n ⌝ }
-    ensures { λ r. ⌜ HeadSays (relationHead n j (tokens (drop at (now (text .entry))))) (now (text .entry)) res r ⌝ }
+// The number of job j and the 1 behind it.
+fn read_numbered(text: &[u8], at: usize, j: u32) -> Got
+    requires { ⌜ j < mostJobs ⌝ }
+    ensures { λ r. ⌜ GotSays (numbered j (tokens (drop at (now (text .entry))))) (now (text .entry)) r ⌝ }
 {
     match texts::next_exactly(text, at, j + 1) {
+        Got::Bad(c) => Got::Bad(c),
+        Got::Good(_, mode) => texts::next_exactly(text, mode, 1),
+    }
+}
+
+// The head of a row of precedence relations.
+fn read_relation(text: &[u8], at: usize, n: u32, j: u32, res: u32) -> HeadGot
+    requires { ⌜ j < mostJobs ⌝ }
+    ensures { λ r. ⌜ HeadSays (relationHead n j (tokens (drop at (now (text .entry))))) (now (text .entry)) res r ⌝ }
+{
+    match read_numbered(text, at, j) {
         Got::Bad(c) => HeadGot::NoLine(c),
-        Got::Good(_, mode) => match texts::next_exactly(text, mode, 1) {
+        Got::Good(_, count) => match texts::next_up_to(text, count, n, 31) {
             Got::Bad(c) => HeadGot::NoLine(c),
-            Got::Good(_, count) => match texts::next_up_to(text, count, n, 31) {
+            Got::Good(m, e) => HeadGot::Line(0, 0, m, e),
+        },
+    }
+}
+
+// The head of a row of requests.
+fn read_request(text: &[u8], at: usize, k: u32, j: u32, res: u32) -> HeadGot
+    requires { ⌜ j < mostJobs ⌝ }
+    ensures { λ r. ⌜ HeadSays (requestHead k j (tokens (drop at (now (text .entry))))) (now (text .entry)) res r ⌝ }
+{
+    match read_numbered(text, at, j) {
+        Got::Bad(c) => HeadGot::NoLine(c),
+        Got::Good(_, duration) => match texts::next_up_to(text, duration, joblist::TIME, 31) {
+            Got::Bad(c) => HeadGot::NoLine(c),
+            Got::Good(d, demands) => match read_many(text, demands, k, joblist::DRAW, res) {
                 Got::Bad(c) => HeadGot::NoLine(c),
-                Got::Good(m, e) => HeadGot::Line(0, 0, m, e),
+                Got::Good(q, e) => HeadGot::Line(d, q, 0, e),
             },
         },
     }
@@ -108,12 +134,13 @@ fn read_relation(text: &[u8], at: usize, n: u32, j: u32, res: u32) -> HeadGot
 
 // What stands before the successors of row j.
 pub fn read_front(text: &[u8], at: usize, n: u32, table: Table, j: u32, res: u32) -> HeadGot
-    requires { ⌜ j < n ⌝ }
+    requires { ⌜ j < mostJobs ⌝ }
     ensures { λ r. ⌜ HeadSays (headIn table n j (tokens (drop at (now (text .entry))))) (now (text .entry)) res r ⌝ }
 {
     match table {
         Table::Whole(resources) => read_head(text, at, n, resources, res),
         Table::Relations => read_relation(text, at, n, j, res),
+        Table::Requests(resources) => read_request(text, at, resources, j, res),
     }
 }
 
