@@ -5,12 +5,12 @@ use native.Mathlib.Numerals.{add-one}
 use mathlib.Core.Path.{_≡_, refl, sym, ap, _∙_, subst}
 use mathlib.Core.Bool.{Bool, true, false}
 use mathlib.Core.List.{List, []}
-use mathlib.Core.Logic.{_⊎_, inr}
+use mathlib.Core.Logic.{_⊎_, inl, inr}
 use lib.ListN.{length, drop, replicate, getD-replicate}
 use Rattle.lists.specs.Lists.{_!_}
 use Rattle.joblist.specs.Limits.{mostJobs}
 use Rattle.chains.specs.Paths.{Pair}
-use Rattle.chains.specs.Listed.{paired, InRange}
+use Rattle.chains.specs.Listed.{paired, InRange, NotRising}
 use Rattle.chains.proofs.Listed.{paired-next, paired-end}
 use Rattle.texts.specs.Tokens.{Token}
 use Rattle.texts.specs.Readings.{Read, good}
@@ -70,4 +70,9 @@ module _ (n : ℕ) (js ss : List ℕ) (i : ℕ) where
   comes-before f h = (f, λ b. rw (← add-one i) h)
 
   pub not-before : i + 1 < length js → (js ! (i + 1) < js ! i) ⊎ ((js ! (i + 1) ≡ js ! i) × (ss ! (i + 1) ≤ ss ! i)) → PlacedSays n js ss i false
-  not-before b h = inr (i, omega arith, rw (← add-one i) h)
+  not-before b h = inr (omega arith, rw (← add-one i) h)
+
+  -- a pair at fault
+  pub fault-at : i < length js → PlacedSays n js ss i false → NotRising n js ss
+  fault-at b (inl h) = inl (i, b, h)
+  fault-at b (inr h) = inr (i, h .0, h .1)

@@ -2,14 +2,15 @@
 use Prim.Native.Nat.{ℕ, suc, _<_}
 use mathlib.Core.Bool.{Bool, true, false}
 use mathlib.Core.List.{List}
+use mathlib.Core.Logic.{_⊎_}
 use lib.ListN.{length}
 use Rattle.chains.specs.Paths.{Precedes, Cycle}
-use Rattle.chains.specs.Listed.{paired, InRange, InOrder, Rising, NotRising}
+use Rattle.chains.specs.Listed.{paired, InRange, InOrder, Rising, OutOfRange, OutOfOrder, NotRising}
 
--- the pair at place i is of the n jobs and comes before the next, where there is one; or it is at fault
+-- the pair at place i is of the n jobs and comes before the next, where there is one; or it is not, or does not
 abbrev pub PlacedSays : ℕ → List ℕ → List ℕ → ℕ → Bool → Type 0
 PlacedSays n js ss i true = InRange n js ss i × (suc i < length js → InOrder js ss i)
-PlacedSays n js ss i false = NotRising n js ss
+PlacedSays n js ss i false = OutOfRange n js ss i ⊎ ((suc i < length js) × OutOfOrder js ss i)
 
 -- every pair is of the n jobs and they are in strictly rising order, or not
 abbrev pub RisingSays : ℕ → List ℕ → List ℕ → Bool → Type 0

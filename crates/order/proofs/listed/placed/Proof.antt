@@ -19,10 +19,10 @@ shared-slice-read-b : tie.Need-shared-slice-read-b
 shared-slice-read-b c = search needs
 
 returns : tie.Need-returns
-returns c = inl (c .before .before .before .args .i, c .before .before .before .pre .1, inl (omega (arith, c .if1 .taken)))
+returns c = inl (inl (omega (arith, c .if1 .taken)))
 
 returns-2 : tie.Need-returns-2
-returns-2 c = inl (c .before .before .before .before .args .i, c .before .before .before .before .pre .1, inr (omega (arith, c .if2 .taken)))
+returns-2 c = inl (inr (omega (arith, c .if2 .taken)))
 
 add-k : tie.Need-add-k
 add-k c = search needs

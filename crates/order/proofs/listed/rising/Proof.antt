@@ -7,6 +7,7 @@ use borrow.Author.Count.{below-more}
 use borrow.Author.Tests.{not-true, not-false}
 use lib.ListN.{length}
 use Rattle.chains.specs.Listed.{InRange, InOrder}
+use Rattle.order.proofs.Places.{fault-at}
 use Rattle.order.proofs.listed.rising.Statement.{statement}
 use Rattle.order.proofs.listed.rising.Tie as tie
 
@@ -23,7 +24,10 @@ placed-requires : tie.Need-placed-requires Inv-loop μ-loop
 placed-requires c κs = search needs
 
 returns : tie.Need-returns Inv-loop μ-loop
-returns c = rw (not-true (c .before .placed .result) (c .if1 .taken)) at (c .before .placed .ensures)
+returns c =
+    let a = c .before .before .before .before .before .before .args in
+    let t = rw (not-true (c .before .placed .result) (c .if1 .taken)) at (c .before .placed .ensures) in
+    fault-at (a .n) (a .jobs .now) (a .successors .now) (c .before .before .before .loop .at) (c .before .before .loop-test .taken) t
 
 add-at : tie.Need-add-at Inv-loop μ-loop
 add-at c = search needs
