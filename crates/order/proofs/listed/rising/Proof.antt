@@ -27,7 +27,7 @@ returns : tie.Need-returns Inv-loop μ-loop
 returns c =
     let a = c .before .before .before .before .before .before .args in
     let t = rw (not-true (c .before .placed .result) (c .if1 .taken)) at (c .before .placed .ensures) in
-    fault-at (a .n) (a .jobs .now) (a .successors .now) (c .before .before .before .loop .at) (c .before .before .loop-test .taken) t
+    fault-at (a .n) (a .jobs .now) (a .successors .now) (c .before .before .before .loop .at) (omega (arith, c .before .before .loop-test .taken)) t
 
 add-at : tie.Need-add-at Inv-loop μ-loop
 add-at c = search needs
