@@ -3,10 +3,10 @@ use Prim.Native.Nat.{ℕ, zero, suc, _≤_, _<_}
 use native.Mathlib.Omega.{arith}
 use mathlib.Core.Path.{_≡_, refl}
 use mathlib.Core.List.{List, [], _∷_}
-use mathlib.Core.Logic.{_⊎_, inl, inr}
+use mathlib.Core.Logic.{inl, inr}
 use lib.ListN.{length, drop, drop-of-length-le}
 use Rattle.lists.specs.Lists.{_!_}
-use Rattle.chains.specs.Paths.{Pair, pair, Precedes, Listed, Below}
+use Rattle.chains.specs.Paths.{pair, Precedes, Listed, Below}
 use Rattle.chains.specs.Listed.{paired, InRange, InOrder, Rising, OutOfRange, OutOfOrder, NotRising}
 
 pub paired-length : (js ss : List ℕ) → length ss ≡ length js → length (paired js ss) ≡ length js
