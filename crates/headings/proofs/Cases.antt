@@ -48,6 +48,7 @@ after-cr = refl
 
 -- ---- all five, one line each
 
+-- each with its line feed
 abbrev lines : List (List ℕ) → List ℕ
 lines [] = []
 lines (l ∷ ls) = l ++ 10 ∷ lines ls

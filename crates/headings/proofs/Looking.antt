@@ -1,4 +1,4 @@
--- What is known in front of a line at `at`, with so many headings found: the rest decides whether all are in order, and those found start where `places` says.
+-- What is known while headings are looked for line by line, and what each line does to it.
 use Prim.Native.Nat.{ℕ, suc, _+_, _≤_, _<_}
 use native.Mathlib.Numerals.{add-one}
 use native.Mathlib.Omega.{arith}
@@ -16,6 +16,7 @@ use Rattle.headings.specs.Headings.{headings, lineMark, marks, inOrder, 
 use Rattle.headings.specs.Found.{FindSays}
 use Rattle.headings.proofs.Marks.{marks-none, marks-split}
 
+-- in front of a line at `at`: the lines left decide whether all headings are in order, and those found start where `places` says
 pub record Looking (s : List ℕ) (at found : ℕ) (places : List ℕ) : Type 0 where
   pub size : length places ≡ length headings
   pub test : inOrder 0 (marks s) ≡ inOrder found (marks (drop at s))

@@ -1,4 +1,4 @@
--- The headings of a text line by line, and what is known of them in front of a line.
+-- The headings of a text line by line, and that each next line leaves less of the text.
 use Prim.Native.Nat.{ℕ, suc, _-_, _≤_, _<_}
 use native.Mathlib.Omega.{arith}
 use mathlib.Core.Path.{_≡_, refl, ap}
@@ -8,8 +8,6 @@ use lib.Dec.{eqb}
 use lib.ListN.{length, drop, length-drop}
 use Rattle.headings.specs.Lines.{nextLine}
 use Rattle.headings.specs.Headings.{headings, unspaced, Mark, markOf, lineMark, laterMarks, marks}
-
--- ---- line by line
 
 pub marks-none : marks [] ≡ []
 unfolding marks
@@ -34,24 +32,15 @@ pub line-mark : (s t : List ℕ) (ms : List Mark) → t ≡ unspaced s → markO
 unfolding lineMark
 line-mark s t ms e q = rw (← e) q
 
-next-most : (s : List ℕ) → length (nextLine s) ≤ length s
+next-less : (s : List ℕ) → length (nextLine s) ≤ length s - 1
 unfolding nextLine
-next-most [] = omega arith
-next-most (b ∷ s) = go (eqb b 10) (next-most s)
+next-less [] = omega arith
+next-less (b ∷ s) = go (eqb b 10) (next-less s)
   where
-    go : (t : Bool) → length (nextLine s) ≤ length s → length (cond t s (nextLine s)) ≤ suc (length s)
+    go : (t : Bool) → length (nextLine s) ≤ length s - 1 → length (cond t s (nextLine s)) ≤ suc (length s) - 1
     go true k = omega arith
     go false k = omega arith
 
--- a line that is left has a byte at least
-next-less : (s : List ℕ) → 0 < length s → length (nextLine s) < length s
-unfolding nextLine
-next-less [] h = absurd (omega arith)
-next-less (b ∷ s) h = go (eqb b 10) s (next-most s)
-  where
-    go : (t : Bool) (u : List ℕ) → length (nextLine u) ≤ length u → length (cond t u (nextLine u)) < suc (length u)
-    go true u k = omega arith
-    go false u k = omega arith
-
+-- a line that is left has a byte at least, its line feed if no other
 pub next-falls : (s : List ℕ) (at to : ℕ) → at < length s → drop to s ≡ nextLine (drop at s) → length s - to < length s - at
-next-falls s at to h e = omega (arith, length-drop at s, length-drop to s, ap length e, next-less (drop at s) (omega (arith, length-drop at s)))
+next-falls s at to h e = omega (arith, length-drop at s, length-drop to s, ap length e, next-less (drop at s))

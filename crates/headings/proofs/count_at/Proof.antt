@@ -31,14 +31,16 @@ enum-known-c c = search needs
 returns : tie.Need-returns
 returns c =
     let p = c .before .before .before .before in
+    let l = p .before .before in
     let q = rw (c .before .v .given .1) at (c .before .before .before .next-up-to .ensures) in
-    (tokens (drop (c .before .v .given .0 .1 .0) (take (c .before .before .before .before .before .before .line-end .result) (c .before .before .before .before .before .before .before .before .args .text .now))), rw (counted-part _ _ _ _ (p .behind .result) (c .before .before .before .before .before .before .line-end .ensures) (rw (p .behind .ensures)), q))
+    let rest = tokens (drop (c .before .v .given .0 .1 .0) (take (l .line-end .result) (l .before .before .args .text .now))) in
+    (rest, rw (counted-part _ _ _ _ (p .behind .result) (l .line-end .ensures) (rw (p .behind .ensures)), q))
 
 returns-2 : tie.Need-returns-2
 returns-2 c =
     let p = c .before .before .before .before in
     let q = rw (c .before .c .given .1) at (c .before .before .before .next-up-to .ensures) in
-    rw (counted-part _ _ _ _ (p .behind .result) (c .before .before .before .before .before .before .line-end .ensures) (rw (p .behind .ensures)), q)
+    rw (counted-part _ _ _ _ (p .behind .result) (p .before .before .line-end .ensures) (rw (p .behind .ensures)), q)
 
 pub count-at-spec : {M : Type 1} → statement M
 count-at-spec =
