@@ -1,5 +1,5 @@
 //! The answers of all calls, and the word and numbers each is written with
-//! (01, "Answer table" and "Runs on the record"; 02, Items 1 and 3).
+//! (01, "Answer table" and "Runs on the record"; 02, Items 1, 3 and 13).
 
 use crate::text::Line;
 
@@ -21,6 +21,8 @@ pub enum Answer {
     Overload(i64, i64),
     /// The capacity, and the number of pairs.
     Read(u32, usize),
+    /// The number of bytes.
+    Written(usize),
 }
 
 impl Answer {
@@ -34,6 +36,7 @@ impl Answer {
             Answer::None => line.word("none"),
             Answer::Overload(a, b) => line.word("overload").word(a).word(b),
             Answer::Read(cap, pairs) => line.word("read").word(cap).word(pairs),
+            Answer::Written(bytes) => line.word("written").word(bytes),
         }
     }
 }

@@ -74,7 +74,7 @@ pub fn lists(cap: u32, jobs: &[(u32, u32, u32, u32)]) -> (Times, Supply) {
     (times, Supply { cap, dem })
 }
 
-fn some_above(list: &[u32], limit: u32) -> bool {
+pub fn some_above(list: &[u32], limit: u32) -> bool {
     list.iter().any(|&number| number > limit)
 }
 

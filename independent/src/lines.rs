@@ -1,5 +1,5 @@
 //! Calls as lines, one call to a line: reading, writing and answering them.
-//! README.md says what a readable line is.
+//! README.md says what a readable line is, `asked.rs` reads its words.
 
 use crate::answers::Answer;
 use crate::joblist::{Supply, Times};
@@ -10,11 +10,13 @@ use crate::replay::check;
 use crate::text::Line;
 use crate::timetable::narrow;
 use crate::words::Words;
+use crate::writing::{self, Listing};
 use std::io::{BufRead, Write};
 
 pub const LONGEST_JOB_LIST: usize = 1_200;
 pub const LONGEST_LOG: usize = 131_072;
 pub const LONGEST_PAIR_LIST: usize = 70_000;
+/// Of a buffer too.
 pub const LONGEST_TEXT: usize = 524_288;
 
 #[derive(Clone, Debug, PartialEq, Eq)]
@@ -23,70 +25,8 @@ pub enum Call {
     Check(Times, Supply, u64, Vec<u32>),
     Record(u64, Vec<u32>),
     Overload(Times),
-    Patterson(Request, Lent),
-}
-
-impl<'a, I: Iterator<Item = &'a [u8]>> Words<'a, I> {
-    fn log(&mut self) -> Option<Vec<u32>> {
-        self.list(LONGEST_LOG)
-    }
-
-    fn times(&mut self) -> Option<Times> {
-        Some(Times {
-            est: self.list(LONGEST_JOB_LIST)?,
-            lct: self.list(LONGEST_JOB_LIST)?,
-            dur: self.list(LONGEST_JOB_LIST)?,
-        })
-    }
-
-    fn jobs(&mut self, cap: u32) -> Option<(Times, Supply)> {
-        let times = self.times()?;
-        let dem = self.list(LONGEST_JOB_LIST)?;
-        Some((times, Supply { cap, dem }))
-    }
-
-    fn lent(&mut self) -> Option<Lent> {
-        Some(Lent {
-            est: self.list(LONGEST_JOB_LIST)?,
-            lct: self.list(LONGEST_JOB_LIST)?,
-            dur: self.list(LONGEST_JOB_LIST)?,
-            dem: self.list(LONGEST_JOB_LIST)?,
-            jobs: self.list(LONGEST_PAIR_LIST)?,
-            successors: self.list(LONGEST_PAIR_LIST)?,
-        })
-    }
-
-    fn patterson(&mut self) -> Option<Call> {
-        let (resource, horizon) = (self.short()?, self.short()?);
-        let lent = self.lent()?;
-        let text = self.bytes(LONGEST_TEXT)?;
-        let request = Request {
-            resource,
-            horizon,
-            text,
-        };
-        Some(Call::Patterson(request, lent))
-    }
-
-    fn call(&mut self) -> Option<Call> {
-        match self.word()? {
-            b"narrow" => {
-                let cap = self.short()?;
-                let (times, supply) = self.jobs(cap)?;
-                Some(Call::Narrow(times, supply, self.log()?))
-            }
-            b"check" => {
-                let cap = self.short()?;
-                let count = self.long()?;
-                let (times, supply) = self.jobs(cap)?;
-                Some(Call::Check(times, supply, count, self.log()?))
-            }
-            b"record" => Some(Call::Record(self.long()?, self.log()?)),
-            b"overload" => Some(Call::Overload(self.times()?)),
-            b"patterson" => self.patterson(),
-            _ => None,
-        }
-    }
+    Read(Request, Lent),
+    Write(Listing, Vec<u8>),
 }
 
 /// The call a line (without its line feed) makes, if it can be read.
@@ -128,9 +68,15 @@ impl Call {
             }
             Call::Record(k, log) => line.word("record").word(k).list(log),
             Call::Overload(times) => with_times(line.word("overload"), times),
-            Call::Patterson(request, lent) => {
-                let line = line.word("patterson").word(request.resource);
+            Call::Read(request, lent) => {
+                let line = line.word(request.layout.name()).word(request.resource);
                 with_lent(line.word(request.horizon), lent).list(&request.text)
+            }
+            Call::Write(listing, buffer) => {
+                let line = line.word("write").word(listing.cap);
+                let line = line.list(&listing.dur).list(&listing.dem);
+                let line = line.list(&listing.jobs).list(&listing.successors);
+                line.list(buffer)
             }
         };
         line.text()
@@ -150,9 +96,13 @@ impl Call {
             }
             Call::Record(k, log) => Line::default().word("record").list(shown(k, &log)),
             Call::Overload(times) => said(overload(&times)),
-            Call::Patterson(request, mut lent) => {
+            Call::Read(request, mut lent) => {
                 let answer = reading::read(&request, &mut lent);
                 with_lent(said(answer), &lent)
+            }
+            Call::Write(listing, mut buffer) => {
+                let answer = writing::write(&listing, &mut buffer);
+                said(answer).list(&buffer)
             }
         }
     }

@@ -2,6 +2,7 @@
 //! plainly as its sentences. README.md says how it is used.
 
 mod answers;
+mod asked;
 mod calls;
 mod cases;
 mod commands;
@@ -14,6 +15,7 @@ mod names;
 mod overload;
 mod patterson;
 mod project;
+mod psplib;
 mod random;
 mod reading;
 mod reasons;
@@ -22,7 +24,9 @@ mod replay;
 mod text;
 mod texts;
 mod timetable;
+mod tokens;
 mod words;
+mod writing;
 mod written;
 
 #[cfg(test)]

@@ -1,10 +1,11 @@
-//! The call that reads a Patterson text into lent lists (02, Item 1): the order
-//! of its refusals, windows by longest chains, and the pairs in text order.
+//! The calls that read a text into lent lists (02, Items 1 and 13): the order of
+//! their refusals, windows by longest chains, and the pairs in text order. The
+//! layouts differ in how the text is read and in nothing else.
 
 use crate::answers::Answer;
 use crate::joblist::MOST_TIME;
-use crate::patterson;
 use crate::project::Project;
+use crate::{patterson, psplib};
 
 /// The four lists of the jobs and the two of the pairs.
 #[derive(Clone, Debug, Default, PartialEq, Eq)]
@@ -17,8 +18,33 @@ pub struct Lent {
     pub successors: Vec<u32>,
 }
 
+#[derive(Clone, Copy, Debug, PartialEq, Eq)]
+pub enum Layout {
+    Patterson,
+    Psplib,
+}
+
+impl Layout {
+    /// The first word of the call's line.
+    pub fn name(self) -> &'static str {
+        match self {
+            Layout::Patterson => "patterson",
+            Layout::Psplib => "psplib",
+        }
+    }
+
+    /// The project a text tells of, or the number of the refusal.
+    pub fn project(self, text: &[u8]) -> Result<Project, u32> {
+        match self {
+            Layout::Patterson => patterson::project(text),
+            Layout::Psplib => psplib::project(text),
+        }
+    }
+}
+
 #[derive(Clone, Debug, PartialEq, Eq)]
 pub struct Request {
+    pub layout: Layout,
     pub resource: u32,
     pub horizon: u32,
     pub text: Vec<u8>,
@@ -96,7 +122,7 @@ fn accepted(request: &Request, lent: &Lent) -> Result<(Project, Chains), u32> {
     if request.horizon > MOST_TIME {
         return Err(31);
     }
-    let project = patterson::project(&request.text)?;
+    let project = request.layout.project(&request.text)?;
     if request.resource as usize >= project.caps.len() {
         return Err(37);
     }

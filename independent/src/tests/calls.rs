@@ -27,7 +27,8 @@ fn kind(line: &[u8]) -> String {
         Some(Call::Check(..)) => format!("check {answered}"),
         Some(Call::Record(..)) => format!("record {answered}"),
         Some(Call::Overload(..)) => format!("overload {answered}"),
-        Some(Call::Patterson(..)) => format!("patterson {answered}"),
+        Some(Call::Read(request, _)) => format!("{} {answered}", request.layout.name()),
+        Some(Call::Write(..)) => format!("write {answered}"),
         None => answered,
     }
 }

@@ -17,11 +17,15 @@ mod narrowing;
 mod overload;
 mod paths;
 mod patterson;
+mod psplib;
+mod psplib_headings;
 mod reading;
 mod short;
 mod short_calls;
 mod spare;
+mod text_lines;
 mod texts;
+mod writing;
 
 use crate::answers::Answer;
 use crate::joblist::{lists, Supply, Times};

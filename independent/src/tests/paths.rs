@@ -3,11 +3,12 @@
 
 use super::layouts::published;
 use crate::answers::Answer;
+use crate::layouts::instance;
 use crate::make;
-use crate::patterson::project;
 use crate::project::{Project, ProjectJob};
 use crate::random::Random;
-use crate::reading::{chains, longest, read, Lent, Request};
+use crate::reading::{chains, longest, read, Layout, Lent, Request};
+use Layout::{Patterson, Psplib};
 
 fn lent(project: &Project) -> Lent {
     let jobs = vec![0; project.jobs.len()];
@@ -24,7 +25,7 @@ fn lent(project: &Project) -> Lent {
 
 /// Every resource is read as the project has it, windows by the rounds of
 /// `project.rs` and not by an order of the jobs.
-fn assert_read(text: &str, project: &Project) {
+fn assert_read(layout: Layout, text: &str, project: &Project) {
     let chain = project.longest_chain().unwrap() as u32;
     let pairs = project.jobs.iter().enumerate();
     let pairs = pairs.flat_map(|(k, job)| job.successors.iter().map(move |&s| (k, s)));
@@ -32,6 +33,7 @@ fn assert_read(text: &str, project: &Project) {
     for (resource, &cap) in project.caps.iter().enumerate() {
         let mut lists = lent(project);
         let request = Request {
+            layout,
             resource: resource as u32,
             horizon: chain + 5,
             text: text.as_bytes().to_vec(),
@@ -51,20 +53,25 @@ fn assert_read(text: &str, project: &Project) {
 }
 
 #[test]
-fn the_published_text_is_read() {
-    let text = published("j301_1.rcp");
-    let project = project(text.as_bytes()).unwrap();
-    assert_eq!(project.caps, [12, 13, 4, 12]);
-    assert_eq!((project.jobs.len(), project.pairs()), (32, 48));
-    assert_eq!(project.longest_chain(), Ok(38));
-    assert_read(&text, &project);
+fn the_published_texts_are_read() {
+    for (layout, name) in [(Patterson, "j301_1.rcp"), (Psplib, "j301_1.sm")] {
+        let text = published(name);
+        let project = layout.project(text.as_bytes()).unwrap();
+        assert_eq!(project, instance(&text).unwrap());
+        assert_eq!(project.caps, [12, 13, 4, 12]);
+        assert_eq!((project.jobs.len(), project.pairs()), (32, 48));
+        assert_eq!(project.longest_chain(), Ok(38));
+        assert_read(layout, &text, &project);
+    }
 }
 
 #[test]
 fn made_texts_are_read() {
     for (seed, jobs) in [(5, 30), (6, 60), (7, 90), (8, 120)] {
         let project = make::instance(seed, jobs).unwrap();
-        assert_read(&make::text(seed, jobs, "rcp").unwrap(), &project);
+        for (layout, ending) in [(Patterson, "rcp"), (Psplib, "sm")] {
+            assert_read(layout, &make::text(seed, jobs, ending).unwrap(), &project);
+        }
     }
 }
 

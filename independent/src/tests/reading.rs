@@ -2,7 +2,7 @@
 //! writes and what it leaves.
 
 use crate::answers::Answer;
-use crate::reading::{read, Lent, Request};
+use crate::reading::{read, Layout, Lent, Request};
 
 /// Four jobs, two chains between the first and the last; the longest is 9.
 const DIAMOND: &str = "4 2\n5 6\n3 1 2 2 3 2\n4 0 1 1 4\n1 2 2 1 4\n2 1 0 0\n";
@@ -28,6 +28,7 @@ fn answered(text: &str, resource: u32, horizon: u32, lent: &mut Lent) -> Answer 
     let before = lent.clone();
     let text = text.as_bytes().to_vec();
     let request = Request {
+        layout: Layout::Patterson,
         resource,
         horizon,
         text,

@@ -86,7 +86,7 @@ fn written(lent: &Lent) -> String {
 #[test]
 fn a_refusal_leaves_every_word_and_no_answer_writes_beyond_the_pairs() {
     for line in lines(SEED, COUNT) {
-        let Some(Call::Patterson(_, lent)) = read(&line) else {
+        let Some(Call::Read(_, lent)) = read(&line) else {
             continue;
         };
         let answer = answer(&line);

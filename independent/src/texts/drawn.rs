@@ -3,12 +3,12 @@
 
 use crate::joblist::{MOST_DEMAND, MOST_JOBS, MOST_TIME};
 use crate::lines::Call;
-use crate::patterson::MOST_RESOURCES;
 use crate::project::{Project, ProjectJob};
 use crate::random::Random;
 use crate::texts::faults;
 use crate::texts::lent::{call as made_call, exact, variations, Lengths};
 use crate::texts::whole::{needs, Needs};
+use crate::tokens::MOST_RESOURCES;
 
 /// Mostly up to `usual`, once in a while the limit or one more.
 fn number(random: &mut Random, usual: u32, limit: u32) -> u32 {

@@ -2,7 +2,7 @@
 //! in each place, so that a word left alone is told from one written.
 
 use crate::lines::Call;
-use crate::reading::{Lent, Request};
+use crate::reading::{Layout, Lent, Request};
 
 /// How long the six lists are, in the order of the line.
 pub type Lengths = [usize; 6];
@@ -51,9 +51,10 @@ pub fn variations(lengths: Lengths) -> Vec<Lengths> {
 
 pub fn call(text: &[u8], resource: u32, horizon: u32, lengths: Lengths) -> Call {
     let request = Request {
+        layout: Layout::Patterson,
         resource,
         horizon,
         text: text.to_vec(),
     };
-    Call::Patterson(request, lent(lengths))
+    Call::Read(request, lent(lengths))
 }
