@@ -16,7 +16,7 @@ pub const USAGE: &str = "usage:
   independent make SEED JOBS LAYOUT            an instance of 30, 60, 90 or 120 jobs as rcp or sm
   independent instance-calls DIR               calls for the files of a folder and made instances
   independent names DIR                        how many names shorter reasons spare, by families of lists
-  independent text-calls DIR SEED COUNT        calls of the Patterson reader, COUNT of them drawn";
+  independent text-calls DIR SEED COUNT        calls of both readers and the writer, from COUNT drawn texts on";
 
 fn number<T: FromStr>(word: &str) -> Result<T, String> {
     word.parse().map_err(|_| format!("not a number: {word:?}"))
@@ -78,9 +78,11 @@ pub fn run(words: &[&str]) -> Result<(), String> {
         }
         ["names", dir] => output.lines(names::lines(Path::new(dir))?)?,
         ["text-calls", dir, seed, count] => {
-            let published = text_of(&format!("{dir}/{}", texts::PUBLISHED))?;
+            let [rcp, sm] = texts::PUBLISHED.map(|name| text_of(&format!("{dir}/{name}")));
+            let (rcp, sm) = (rcp?, sm?);
             let (seed, count) = (number(seed)?, number(count)?);
-            output.lines(texts::lines(published.as_bytes(), seed, count)?)?;
+            let published = [rcp.as_bytes(), sm.as_bytes()];
+            output.lines(texts::lines(published, seed, count)?)?;
         }
         _ => return Err(USAGE.to_string()),
     }

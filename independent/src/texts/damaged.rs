@@ -3,10 +3,11 @@
 
 use crate::lines::Call;
 use crate::random::Random;
+use crate::reading::Layout::Patterson;
 use crate::texts::lent::call;
 use crate::texts::whole::{needs, Needs};
 
-type Damage = fn(&mut Random, &mut Vec<u8>, usize);
+pub type Damage = fn(&mut Random, &mut Vec<u8>, usize);
 
 const DAMAGES: [Damage; 5] = [
     |_, text, place| {
@@ -37,10 +38,14 @@ const SMALL: [&str; 14] = [
 ];
 
 /// Each damage at each place of a text.
-fn damaged(mut random: Random, text: Vec<u8>) -> impl Iterator<Item = Vec<u8>> {
+pub fn damaged(
+    mut random: Random,
+    damages: &'static [Damage],
+    text: Vec<u8>,
+) -> impl Iterator<Item = Vec<u8>> {
     let places = 0..text.len();
-    let all = DAMAGES
-        .into_iter()
+    let all = damages
+        .iter()
         .flat_map(move |damage| places.clone().map(move |place| (damage, place)));
     all.map(move |(damage, place)| {
         let mut text = text.clone();
@@ -55,13 +60,13 @@ pub fn published(text: &[u8], needs: &Needs, seed: u64) -> impl Iterator<Item = 
     let chain = needs.chain.unwrap_or(0);
     let last = needs.resources.saturating_sub(1);
     let mut random = Random::new(seed);
-    let texts = damaged(Random::new(!seed), text.to_vec());
+    let texts = damaged(Random::new(!seed), &DAMAGES, text.to_vec());
     texts.map(move |text| {
         let horizon = random.pick(&[chain, chain, chain + 7, 158, 1_000_000]);
         let mut lengths = lengths;
         lengths[4] += random.below(4);
         lengths[5] += random.below(4);
-        call(&text, random.between(0, last), horizon, lengths)
+        call(Patterson, &text, random.between(0, last), horizon, lengths)
     })
 }
 
@@ -69,18 +74,18 @@ pub fn published(text: &[u8], needs: &Needs, seed: u64) -> impl Iterator<Item = 
 /// the calls lend what the damaged text asks for, if it can be read; the others
 /// what the text asked for before, and two pairs more.
 fn of_small(random: &mut Random, text: &[u8]) -> Vec<Call> {
-    let whole = needs(text).expect("the text is a good one");
+    let whole = needs(Patterson, text).expect("the text is a good one");
     let chain = whole.chain.unwrap_or(1);
     let mut before = whole.lengths;
     before[4] += 2;
     before[5] += 2;
     let mut calls = Vec::new();
-    for damaged in damaged(Random::new(random.long()), text.to_vec()) {
-        let asked = needs(&damaged).map_or(before, |needs| needs.lengths);
+    for damaged in damaged(Random::new(random.long()), &DAMAGES, text.to_vec()) {
+        let asked = needs(Patterson, &damaged).map_or(before, |needs| needs.lengths);
         for horizon in [chain.saturating_sub(1), chain, chain + 1] {
             let lengths = random.pick(&[before, asked]);
             let resource = random.between(0, whole.resources.saturating_sub(1));
-            calls.push(call(&damaged, resource, horizon, lengths));
+            calls.push(call(Patterson, &damaged, resource, horizon, lengths));
         }
     }
     calls

@@ -5,6 +5,7 @@ use crate::joblist::{MOST_DEMAND, MOST_JOBS, MOST_TIME};
 use crate::lines::Call;
 use crate::project::{Project, ProjectJob};
 use crate::random::Random;
+use crate::reading::Layout;
 use crate::texts::faults;
 use crate::texts::lent::{call as made_call, exact, variations, Lengths};
 use crate::texts::whole::{needs, Needs};
@@ -58,7 +59,7 @@ fn sizes(random: &mut Random) -> (usize, usize) {
     (jobs, resources)
 }
 
-fn project(random: &mut Random) -> Project {
+pub fn project(random: &mut Random) -> Project {
     let (jobs, resources) = sizes(random);
     let longest = random.pick(&[0, 1, 3, 6, 6, 40, MOST_TIME / 4]);
     let order = match random.below(3) {
@@ -115,10 +116,9 @@ fn lengths(random: &mut Random, asked: Lengths) -> Lengths {
     lengths
 }
 
-pub fn call(random: &mut Random) -> Call {
-    let project = project(random);
-    let text = faults::text(random, &project);
-    let asked = needs(&text).unwrap_or(Needs {
+/// A call for the text, with what it asks for or something near it.
+pub fn call_for(layout: Layout, random: &mut Random, text: &[u8]) -> Call {
+    let asked = needs(layout, text).unwrap_or(Needs {
         lengths: exact(random.below(4), random.below(4)),
         resources: 1,
         chain: None,
@@ -126,5 +126,12 @@ pub fn call(random: &mut Random) -> Call {
     let chain = asked.chain.unwrap_or(random.between(0, 20));
     let resource = resource(random, asked.resources);
     let horizon = horizon(random, chain);
-    made_call(&text, resource, horizon, lengths(random, asked.lengths))
+    let lengths = lengths(random, asked.lengths);
+    made_call(layout, text, resource, horizon, lengths)
+}
+
+pub fn call(random: &mut Random) -> Call {
+    let project = project(random);
+    let text = faults::text(random, &project);
+    call_for(Layout::Patterson, random, &text)
 }

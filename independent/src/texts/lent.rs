@@ -49,9 +49,9 @@ pub fn variations(lengths: Lengths) -> Vec<Lengths> {
     all
 }
 
-pub fn call(text: &[u8], resource: u32, horizon: u32, lengths: Lengths) -> Call {
+pub fn call(layout: Layout, text: &[u8], resource: u32, horizon: u32, lengths: Lengths) -> Call {
     let request = Request {
-        layout: Layout::Patterson,
+        layout,
         resource,
         horizon,
         text: text.to_vec(),

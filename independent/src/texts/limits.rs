@@ -2,6 +2,7 @@
 //! one; numbers of very many digits; a byte that is none.
 
 use crate::lines::{Call, LONGEST_JOB_LIST, LONGEST_PAIR_LIST, LONGEST_TEXT};
+use crate::reading::Layout::Patterson;
 use crate::texts::lent::{call, exact, Lengths};
 
 /// The text with blanks before and behind it, so long in all.
@@ -23,7 +24,7 @@ fn with_lengths(text: &[u8], fit: Lengths, changes: &[(usize, usize)]) -> Call {
     for &(list, length) in changes {
         lengths[list] = length;
     }
-    call(text, 0, 1_000_000, lengths)
+    call(Patterson, text, 0, 1_000_000, lengths)
 }
 
 fn longest(text: &[u8], fit: Lengths) -> Vec<Call> {
@@ -32,13 +33,13 @@ fn longest(text: &[u8], fit: Lengths) -> Vec<Call> {
     let full = padded(text, LONGEST_TEXT);
     let left_over = [&padded(text, LONGEST_TEXT - 1)[..], b"0"].concat();
     vec![
-        call(&full, 0, 158, fit),
-        call(&left_over, 0, 158, fit),
-        call(&one_job(b'0', "3"), 0, 3, exact(1, 0)),
-        call(&one_job(b'0', "3"), 0, 2, exact(1, 0)),
-        call(&one_job(b'9', ""), 0, 3, exact(1, 0)),
-        call(&one_job(b'0', "x"), 0, 3, exact(1, 0)),
-        call(&one_job(b'9', "x"), 0, 3, exact(1, 0)),
+        call(Patterson, &full, 0, 158, fit),
+        call(Patterson, &left_over, 0, 158, fit),
+        call(Patterson, &one_job(b'0', "3"), 0, 3, exact(1, 0)),
+        call(Patterson, &one_job(b'0', "3"), 0, 2, exact(1, 0)),
+        call(Patterson, &one_job(b'9', ""), 0, 3, exact(1, 0)),
+        call(Patterson, &one_job(b'0', "x"), 0, 3, exact(1, 0)),
+        call(Patterson, &one_job(b'9', "x"), 0, 3, exact(1, 0)),
         with_lengths(text, fit, &[(4, pairs), (5, pairs)]),
         with_lengths(text, fit, &[(0, jobs)]),
         with_lengths(text, fit, &[(1, jobs), (2, jobs), (3, jobs)]),
@@ -53,7 +54,7 @@ fn too_long(text: &[u8], fit: Lengths) -> Vec<Call> {
         .map(|change| with_lengths(text, fit, &[change]))
         .collect();
     let text_too_long = padded(text, LONGEST_TEXT + 1);
-    calls.push(call(&text_too_long, 0, 158, fit));
+    calls.push(call(Patterson, &text_too_long, 0, 158, fit));
     calls
 }
 

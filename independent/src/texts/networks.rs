@@ -5,6 +5,7 @@ use crate::joblist::{MOST_JOBS, MOST_TIME};
 use crate::lines::Call;
 use crate::project::{Project, ProjectJob};
 use crate::random::Random;
+use crate::reading::Layout::Patterson;
 use crate::texts::lent::{call, exact};
 use crate::texts::whole::about_the_chain;
 use crate::written;
@@ -37,7 +38,7 @@ fn with_cycle(random: &mut Random, mut project: Project, order: &[usize]) -> Pro
 }
 
 /// As many successors as a text may have without a cycle, most of them twice.
-fn fullest(random: &mut Random) -> Project {
+pub fn fullest(random: &mut Random) -> Project {
     let order = random.order(MOST_JOBS);
     let mut project = network(random, &order, 1, 10);
     for job in &mut project.jobs {
@@ -45,6 +46,17 @@ fn fullest(random: &mut Random) -> Project {
         job.successors = once.iter().cycle().take(MOST_JOBS).copied().collect();
     }
     project
+}
+
+/// A network of so many jobs in any order, with or without a cycle.
+pub fn any(random: &mut Random, jobs: usize, thin: usize, cycle: bool) -> Project {
+    let order = random.order(jobs);
+    let project = network(random, &order, thin, 3_900);
+    if cycle {
+        with_cycle(random, project, &order)
+    } else {
+        project
+    }
 }
 
 fn text(project: &Project) -> Vec<u8> {
@@ -59,7 +71,7 @@ fn about_the_room(project: &Project) -> [Call; 2] {
     short[5] = short[5].saturating_sub(1);
     long[4] += 3;
     long[5] += 2;
-    [short, long].map(|lengths| call(&text, 0, MOST_TIME, lengths))
+    [short, long].map(|lengths| call(Patterson, &text, 0, MOST_TIME, lengths))
 }
 
 /// No horizon is long enough for the chain of 256 durations at their limit.
@@ -80,10 +92,10 @@ fn of_size(random: &mut Random, jobs: usize) -> Vec<Call> {
     for order in [along, against, random.order(jobs)] {
         for thin in [1, 3, jobs] {
             let project = network(random, &order, thin, 3_900);
-            calls.extend(about_the_chain(&text(&project)));
+            calls.extend(about_the_chain(Patterson, &text(&project)));
             calls.extend(about_the_room(&project));
             let cyclic = with_cycle(random, project, &order);
-            calls.extend(about_the_chain(&text(&cyclic)));
+            calls.extend(about_the_chain(Patterson, &text(&cyclic)));
         }
     }
     calls
@@ -91,7 +103,7 @@ fn of_size(random: &mut Random, jobs: usize) -> Vec<Call> {
 
 fn extremes(random: &mut Random) -> Vec<Call> {
     let fullest = fullest(random);
-    let mut calls = about_the_chain(&text(&fullest));
+    let mut calls = about_the_chain(Patterson, &text(&fullest));
     calls.extend(about_the_room(&fullest));
     calls.extend(about_the_room(&longest_chain(random)));
     calls
