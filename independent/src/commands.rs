@@ -16,7 +16,7 @@ pub const USAGE: &str = "usage:
   independent make SEED JOBS LAYOUT            an instance of 30, 60, 90 or 120 jobs as rcp or sm
   independent instance-calls DIR               calls for the files of a folder and made instances
   independent names DIR                        how many names shorter reasons spare, by families of lists
-  independent text-calls DIR SEED COUNT        calls of both readers and the writer, from COUNT drawn texts on";
+  independent text-calls DIR SEED COUNT        calls of both readers and the writer; COUNT Patterson texts are drawn";
 
 fn number<T: FromStr>(word: &str) -> Result<T, String> {
     word.parse().map_err(|_| format!("not a number: {word:?}"))

@@ -79,8 +79,8 @@ fn drawn_others(seed: u64, count: u64) -> impl Iterator<Item = Vec<u8>> {
     texts.chain(lists)
 }
 
-/// Lines for the published texts, and after them those for drawn ones, `count`
-/// of them Patterson texts, once for each of the calls.
+/// The lines that read Patterson texts, `count` of them drawn; then those of the
+/// other calls, with fewer drawn.
 pub fn lines(
     published: [&[u8]; 2],
     seed: u64,
