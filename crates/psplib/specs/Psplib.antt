@@ -1,0 +1,45 @@
+-- The PSPLIB single-mode layout (document 01, 'Library layouts'), with the refusals of document 02, Items 1 and 13: 35 unless the headings are the five,
+-- each once and in order; then 30, 31 and 32 as the text meets them.
+use Prim.Native.Nat.{ℕ}
+use mathlib.Core.Bool.{cond}
+use mathlib.Core.List.{List, [], _∷_}
+use Rattle.joblist.specs.Limits.{mostDemand, mostJobs, mostResources}
+use Rattle.texts.specs.Tokens.{tokens}
+use Rattle.texts.specs.Readings.{Read, bad, good, andThen, times, many}
+use Rattle.headings.specs.Lines.{behindLines, counted}
+use Rattle.headings.specs.Headings.{marks, inOrder, section}
+use Rattle.rows.specs.Projects.{Row, Project}
+use Rattle.rows.specs.Tables.{relation, request}
+
+-- a job: its successors from its row of the relations, its duration and demands from its row of the requests
+abbrev pub joined : Row → Row → Row
+joined r q = record { duration = q .duration; demands = q .demands; successors = r .successors }
+
+-- the jobs, one by one
+unfoldable pub join : List Row → List Row → List Row
+join [] qs = []
+join (r ∷ rs) [] = []
+join (r ∷ rs) (q ∷ qs) = joined r q ∷ join rs qs
+
+-- the three tables of n jobs on k resources, each from its heading on: its rows stand behind the heading's line and a line of column names, those of
+-- the requests behind a line of hyphens too
+unfoldable pub tables : ℕ → ℕ → List ℕ → List ℕ → List ℕ → Read Project
+unfolding times relation request many tokens behindLines join
+tables n k relations requests capacities =
+    andThen (times (relation n) 0 n (tokens (behindLines 2 relations))) (λ rs t₁.
+    andThen (times (request n k) 0 n (tokens (behindLines 3 requests))) (λ qs t₂.
+    andThen (many mostDemand k (tokens (behindLines 2 capacities))) (λ cs t₃.
+    good (record { capacities = cs; rows = join rs qs }) [])))
+
+-- the two counts on the lines of their headings, then the tables; `part i` is the text from heading i on
+unfoldable pub sections : (ℕ → List ℕ) → Read Project
+unfolding counted tables
+sections part =
+    andThen (counted mostJobs (part 0)) (λ n t₁.
+    andThen (counted mostResources (part 1)) (λ k t₂.
+    tables n k (part 2) (part 3) (part 4)))
+
+-- a text of this layout; what stands behind the rows is passed over
+unfoldable pub psplib : List ℕ → Read Project
+unfolding marks inOrder section sections
+psplib s = cond (inOrder 0 (marks s)) (sections (λ k. section k (marks s))) (bad 35)
