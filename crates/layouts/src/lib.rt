@@ -1,4 +1,5 @@
-// The readers of project texts (document 02, Item 1): a partner's text becomes a job list and its precedence pairs.
+// The readers of project texts (document 02, Items 1 and 13): a partner's text becomes a job list and its precedence pairs. They differ in their
+// layouts alone.
 mod fill;
 mod parts;
 mod whole;
@@ -7,6 +8,7 @@ use answers::ReadAnswer;
 use whole::read_parsed;
 ghost use Rattle.answers.specs.Said.{saysRead};
 ghost use Rattle.rows.specs.Patterson.{patterson};
+ghost use Rattle.psplib.specs.Psplib.{psplib};
 ghost use Rattle.layouts.specs.Promise.{Reads};
 
 // Fills the six lists from a text of the Patterson layout, for one resource (from 0) and a horizon.
@@ -28,6 +30,41 @@ pub fn read_patterson(
     let mut d = [0u32; joblist::MOST];
     let mut q = [0u32; joblist::MOST];
     let parsed = rows::parse(text, resource, &mut d, &mut q);
+    read_parsed(
+        text,
+        resource,
+        horizon,
+        parsed,
+        &d,
+        &q,
+        est,
+        lct,
+        dur,
+        dem,
+        jobs,
+        successors,
+    )
+}
+
+// The same from a text of the PSPLIB layout.
+pub fn read_psplib(
+    text: &[u8],
+    resource: u32,
+    horizon: u32,
+    est: &mut [u32],
+    lct: &mut [u32],
+    dur: &mut [u32],
+    dem: &mut [u32],
+    jobs: &mut [u32],
+    successors: &mut [u32],
+) -> ReadAnswer
+    ensures { λ a. ⌜ Reads
+        (record { text = psplib (now (text .entry)); resource = resource; horizon = horizon; lent = record { est = now (est .entry); lct = now (lct .entry); dur = now (dur .entry); dem = now (dem .entry); jobs = now (jobs .entry); successors = now (successors .entry) } })
+        (record { says = saysRead a; lent = record { est = now (est .exit); lct = now (lct .exit); dur = now (dur .exit); dem = now (dem .exit); jobs = now (jobs .exit); successors = now (successors .exit) } }) ⌝ }
+{
+    let mut d = [0u32; joblist::MOST];
+    let mut q = [0u32; joblist::MOST];
+    let parsed = psplib::parse(text, resource, &mut d, &mut q);
     read_parsed(
         text,
         resource,
