@@ -1,4 +1,5 @@
 pub mod Tokens
+pub mod Runs
 pub mod Numbers
 pub mod Readings
 pub mod Exactly
