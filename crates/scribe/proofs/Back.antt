@@ -1,18 +1,18 @@
 -- What is written is read back: the tokens of lines are their numbers, and the readings of the Patterson layout take these one after the other.
-use Prim.Native.Nat.{ℕ, zero, suc, _-_, _≤_, _<_}
+use Prim.Native.Nat.{ℕ, suc, _-_, _≤_, _<_}
 use native.Mathlib.Omega.{arith}
 use mathlib.Core.Path.{_≡_, refl, sym, ap, _∙_}
 use mathlib.Core.Bool.{true}
-use mathlib.Core.List.{List, [], _∷_, _++_, map, map-append, append-assoc, append-nil}
+use mathlib.Core.List.{List, [], _∷_, _++_, map, map-append, map-map, append-assoc, append-nil}
 use lib.ListN.{length}
 use borrow.Author.Tests.{le-leb, ne-eqb}
 use Rattle.lists.specs.Lists.{Every}
 use Rattle.joblist.specs.Limits.{mostTime, mostDemand, mostJobs, mostResources}
 use Rattle.texts.specs.Tokens.{blank, Token, number, tokens, runs}
-use Rattle.texts.specs.Readings.{Read, bad, good, andThen, one, times, many, nothingMore}
+use Rattle.texts.specs.Readings.{Read, good, andThen, one, times, many}
 use Rattle.texts.proofs.Runs.{tokens-run, tokens-over}
 use Rattle.rows.specs.Projects.{Row, Project, link}
-use Rattle.rows.specs.Patterson.{head, row, opening, project, patterson}
+use Rattle.rows.specs.Patterson.{head, row, project, patterson}
 use Rattle.rows.proofs.Whole.{opening-good, project-good}
 use Rattle.scribe.specs.Form.{decimal, line, numbers, jobLines, written}
 use Rattle.scribe.specs.Writable.{WritableRow, Writable}
@@ -60,19 +60,15 @@ times-back f put P each j [] ts h = refl
 times-back f put P each j (x ∷ xs) ts h =
     rw (append-assoc (put x) (flat put xs) ts, each j x (flat put xs ++ ts) (h .0), times-back f put P each (suc j) xs ts (h .1))
 
--- the tokens of numbers
-flat-numbers : (g : ℕ → ℕ) (vs : List ℕ) → flat (λ v. number (g v) ∷ []) vs ≡ map number (map g vs)
-flat-numbers g [] = refl
-flat-numbers g (v ∷ vs) = rw (flat-numbers g vs)
+-- a token for each
+flat-map : {A : Type 0} (f : A → Token) (xs : List A) → flat (λ x. f x ∷ []) xs ≡ map f xs
+flat-map f [] = refl
+flat-map f (x ∷ xs) = rw (flat-map f xs)
 
 many-back : (top : ℕ) (vs : List ℕ) (ts : List Token) → Every (λ x. x ≤ top) vs → many top (length vs) (map number vs ++ ts) ≡ good vs ts
 unfolding many
 many-back top vs ts h =
-    rw (← same vs) (times-back (λ j. one top 31) (λ v. number v ∷ []) (λ x. x ≤ top) (λ j a u p. one-back top 31 a u p) 0 vs ts h)
-  where
-    same : (xs : List ℕ) → flat (λ v. number v ∷ []) xs ≡ map number xs
-    same [] = refl
-    same (x ∷ xs) = rw (same xs)
+    rw (← flat-map number vs) (times-back (λ j. one top 31) (λ v. number v ∷ []) (λ x. x ≤ top) (λ j a u p. one-back top 31 a u p) 0 vs ts h)
 
 link-back : (n s : ℕ) (ts : List Token) → s < n → link n (number (suc s) ∷ ts) ≡ good s ts
 unfolding link
@@ -88,7 +84,7 @@ row-parts : (r : Row) (ts : List Token)
     → rowTokens r ++ ts ≡ number (r .duration) ∷ (map number (r .demands) ++ number (length (r .successors)) ∷ (flat (λ s. number (suc s) ∷ []) (r .successors) ++ ts))
 row-parts r ts =
     ap (λ (u : List Token). number (r .duration) ∷ u)
-    (rw (map-append number (r .demands) (length (r .successors) ∷ map suc (r .successors)), append-assoc (map number (r .demands)) (number (length (r .successors)) ∷ map number (map suc (r .successors))) ts, flat-numbers suc (r .successors)))
+    (rw (map-append number (r .demands) (length (r .successors) ∷ map suc (r .successors)), append-assoc (map number (r .demands)) (number (length (r .successors)) ∷ map number (map suc (r .successors))) ts, map-map number suc (r .successors), flat-map (λ s. number (suc s)) (r .successors)))
 
 row-is : (n k j : ℕ) (ts : List Token)
     → row n k j ts

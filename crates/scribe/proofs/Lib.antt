@@ -1,2 +1,4 @@
 pub mod Decimals
 pub mod Back
+pub mod Pairs
+pub mod Rows
