@@ -1,3 +1,4 @@
+pub mod Cases
 pub mod Decimals
 pub mod Back
 pub mod Pairs

@@ -10,7 +10,7 @@ use Rattle.rows.specs.Projects.{Row, Project}
 -- the decimal digits of v, at most m of them
 unfoldable pub decimalIn : ℕ → ℕ → List ℕ
 decimalIn zero v = []
-decimalIn (suc m) v = cond (ltb v 10) ((48 + v) ∷ []) (decimalIn m (v / 10) ++ ((48 + v % 10) ∷ []))
+decimalIn (suc m) v = let longer = decimalIn m (v / 10) ++ ((48 + v % 10) ∷ []) in cond (ltb v 10) ((48 + v) ∷ []) longer
 
 -- the decimal digits of v, without leading zeros: no more than v and one
 unfoldable pub decimal : ℕ → List ℕ
