@@ -1,3 +1,4 @@
 pub mod Form
 pub mod Made
 pub mod Writable
+pub mod Says

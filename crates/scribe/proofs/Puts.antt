@@ -1,0 +1,95 @@
+-- Bytes put one after the other: room for all of them is room for the first and then for the rest, and both put are all put.
+use Prim.Native.Nat.{ℕ, suc, _+_, _≤_, _<_}
+use native.Mathlib.Numerals.{add-one}
+use native.Mathlib.Omega.{arith}
+use mathlib.Core.Path.{_≡_, refl, sym, ap, _∙_}
+use mathlib.Core.Bool.{Bool, true, false, cond}
+use mathlib.Core.List.{List, [], _∷_, _++_, append-assoc, append-nil}
+use lib.ListN.{length, take, drop, set, length-append, length-take, length-drop, take-append-drop}
+use lib.Seq.{set-split, take-at, drop-at, take-append-add, drop-append-add, length-take-le, drop-drop}
+use Rattle.scribe.specs.Says.{mostBytes, pasted, Put, Room}
+
+-- ---- in a list
+
+-- what is pasted leaves as many bytes as there were
+pasted-length : (at : ℕ) (t b : List ℕ) → at + length t ≤ length b → length (pasted at t b) ≡ length b
+pasted-length at t b h =
+    length-append (take at b) (t ++ drop (at + length t) b)
+    ∙ rw (length-append t (drop (at + length t) b), length-drop (at + length t) b, length-take-le at b (omega arith)) (omega arith)
+
+-- pasted behind what was pasted
+pasted-twice : (at : ℕ) (t u b : List ℕ) → at + length t ≤ length b → pasted (at + length t) u (pasted at t b) ≡ pasted at (t ++ u) b
+pasted-twice at t u b h =
+    let f : length (take at b) ≡ at = length-take-le at b (omega arith) in
+    let l : length (take at b ++ t) ≡ at + length t = length-append (take at b) t ∙ ap (λ (m : ℕ). m + length t) f in
+    let p : pasted at t b ≡ (take at b ++ t) ++ drop (at + length t) b = sym (append-assoc (take at b) t (drop (at + length t) b)) in
+    let d : drop (at + length t + length u) ((take at b ++ t) ++ drop (at + length t) b) ≡ drop (at + length t + length u) b =
+    ap (λ (m : ℕ). drop (m + length u) ((take at b ++ t) ++ drop (at + length t) b)) (sym l)
+    ∙ drop-append-add (take at b ++ t) (drop (at + length t) b) (length u) ∙ drop-drop (length u) (at + length t) b in
+    let m : at + length t + length u ≡ at + (length t + length u) = omega arith in
+    rw (p, take-at (take at b ++ t) (drop (at + length t) b) (at + length t) l, d, length-append t u)
+    (append-assoc (take at b) t (u ++ drop (at + length t + length u) b) ∙ ap (λ (y : List ℕ). take at b ++ y) (sym (append-assoc t u (drop (at + length t + length u) b)) ∙ ap (λ (k : ℕ). (t ++ u) ++ drop k b) m))
+
+-- one byte stored
+stored : (at a : ℕ) (b : List ℕ) → at < length b → set b at a ≡ pasted at (a ∷ []) b
+stored at a b h = rw add-one (set-split b at a h)
+
+pub put-byte : (dry : Bool) (at a : ℕ) (b : List ℕ) → dry ≡ false → Room dry at (a ∷ []) b → Put dry at (a ∷ []) b (set b at a) (at + 1)
+put-byte dry at a b e h = record { place = omega arith; bytes = rw e (stored at a b (omega (arith, h .room e))) }
+
+-- ---- put one after the other
+
+module _ (dry : Bool) (at : ℕ) (t u b : List ℕ) where
+  pub room-front : Room dry at (t ++ u) b → Room dry at t b
+  room-front h = let l = length-append t u in record { few = omega (arith, h .few); room = λ e. omega (arith, h .room e) }
+
+  module _ (b' : List ℕ) (r : ℕ) where
+    pub room-back : Room dry at (t ++ u) b → Put dry at t b b' r → Room dry r u b'
+    room-back h p =
+        let l = length-append t u in
+        record { few = omega (arith, h .few, p .place); room = λ e. omega (arith, h .room e, p .place, same e) }
+      where
+        same : dry ≡ false → length b' ≡ length b
+        same e = let q : b' ≡ pasted at t b = p .bytes ∙ rw e in ap length q ∙ pasted-length at t b (omega (arith, h .room e, length-append t u))
+
+    pub put-then : (b'' : List ℕ) (r' : ℕ) → Room dry at t b → Put dry at t b b' r → Put dry r u b' b'' r' → Put dry at (t ++ u) b b'' r'
+    put-then b'' r' h p q = record { place = rw (length-append t u) (omega (arith, p .place, q .place)); bytes = go dry refl }
+      where
+        go : (d : Bool) → dry ≡ d → b'' ≡ cond d b (pasted at (t ++ u) b)
+        go true e = (q .bytes ∙ rw e) ∙ (p .bytes ∙ rw e)
+        go false e = (q .bytes ∙ rw (e, p .bytes, e, p .place)) ∙ pasted-twice at t u b (h .room e)
+
+-- nothing
+pub put-none : (dry : Bool) (at : ℕ) (b : List ℕ) → Put dry at [] b b at
+put-none dry at b = record { place = omega arith; bytes = go dry }
+  where
+    go : (d : Bool) → b ≡ cond d b (pasted at [] b)
+    go true = refl
+    go false = let z : at + 0 ≡ at = omega arith in rw z (sym (take-append-drop at b))
+
+-- ---- a text being put: what is left of it
+
+pub record Going (dry : Bool) (start : ℕ) (whole b b' : List ℕ) (at : ℕ) (left : List ℕ) : Type 0 where
+  pub front : List ℕ
+  pub split : whole ≡ front ++ left
+  pub put : Put dry start front b b' at
+
+pub going-start : (dry : Bool) (at : ℕ) (t b : List ℕ) → Going dry at t b b at t
+going-start dry at t b = record { front = []; split = refl; put = put-none dry at b }
+
+module _ (dry : Bool) (start : ℕ) (whole b b' : List ℕ) (at : ℕ) where
+  module _ (t rest : List ℕ) (h : Room dry start whole b) (g : Going dry start whole b b' at (t ++ rest)) where
+    pub going-room : Room dry at t b'
+    going-room = let k : Room dry start (g .front ++ (t ++ rest)) b = rw (← g .split) h in room-front dry at t rest b' (room-back dry start (g .front) (t ++ rest) b b' at k (g .put))
+
+    pub going-step : (b'' : List ℕ) (r : ℕ) → Put dry at t b' b'' r → Going dry start whole b b'' r rest
+    going-step b'' r p =
+        let k : Room dry start (g .front ++ (t ++ rest)) b = rw (← g .split) h in
+        record {
+          front = g .front ++ t;
+          split = g .split ∙ sym (append-assoc (g .front) t rest);
+          put = put-then dry start (g .front) t b b' at b'' r (room-front dry start (g .front) (t ++ rest) b k) (g .put) p;
+        }
+
+  pub going-end : Going dry start whole b b' at [] → Put dry start whole b b' at
+  going-end g = let e : g .front ≡ whole = sym (g .split ∙ append-nil (g .front)) in rw (← e) (g .put)
