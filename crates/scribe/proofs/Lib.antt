@@ -4,3 +4,6 @@ pub mod Back
 pub mod Pairs
 pub mod Rows
 pub mod Puts
+pub mod Steps
+pub mod Passing
+pub mod Counts

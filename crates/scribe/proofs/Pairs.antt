@@ -60,7 +60,7 @@ rising-ups n (j ∷ j' ∷ js) (s ∷ s' ∷ ss) h e =
     let b = h .order 0 (omega arith) in
     (h .range 0 (omega arith), (b, every-map (Before (pair j' s')) (Before (pair j s)) (λ z. before-trans (pair j s) (pair j' s') z b) (paired js ss) (r .1)), r)
 
-paired-length : (js ss : List ℕ) → length js ≡ length ss → length (paired js ss) ≡ length js
+pub paired-length : (js ss : List ℕ) → length js ≡ length ss → length (paired js ss) ≡ length js
 paired-length [] ss e = refl
 paired-length (j ∷ js) [] e = absurd (omega arith)
 paired-length (j ∷ js) (s ∷ ss) e = ap suc (paired-length js ss (omega arith))

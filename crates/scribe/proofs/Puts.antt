@@ -78,18 +78,55 @@ pub going-start : (dry : Bool) (at : ℕ) (t b : List ℕ) → Going dry at t b 
 going-start dry at t b = record { front = []; split = refl; put = put-none dry at b }
 
 module _ (dry : Bool) (start : ℕ) (whole b b' : List ℕ) (at : ℕ) where
-  module _ (t rest : List ℕ) (h : Room dry start whole b) (g : Going dry start whole b b' at (t ++ rest)) where
-    pub going-room : Room dry at t b'
-    going-room = let k : Room dry start (g .front ++ (t ++ rest)) b = rw (← g .split) h in room-front dry at t rest b' (room-back dry start (g .front) (t ++ rest) b b' at k (g .put))
+  module _ (left t rest : List ℕ) (e : left ≡ t ++ rest) (h : Room dry start whole b) (g : Going dry start whole b b' at left) where
+    whole-room : Room dry start (g .front ++ (t ++ rest)) b
+    whole-room = rw (← e, ← g .split) h
 
+    -- room for what comes next
+    pub going-room : Room dry at t b'
+    going-room = room-front dry at t rest b' (room-back dry start (g .front) (t ++ rest) b b' at whole-room (g .put))
+
+    -- and then that put
     pub going-step : (b'' : List ℕ) (r : ℕ) → Put dry at t b' b'' r → Going dry start whole b b'' r rest
     going-step b'' r p =
-        let k : Room dry start (g .front ++ (t ++ rest)) b = rw (← g .split) h in
         record {
           front = g .front ++ t;
-          split = g .split ∙ sym (append-assoc (g .front) t rest);
-          put = put-then dry start (g .front) t b b' at b'' r (room-front dry start (g .front) (t ++ rest) b k) (g .put) p;
+          split = g .split ∙ rw e (sym (append-assoc (g .front) t rest));
+          put = put-then dry start (g .front) t b b' at b'' r (room-front dry start (g .front) (t ++ rest) b whole-room) (g .put) p;
         }
 
-  pub going-end : Going dry start whole b b' at [] → Put dry start whole b b' at
-  going-end g = let e : g .front ≡ whole = sym (g .split ∙ append-nil (g .front)) in rw (← e) (g .put)
+  pub going-end : (left : List ℕ) → left ≡ [] → Going dry start whole b b' at left → Put dry start whole b b' at
+  going-end left e g = let q : g .front ≡ whole = sym (g .split ∙ rw e (append-nil (g .front))) in rw (← q) (g .put)
+
+-- ---- a text of four parts
+
+pub record Parts (t u v w whole : List ℕ) : Type 0 where
+  pub joined : whole ≡ t ++ (u ++ (v ++ w))
+
+module _ (dry : Bool) (at : ℕ) (t u v w whole b : List ℕ) (e : Parts t u v w whole) (h : Room dry at whole b) where
+  pub first-room : Room dry at t b
+  first-room = going-room dry at whole b b at whole t (u ++ (v ++ w)) (e .joined) h (going-start dry at whole b)
+
+  module _ (b₁ : List ℕ) (r₁ : ℕ) (p₁ : Put dry at t b b₁ r₁) where
+    first-going : Going dry at whole b b₁ r₁ (u ++ (v ++ w))
+    first-going = going-step dry at whole b b at whole t (u ++ (v ++ w)) (e .joined) h (going-start dry at whole b) b₁ r₁ p₁
+
+    pub second-room : Room dry r₁ u b₁
+    second-room = going-room dry at whole b b₁ r₁ (u ++ (v ++ w)) u (v ++ w) refl h first-going
+
+    module _ (b₂ : List ℕ) (r₂ : ℕ) (p₂ : Put dry r₁ u b₁ b₂ r₂) where
+      second-going : Going dry at whole b b₂ r₂ (v ++ w)
+      second-going = going-step dry at whole b b₁ r₁ (u ++ (v ++ w)) u (v ++ w) refl h first-going b₂ r₂ p₂
+
+      pub third-room : Room dry r₂ v b₂
+      third-room = going-room dry at whole b b₂ r₂ (v ++ w) v w refl h second-going
+
+      module _ (b₃ : List ℕ) (r₃ : ℕ) (p₃ : Put dry r₂ v b₂ b₃ r₃) where
+        third-going : Going dry at whole b b₃ r₃ w
+        third-going = going-step dry at whole b b₂ r₂ (v ++ w) v w refl h second-going b₃ r₃ p₃
+
+        pub fourth-room : Room dry r₃ w b₃
+        fourth-room = going-room dry at whole b b₃ r₃ w w [] (sym (append-nil w)) h third-going
+
+        pub all-put : (b₄ : List ℕ) (r₄ : ℕ) → Put dry r₃ w b₃ b₄ r₄ → Put dry at whole b b₄ r₄
+        all-put b₄ r₄ p₄ = going-end dry at whole b b₄ r₄ [] refl (going-step dry at whole b b₃ r₃ w w [] (sym (append-nil w)) h third-going b₄ r₄ p₄)

@@ -46,11 +46,11 @@ of-climb n j (x ∷ ps) h = go (eqb (x .job) j) refl (of-climb n j ps (h .2))
     go true e q = (of-every (Before x) (λ s. x .successor < s) j (λ y. less y (eqb-true (x .job) j e)) ps (h .1), q)
     go false e q = q
 
-of-below : (n j : ℕ) (ps : List Pair) → Ups n ps → Every (λ s. s < n) (successorsOf j ps)
+pub of-below : (n j : ℕ) (ps : List Pair) → Ups n ps → Every (λ s. s < n) (successorsOf j ps)
 of-below n j ps h = of-every (λ x. (x .job < n) × (x .successor < n)) (λ s. s < n) j (λ x e q. q .1) ps (ups-range n ps h)
 
 -- no more than there are jobs
-of-few : (n j : ℕ) (ps : List Pair) → Ups n ps → length (successorsOf j ps) ≤ n
+pub of-few : (n j : ℕ) (ps : List Pair) → Ups n ps → length (successorsOf j ps) ≤ n
 of-few n j ps h = climb-few (λ s. s) n (successorsOf j ps) (of-climb n j ps h) (of-below n j ps h)
 
 -- ---- the pairs back

@@ -1,13 +1,16 @@
 -- What the writer's functions say of the lent buffer. Each of them can run dry: it then writes nothing and only counts, so that a caller sees whether
 -- there is room (document 02, Item 13: a buffer that is too short is left as it was).
-use Prim.Native.Nat.{ℕ, _+_, _≤_, _<_}
+use Prim.Native.Nat.{ℕ, suc, _+_, _*_, _≤_, _<_}
 use mathlib.Core.Path.{_≡_}
 use mathlib.Core.Bool.{Bool, false, cond}
-use mathlib.Core.List.{List, _++_}
+use mathlib.Core.List.{List, [], _∷_, _++_, map}
 use lib.ListN.{length, take, drop}
+use lib.Seq.{slice}
 use Rattle.lists.specs.Lists.{_!_}
+use Rattle.joblist.specs.Limits.{mostJobs}
+use Rattle.chains.specs.Listed.{Rising}
 use Rattle.rows.specs.Projects.{Project}
-use Rattle.scribe.specs.Form.{written}
+use Rattle.scribe.specs.Form.{line, written}
 
 -- no text that we write has more bytes than this (proofs/Counts.antt)
 abbrev pub mostBytes : ℕ
@@ -38,3 +41,30 @@ pub record RunEnds (js : List ℕ) (j i r : ℕ) : Type 0 where
 pub record Wrote (dry : Bool) (x : Project) (buffer after : List ℕ) (r : ℕ) : Type 0 where
   pub count : r ≡ length (written x)
   pub bytes : after ≡ cond dry buffer (written x ++ drop (length (written x)) buffer)
+
+-- the byte behind a number, and what stands behind that byte, by the numbers that are left on the line
+abbrev pub mark : List ℕ → ℕ
+mark [] = 10
+mark (v ∷ vs) = 32
+
+abbrev pub behind : List ℕ → List ℕ
+behind [] = []
+behind (v ∷ vs) = line (v ∷ vs)
+
+-- the successors from one place of their list to another, numbered from 1
+abbrev pub numbered : List ℕ → ℕ → ℕ → List ℕ
+numbered ss from to = map suc (slice from to ss)
+
+-- a part of the list of successors: there are not too many to be counted, and each is a job's number
+pub record Stretch (ss : List ℕ) (from to : ℕ) : Type 0 where
+  pub order : from ≤ to
+  pub within : to ≤ length ss
+  pub few : to ≤ mostJobs * mostJobs
+  pub below : (k : ℕ) → k < to → ss ! k < mostJobs
+
+-- what the lists are that a project is written from: their lengths, and the pairs in their order
+pub record Given (durs dems js ss : List ℕ) : Type 0 where
+  pub demands : length dems ≡ length durs
+  pub few : length durs ≤ mostJobs
+  pub pairs : length ss ≡ length js
+  pub rising : Rising (length durs) js ss

@@ -1,2 +1,34 @@
 // A project written as a text (document 01, 'Library layouts'; document 02, Item 13).
+mod jobs;
 mod marks;
+
+use jobs::put_jobs;
+use marks::put;
+ghost use mathlib.Core.Path.{_≡_};
+ghost use mathlib.Core.Bool.{false};
+ghost use Prim.Native.Nat.{_≤_};
+ghost use lib.ListN.{length};
+ghost use Rattle.chains.specs.Listed.{paired};
+ghost use Rattle.scribe.specs.Form.{written};
+ghost use Rattle.scribe.specs.Made.{made};
+ghost use Rattle.scribe.specs.Says.{Given, Wrote};
+
+// The project of one resource, at the front of the buffer; its number of bytes. A dry run leaves the buffer as it is.
+pub fn write(
+    dry: bool,
+    cap: u32,
+    dur: &[u32],
+    dem: &[u32],
+    jobs: &[u32],
+    successors: &[u32],
+    buffer: &mut [u8],
+) -> usize
+    requires { ⌜ Given (now dur) (now dem) (now jobs) (now successors) ⌝ }
+    requires { ⌜ (dry ≡ false → length (written (made cap (now dur) (now dem) (paired (now jobs) (now successors)))) ≤ length (now buffer)) ⌝ }
+    ensures { λ r. ⌜ Wrote dry (made cap (now (dur .entry)) (now (dem .entry)) (paired (now (jobs .entry)) (now (successors .entry)))) (now (buffer .entry)) (now (buffer .exit)) r ⌝ }
+{
+    let a = put(dry, dur.len() as u32, b' ', 0, buffer);
+    let b = put(dry, 1, b'\n', a, buffer);
+    let c = put(dry, cap, b'\n', b, buffer);
+    put_jobs(dry, dur, dem, jobs, successors, c, buffer)
+}

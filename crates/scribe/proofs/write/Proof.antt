@@ -1,0 +1,61 @@
+use borrow.Author.Needs.{needs}
+use Rattle.chains.specs.Listed.{paired}
+use Rattle.scribe.specs.Form.{written}
+use Rattle.scribe.specs.Made.{made}
+use Rattle.scribe.specs.Says.{Room}
+use Rattle.scribe.proofs.Counts.{write-parts, whole-room, put-whole}
+use Rattle.scribe.proofs.Puts.{first-room, second-room, third-room, fourth-room, all-put}
+use Rattle.scribe.proofs.write.Statement.{statement}
+use Rattle.scribe.proofs.write.Tie as tie
+use Rattle.scribe.proofs.write.Reads as reads
+use Rattle.scribe.proofs.write.Lts as lts
+use Rattle.scribe.proofs.jobs.put_jobs.Reads as put-jobs-reads
+use Rattle.scribe.proofs.marks.put.Reads as put-reads
+
+-- there is room for the whole text, and it is not too long to be counted
+room : (k : lts.After-shared-slice-known2 (put-reads.Asked, put-reads.Learnt, put-jobs-reads.Asked, put-jobs-reads.Learnt) reads.Pre reads.Post)
+    → let a = k .before .before .args in Room (a .dry) 0 (written (made (a .cap) (a .dur .now) (a .dem .now) (paired (a .jobs .now) (a .successors .now)))) (a .buffer .now)
+room k =
+    let s = k .before .before in
+    whole-room _ _ _ _ _ (s .pre .0) _ _ (s .fits .cap .fits) (λ i. k .before .shared-slice-known .given i .fits) (λ i. k .shared-slice-known2 .given i .fits) (s .pre .1)
+
+cast-put : tie.Need-cast-put
+cast-put c = search needs
+
+-- src/lib.rt:22:9
+put-requires : tie.Need-put-requires
+put-requires c κs = first-room _ _ _ _ _ _ _ _ (write-parts _ _ _ _ _ (c .before .before .before .before .before .before .pre .0)) (room (c .before .before .before .before))
+
+-- src/lib.rt:23:9
+put-requires-2 : tie.Need-put-requires-2
+put-requires-2 c κs = second-room _ _ _ _ _ _ _ _ (write-parts _ _ _ _ _ (c .before .before .before .before .before .before .before .before .before .before .pre .0)) (room (c .before .before .before .before .before .before .before .before)) _ _ (c .before .before .before .put .ensures)
+
+-- src/lib.rt:24:9
+put-requires-3 : tie.Need-put-requires-3
+put-requires-3 c κs = third-room _ _ _ _ _ _ _ _ (write-parts _ _ _ _ _ (c .before .before .before .before .before .before .before .before .before .before .before .before .before .before .pre .0)) (room (c .before .before .before .before .before .before .before .before .before .before .before .before)) _ _ (c .before .before .before .before .before .before .before .put .ensures) _ _ (c .before .before .before .put2 .ensures)
+
+-- src/lib.rt:25:5
+put-jobs-requires : tie.Need-put-jobs-requires
+put-jobs-requires c κs =
+    let g = c .before .before .before .before .before .before .before .before .before .before .before .before .before .before .before .before .before .before .pre .0 in
+    (g, fourth-room _ _ _ _ _ _ _ _ (write-parts _ _ _ _ _ g) (room (c .before .before .before .before .before .before .before .before .before .before .before .before .before .before .before .before)) _ _ (c .before .before .before .before .before .before .before .before .before .before .before .put .ensures) _ _ (c .before .before .before .before .before .before .before .put2 .ensures) _ _ (c .before .before .before .put3 .ensures))
+
+-- src/lib.rt:17:1
+same-length : tie.Need-same-length
+same-length c = search needs
+
+-- src/lib.rt:17:1
+returns : tie.Need-returns
+returns c = put-whole _ _ _ _ _ (all-put _ _ _ _ _ _ _ _ (write-parts _ _ _ _ _ (c .before .before .before .before .before .before .before .before .before .before .before .before .before .before .before .before .before .before .before .before .before .pre .0)) (room (c .before .before .before .before .before .before .before .before .before .before .before .before .before .before .before .before .before .before .before)) _ _ (c .before .before .before .before .before .before .before .before .before .before .before .before .before .before .put .ensures) _ _ (c .before .before .before .before .before .before .before .before .before .before .put2 .ensures) _ _ (c .before .before .before .before .before .before .put3 .ensures) _ _ (c .before .before .put-jobs .ensures))
+
+pub write-spec : {M : Type 1} → statement M
+write-spec =
+    tie.close
+    (tie.spec
+    cast-put
+    put-requires
+    put-requires-2
+    put-requires-3
+    put-jobs-requires
+    same-length
+    returns)
