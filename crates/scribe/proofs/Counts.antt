@@ -1,11 +1,11 @@
 -- How many bytes a text can have: no count of them overflows. And the whole text, part by part, as the code puts it.
-use Prim.Native.Nat.{ℕ, zero, suc, _+_, _*_, _≤_, _<_}
+use Prim.Native.Nat.{ℕ, suc, _+_, _*_, _≤_, _<_}
 use native.Mathlib.Nat.{mul-le-mul}
 use native.Mathlib.Omega.{arith}
 use mathlib.Core.Path.{_≡_, refl, sym, ap, _∙_}
-use mathlib.Core.Bool.{Bool, true, false, cond}
+use mathlib.Core.Bool.{Bool, false}
 use mathlib.Core.List.{List, [], _∷_, _++_, map, append-assoc}
-use lib.ListN.{length, drop, length-append, length-map}
+use lib.ListN.{length, length-append, length-map}
 use Rattle.lists.specs.Lists.{_!_, Every}
 use Rattle.joblist.specs.Limits.{mostJobs}
 use Rattle.chains.specs.Paths.{Pair}
@@ -16,7 +16,7 @@ use Rattle.scribe.specs.Made.{successorsOf, rowsFrom, made}
 use Rattle.scribe.specs.Says.{mostBytes, Put, Room, Wrote, Given}
 use Rattle.scribe.proofs.Decimals.{decimal-32}
 use Rattle.scribe.proofs.Back.{written-is}
-use Rattle.scribe.proofs.Pairs.{Ups, rising-ups, paired-length, rising-few, every-map}
+use Rattle.scribe.proofs.Pairs.{Ups, rising-ups, paired-length, rising-few}
 use Rattle.scribe.proofs.Rows.{of-below, of-few, rows-length, pairs-back}
 use Rattle.scribe.proofs.Puts.{Parts}
 use Rattle.scribe.proofs.Steps.{line-step}

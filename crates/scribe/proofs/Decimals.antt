@@ -1,14 +1,14 @@
 -- The decimal digits of a number: one by one, how many they are, and that as a token they are the number.
 use Prim.Native.Nat.{ℕ, zero, suc, _+_, _-_, _*_, _/_, _%_, _^_, _≤_, _<_}
 use native.Mathlib.Omega.{arith}
-use mathlib.Core.Path.{_≡_, refl, sym, ap, _∙_}
+use mathlib.Core.Path.{_≡_, refl, ap, _∙_}
 use mathlib.Core.Bool.{Bool, true, false, cond}
 use mathlib.Core.List.{List, [], _∷_, _++_}
-use lib.Dec.{ltb, leb, eqb}
+use lib.Dec.{ltb}
 use lib.ListN.{length, length-append}
 use borrow.Author.Tests.{ltb-true, ltb-false, lt-ltb, le-ltb, le-leb, ne-eqb}
 use Rattle.lists.specs.Lists.{Every}
-use Rattle.texts.specs.Tokens.{blank, digit, Token, number, other, more, tokenFrom, token}
+use Rattle.texts.specs.Tokens.{blank, digit, number, more, tokenFrom, token}
 use Rattle.texts.proofs.Runs.{Solid, token-append}
 use Rattle.scribe.specs.Form.{decimalIn, decimal}
 

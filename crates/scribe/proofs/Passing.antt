@@ -1,16 +1,15 @@
 -- The pairs passed over once, job by job: those before a place are of jobs that are written, those behind it of the jobs to come.
-use Prim.Native.Nat.{ℕ, zero, suc, _+_, _-_, _*_, _≤_, _<_}
+use Prim.Native.Nat.{ℕ, zero, suc, _+_, _-_, _≤_, _<_}
 use native.Mathlib.Nat.{mul-le-mul}
 use native.Mathlib.Numerals.{add-one}
 use native.Mathlib.Omega.{arith}
 use native.Mathlib.Decide.{decLt}
-use mathlib.Core.Path.{_≡_, refl, sym, ap, _∙_}
+use mathlib.Core.Path.{_≡_, refl, sym, _∙_}
 use mathlib.Core.List.{List, [], _∷_, _++_, map}
-use mathlib.Core.Logic.{_⊎_, inl, inr}
+use mathlib.Core.Logic.{inl, inr}
 use lib.ListN.{length, drop, drop-of-length-le}
 use lib.Seq.{slice, length-slice, drop-cons}
 use Rattle.lists.specs.Lists.{_!_}
-use Rattle.joblist.specs.Limits.{mostJobs}
 use Rattle.chains.specs.Paths.{Pair}
 use Rattle.chains.specs.Listed.{InOrder, paired, Rising}
 use Rattle.scribe.specs.Form.{line, jobLines}

@@ -1,13 +1,13 @@
 -- Bytes put one after the other: room for all of them is room for the first and then for the rest, and both put are all put.
-use Prim.Native.Nat.{ℕ, suc, _+_, _≤_, _<_}
+use Prim.Native.Nat.{ℕ, _+_, _≤_, _<_}
 use native.Mathlib.Numerals.{add-one}
 use native.Mathlib.Omega.{arith}
 use mathlib.Core.Path.{_≡_, refl, sym, ap, _∙_}
 use mathlib.Core.Bool.{Bool, true, false, cond}
 use mathlib.Core.List.{List, [], _∷_, _++_, append-assoc, append-nil}
-use lib.ListN.{length, take, drop, set, length-append, length-take, length-drop, take-append-drop}
-use lib.Seq.{set-split, take-at, drop-at, take-append-add, drop-append-add, length-take-le, drop-drop}
-use Rattle.scribe.specs.Says.{mostBytes, pasted, Put, Room}
+use lib.ListN.{length, take, drop, set, length-append, length-drop, take-append-drop}
+use lib.Seq.{set-split, take-at, drop-append-add, length-take-le, drop-drop}
+use Rattle.scribe.specs.Says.{pasted, Put, Room}
 
 -- ---- in a list
 

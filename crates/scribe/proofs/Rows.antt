@@ -1,18 +1,18 @@
 -- The rows that are made of lists give back the durations, the demands and the pairs, and are within the limits of the layout where the lists are.
-use Prim.Native.Nat.{ℕ, zero, suc, _+_, _≤_, _<_}
+use Prim.Native.Nat.{ℕ, suc, _+_, _≤_, _<_}
 use native.Mathlib.Omega.{arith}
 use mathlib.Core.Path.{_≡_, refl, sym, ap, _∙_}
 use mathlib.Core.Bool.{Bool, true, false, cond}
 use mathlib.Core.List.{List, [], _∷_, _++_}
-use mathlib.Core.Logic.{_⊎_, inl, inr}
+use mathlib.Core.Logic.{inl, inr}
 use lib.Dec.{eqb, leb}
 use lib.ListN.{length}
-use borrow.Author.Tests.{eqb-true, eqb-false, leb-true, leb-false, eq-eqb, ne-eqb, le-leb, lt-leb}
-use Rattle.lists.specs.Lists.{_!_, Every}
-use Rattle.joblist.specs.Limits.{mostTime, mostDemand, mostJobs, mostResources}
+use borrow.Author.Tests.{eqb-true, eqb-false, leb-true, leb-false, ne-eqb, le-leb, lt-leb}
+use Rattle.lists.specs.Lists.{Every}
+use Rattle.joblist.specs.Limits.{mostTime, mostDemand, mostJobs}
 use Rattle.chains.specs.Paths.{Pair, pair}
 use Rattle.chains.specs.Listed.{paired, Rising}
-use Rattle.rows.specs.Projects.{Row, tagged, pairsFrom, pairsOf, durations, demandsOn}
+use Rattle.rows.specs.Projects.{tagged, pairsFrom, pairsOf, durations, demandsOn}
 use Rattle.rows.specs.Patterson.{patterson}
 use Rattle.texts.specs.Readings.{good}
 use Rattle.scribe.specs.Form.{written}

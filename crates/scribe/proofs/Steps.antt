@@ -6,14 +6,13 @@ use mathlib.Core.Path.{_≡_, refl, sym, ap, _∙_}
 use mathlib.Core.Bool.{Bool, true, false, cond}
 use mathlib.Core.List.{List, [], _∷_, _++_, append-assoc, append-nil}
 use lib.Dec.{ltb}
-use lib.ListN.{length, take, drop, length-take, drop-of-length-le}
-use lib.Seq.{slice, slice-cons, length-slice, drop-cons, drop-nil, length-take-le}
+use lib.ListN.{length, take, drop-of-length-le}
+use lib.Seq.{slice, slice-cons, drop-nil, length-take-le}
 use borrow.Author.Tests.{ltb-true, ltb-false, eq-eqb, ne-eqb}
 use Rattle.lists.specs.Lists.{_!_}
-use Rattle.chains.specs.Paths.{Pair}
 use Rattle.chains.specs.Listed.{paired}
-use Rattle.scribe.specs.Form.{decimal, line, jobLines}
-use Rattle.scribe.specs.Made.{successorsOf, rowsFrom}
+use Rattle.scribe.specs.Form.{decimal, line}
+use Rattle.scribe.specs.Made.{successorsOf}
 use Rattle.scribe.specs.Says.{mark, behind, numbered}
 use Rattle.scribe.proofs.Puts.{Parts}
 

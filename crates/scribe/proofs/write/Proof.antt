@@ -1,10 +1,11 @@
+-- `scribe::write` puts the whole text in four parts: the two counts, the capacity, and the lines of the jobs.
 use borrow.Author.Needs.{needs}
 use Rattle.chains.specs.Listed.{paired}
 use Rattle.scribe.specs.Form.{written}
 use Rattle.scribe.specs.Made.{made}
 use Rattle.scribe.specs.Says.{Room}
-use Rattle.scribe.proofs.Counts.{write-parts, whole-room, put-whole}
 use Rattle.scribe.proofs.Puts.{first-room, second-room, third-room, fourth-room, all-put}
+use Rattle.scribe.proofs.Counts.{write-parts, whole-room, put-whole}
 use Rattle.scribe.proofs.write.Statement.{statement}
 use Rattle.scribe.proofs.write.Tie as tie
 use Rattle.scribe.proofs.write.Reads as reads
@@ -22,29 +23,23 @@ room k =
 cast-put : tie.Need-cast-put
 cast-put c = search needs
 
--- src/lib.rt:22:9
 put-requires : tie.Need-put-requires
 put-requires c κs = first-room _ _ _ _ _ _ _ _ (write-parts _ _ _ _ _ (c .before .before .before .before .before .before .pre .0)) (room (c .before .before .before .before))
 
--- src/lib.rt:23:9
 put-requires-2 : tie.Need-put-requires-2
 put-requires-2 c κs = second-room _ _ _ _ _ _ _ _ (write-parts _ _ _ _ _ (c .before .before .before .before .before .before .before .before .before .before .pre .0)) (room (c .before .before .before .before .before .before .before .before)) _ _ (c .before .before .before .put .ensures)
 
--- src/lib.rt:24:9
 put-requires-3 : tie.Need-put-requires-3
 put-requires-3 c κs = third-room _ _ _ _ _ _ _ _ (write-parts _ _ _ _ _ (c .before .before .before .before .before .before .before .before .before .before .before .before .before .before .pre .0)) (room (c .before .before .before .before .before .before .before .before .before .before .before .before)) _ _ (c .before .before .before .before .before .before .before .put .ensures) _ _ (c .before .before .before .put2 .ensures)
 
--- src/lib.rt:25:5
 put-jobs-requires : tie.Need-put-jobs-requires
 put-jobs-requires c κs =
     let g = c .before .before .before .before .before .before .before .before .before .before .before .before .before .before .before .before .before .before .pre .0 in
     (g, fourth-room _ _ _ _ _ _ _ _ (write-parts _ _ _ _ _ g) (room (c .before .before .before .before .before .before .before .before .before .before .before .before .before .before .before .before)) _ _ (c .before .before .before .before .before .before .before .before .before .before .before .put .ensures) _ _ (c .before .before .before .before .before .before .before .put2 .ensures) _ _ (c .before .before .before .put3 .ensures))
 
--- src/lib.rt:17:1
 same-length : tie.Need-same-length
 same-length c = search needs
 
--- src/lib.rt:17:1
 returns : tie.Need-returns
 returns c = put-whole _ _ _ _ _ (all-put _ _ _ _ _ _ _ _ (write-parts _ _ _ _ _ (c .before .before .before .before .before .before .before .before .before .before .before .before .before .before .before .before .before .before .before .before .before .pre .0)) (room (c .before .before .before .before .before .before .before .before .before .before .before .before .before .before .before .before .before .before .before)) _ _ (c .before .before .before .before .before .before .before .before .before .before .before .before .before .before .put .ensures) _ _ (c .before .before .before .before .before .before .before .before .before .before .put2 .ensures) _ _ (c .before .before .before .before .before .before .put3 .ensures) _ _ (c .before .before .put-jobs .ensures))
 

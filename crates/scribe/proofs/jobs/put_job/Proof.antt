@@ -1,56 +1,43 @@
+-- `scribe::jobs::put_job` puts a job's line in four parts: duration, demand, how many successors, and these.
+use borrow.Author.Needs.{needs}
 use Rattle.scribe.proofs.Puts.{first-room, second-room, third-room, fourth-room, all-put}
 use Rattle.scribe.proofs.Steps.{job-parts}
-use borrow.Author.Needs.{needs}
 use Rattle.scribe.proofs.jobs.put_job.Statement.{statement}
 use Rattle.scribe.proofs.jobs.put_job.Tie as tie
-use Rattle.scribe.proofs.jobs.put_job.Reads as reads
-use Rattle.scribe.proofs.jobs.put_job.Lts as lts
-use Rattle.scribe.proofs.jobs.mark_of.Reads as mark-of-reads
-use Rattle.scribe.proofs.jobs.put_successors.Reads as put-successors-reads
-use Rattle.scribe.proofs.marks.put.Reads as put-reads
 
--- src/jobs.rt:57:9
 put-requires : tie.Need-put-requires
 put-requires c κs =
     let p = c .before .before .before .pre in
     first-room _ _ _ _ _ _ _ _ (job-parts _ _ _ _ _ (p .0 .within)) (p .1)
 
--- src/jobs.rt:58:9
 put-requires-2 : tie.Need-put-requires-2
 put-requires-2 c κs =
     let p = c .before .before .before .before .before .before .before .pre in
     second-room _ _ _ _ _ _ _ _ (job-parts _ _ _ _ _ (p .0 .within)) (p .1) _ _ (c .before .before .before .put .ensures)
 
--- src/jobs.rt:59:23
 sub-put : tie.Need-sub-put
 sub-put c = search needs
 
--- src/jobs.rt:59:22
 cast-put : tie.Need-cast-put
 cast-put c = search needs
 
--- src/jobs.rt:59:42
 mark-of-requires : tie.Need-mark-of-requires
 mark-of-requires c κs = search needs
 
--- src/jobs.rt:59:9
 put-requires-3 : tie.Need-put-requires-3
 put-requires-3 c κs =
     let p = c .before .before .before .before .before .before .before .before .before .before .before .before .pre in
     rw (c .before .mark-of .ensures)
     (third-room _ _ _ _ _ _ _ _ (job-parts _ _ _ _ _ (p .0 .within)) (p .1) _ _ (c .before .before .before .before .before .before .before .before .put .ensures) _ _ (c .before .before .before .before .put2 .ensures))
 
--- src/jobs.rt:60:5
 put-successors-requires : tie.Need-put-successors-requires
 put-successors-requires c κs =
     let p = c .before .before .before .before .before .before .before .before .before .before .before .before .before .before .before .before .pre in
     (p .0, fourth-room _ _ _ _ _ _ _ _ (job-parts _ _ _ _ _ (p .0 .within)) (p .1) _ _ (c .before .before .before .before .before .before .before .before .before .before .before .before .put .ensures) _ _ (c .before .before .before .before .before .before .before .before .put2 .ensures) _ _ (rw (c .before .before .before .before .before .mark-of .ensures) at (c .before .before .before .put3 .ensures)))
 
--- src/jobs.rt:53:1
 same-length : tie.Need-same-length
 same-length c = search needs
 
--- src/jobs.rt:53:1
 returns : tie.Need-returns
 returns c =
     let p = c .before .before .before .before .before .before .before .before .before .before .before .before .before .before .before .before .before .before .before .pre in

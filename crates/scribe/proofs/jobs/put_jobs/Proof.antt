@@ -1,3 +1,5 @@
+-- `scribe::jobs::put_jobs` puts a line for each job. The invariant: the pairs before place i are of jobs below j, those behind it of the others, and what
+-- is left of the text are the lines from job j on. The measure is how many jobs are left.
 use Prim.Native.Nat.{_-_, _≤_}
 use native.Mathlib.Omega.{arith}
 use mathlib.Core.Path.{_≡_, _∙_}
@@ -10,10 +12,6 @@ use Rattle.scribe.proofs.Puts.{Going, going-start, going-room, going-st
 use Rattle.scribe.proofs.Passing.{Passed, passed-start, passed-step, stretch, lines-step, lines-end}
 use Rattle.scribe.proofs.jobs.put_jobs.Statement.{statement}
 use Rattle.scribe.proofs.jobs.put_jobs.Tie as tie
-use Rattle.scribe.proofs.jobs.put_jobs.Reads as reads
-use Rattle.scribe.proofs.jobs.put_jobs.Lts as lts
-use Rattle.scribe.proofs.jobs.put_job.Reads as put-job-reads
-use Rattle.scribe.proofs.jobs.run_end.Reads as run-end-reads
 
 abbrev Inv-loop : tie.InvT-loop
 Inv-loop dry dur dem jobs successors at buffer₀ j₀ i₀ place₀ buffer j i place = (j ≤ length dur) × (length buffer ≡ length buffer₀) × Passed jobs j i × Going dry at (jobLines (rowsFrom 0 dur dem (paired jobs successors))) buffer₀ buffer place (jobLines (rowsFrom j (drop j dur) (drop j dem) (paired jobs successors)))
@@ -21,50 +19,39 @@ Inv-loop dry dur dem jobs successors at buffer₀ j₀ i₀ place₀ buffer j i 
 abbrev μ-loop : tie.MeasureT-loop
 μ-loop dry dur dem jobs successors at buffer₀ j₀ i₀ place₀ buffer j i place = length dur - j
 
--- src/jobs.rt:71:5
 loop-holds : tie.Need-loop-holds Inv-loop μ-loop
 loop-holds c = (omega arith, search needs, passed-start _, going-start _ _ _ _)
 
--- src/jobs.rt:72:33
 cast-run-end : tie.Need-cast-run-end Inv-loop μ-loop
 cast-run-end c = omega (arith, c .before .before .before .before .before .before .before .pre .0 .few, c .loop-test .taken)
 
--- src/jobs.rt:72:13
 run-end-requires : tie.Need-run-end-requires Inv-loop μ-loop
 run-end-requires c κs = c .before .loop .inv .2 .within
 
--- src/jobs.rt:73:30
 mul-put-job : tie.Need-mul-put-job Inv-loop μ-loop
 mul-put-job c = search needs
 
--- src/jobs.rt:73:30
 shared-slice-read-put-job : tie.Need-shared-slice-read-put-job Inv-loop μ-loop
 shared-slice-read-put-job c = search needs
 
--- src/jobs.rt:73:38
 mul-put-job-2 : tie.Need-mul-put-job-2 Inv-loop μ-loop
 mul-put-job-2 c = search needs
 
--- src/jobs.rt:73:38
 shared-slice-read-put-job-2 : tie.Need-shared-slice-read-put-job-2 Inv-loop μ-loop
 shared-slice-read-put-job-2 c = omega (arith, c .before .before .before .before .before .before .before .before .before .before .pre .0 .demands, c .before .before .before .loop-test .taken)
 
--- src/jobs.rt:73:9
 put-job-requires : tie.Need-put-job-requires Inv-loop μ-loop
 put-job-requires c κs =
     let l = c .before .before .before .before .before .loop .inv in
     let p = c .before .before .before .before .before .before .before .before .before .before .before .pre in
     (stretch _ _ _ _ (p .0) _ _ _ (l .2) (c .before .before .before .run-end .ensures), going-room _ _ _ _ _ _ _ _ _ (lines-step _ _ _ _ (p .0) _ _ _ (l .2) (c .before .before .before .run-end .ensures) (c .before .before .before .before .loop-test .taken)) (p .1) (l .3))
 
--- src/jobs.rt:75:9
 add-j : tie.Need-add-j Inv-loop μ-loop
 add-j c = search needs
 
--- src/jobs.rt:71:5
 loop-less : tie.Need-loop-less Inv-loop μ-loop
 loop-less c = search needs
 
--- src/jobs.rt:71:5
 loop-again : tie.Need-loop-again Inv-loop μ-loop
 loop-again c =
     let l = c .before .before .before .before .before .before .before .before .loop .inv in
@@ -72,11 +59,9 @@ loop-again c =
     let e = c .before .before .before .before .before .before .run-end .ensures in
     (omega (arith, c .before .before .before .before .before .before .before .loop-test .taken), c .before .before .put-job .kept .1 .1 .1 .1 .1 .1 .1 .0 ∙ l .1, passed-step _ _ _ _ (p .0) _ _ _ (l .2) e, going-step _ _ _ _ _ _ _ _ _ (lines-step _ _ _ _ (p .0) _ _ _ (l .2) e (c .before .before .before .before .before .before .before .loop-test .taken)) (p .1) (l .3) _ _ (c .before .before .put-job .ensures))
 
--- src/jobs.rt:64:1
 same-length : tie.Need-same-length Inv-loop μ-loop
 same-length c = c .before .loop .inv .1
 
--- src/jobs.rt:64:1
 returns : tie.Need-returns Inv-loop μ-loop
 returns c = going-end _ _ _ _ _ _ _ (lines-end _ _ _ _ (c .loop-test .left)) (c .before .loop .inv .3)
 

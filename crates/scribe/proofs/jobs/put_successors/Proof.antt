@@ -1,4 +1,6 @@
-use Prim.Native.Nat.{ℕ, _+_, _-_, _≤_, _<_}
+-- `scribe::jobs::put_successors` puts the successors up to the end of the line. The invariant: what is left of the text is that of the successors from
+-- place i on. The measure is how many of them are left.
+use Prim.Native.Nat.{_-_, _≤_}
 use native.Mathlib.Omega.{arith}
 use mathlib.Core.Path.{_≡_, ap, _∙_}
 use lib.ListN.{length}
@@ -8,10 +10,6 @@ use Rattle.scribe.proofs.Puts.{Going, going-start, going-room, going-st
 use Rattle.scribe.proofs.Steps.{numbered-none, successors-step}
 use Rattle.scribe.proofs.jobs.put_successors.Statement.{statement}
 use Rattle.scribe.proofs.jobs.put_successors.Tie as tie
-use Rattle.scribe.proofs.jobs.put_successors.Reads as reads
-use Rattle.scribe.proofs.jobs.put_successors.Lts as lts
-use Rattle.scribe.proofs.jobs.mark_of.Reads as mark-of-reads
-use Rattle.scribe.proofs.marks.put.Reads as put-reads
 
 abbrev Inv-loop : tie.InvT-loop
 Inv-loop dry successors from to at buffer₀ i₀ place₀ buffer i place = (i ≤ to) × (length buffer ≡ length buffer₀) × Going dry at (behind (numbered successors from to)) buffer₀ buffer place (behind (numbered successors i to))
@@ -19,57 +17,45 @@ Inv-loop dry successors from to at buffer₀ i₀ place₀ buffer i place = (i �
 abbrev μ-loop : tie.MeasureT-loop
 μ-loop dry successors from to at buffer₀ i₀ place₀ buffer i place = to - i
 
--- src/jobs.rt:45:5
 loop-holds : tie.Need-loop-holds Inv-loop μ-loop
 loop-holds c = (c .before .before .pre .0 .order, search needs, going-start _ _ _ _)
 
--- src/jobs.rt:46:26
 mul-put : tie.Need-mul-put Inv-loop μ-loop
 mul-put c = search needs
 
--- src/jobs.rt:46:26
 shared-slice-read-put : tie.Need-shared-slice-read-put Inv-loop μ-loop
 shared-slice-read-put c = omega (arith, c .before .before .before .before .before .pre .0 .within)
 
--- src/jobs.rt:46:26
 add-put : tie.Need-add-put Inv-loop μ-loop
 add-put c = omega (arith, c .before .before .before .before .before .pre .0 .below (c .before .before .loop .i) (c .before .loop-test .taken))
 
--- src/jobs.rt:46:53
 add-mark-of : tie.Need-add-mark-of Inv-loop μ-loop
 add-mark-of c = search needs
 
--- src/jobs.rt:46:45
 mark-of-requires : tie.Need-mark-of-requires Inv-loop μ-loop
 mark-of-requires c κs = search needs
 
--- src/jobs.rt:46:9
 put-requires : tie.Need-put-requires Inv-loop μ-loop
 put-requires c κs =
     let l = c .before .before .before .before .loop in
     let p = c .before .before .before .before .before .before .before .pre in
     rw (c .before .mark-of .ensures) (going-room _ _ _ _ _ _ _ _ _ (successors-step _ _ _ (c .before .before .before .loop-test .taken) (p .0 .within)) (p .1) (l .inv .2))
 
--- src/jobs.rt:47:9
 add-i : tie.Need-add-i Inv-loop μ-loop
 add-i c = search needs
 
--- src/jobs.rt:45:5
 loop-less : tie.Need-loop-less Inv-loop μ-loop
 loop-less c = search needs
 
--- src/jobs.rt:45:5
 loop-again : tie.Need-loop-again Inv-loop μ-loop
 loop-again c =
     let l = c .before .before .before .before .before .before .before .loop in
     let p = c .before .before .before .before .before .before .before .before .before .before .pre in
     (omega arith, c .before .before .put .kept .1 .1 .1 .1 .0 ∙ l .inv .1, going-step _ _ _ _ _ _ _ _ _ (successors-step _ _ _ (c .before .before .before .before .before .before .loop-test .taken) (p .0 .within)) (p .1) (l .inv .2) _ _ (rw (c .before .before .before .before .mark-of .ensures) at (c .before .before .put .ensures)))
 
--- src/jobs.rt:39:1
 same-length : tie.Need-same-length Inv-loop μ-loop
 same-length c = c .before .loop .inv .1
 
--- src/jobs.rt:39:1
 returns : tie.Need-returns Inv-loop μ-loop
 returns c = going-end _ _ _ _ _ _ _ (ap behind (numbered-none _ _ _ (c .loop-test .left) (c .before .before .before .before .pre .0 .within))) (c .before .loop .inv .2)
 

@@ -1,14 +1,13 @@
-use borrow.Author.Needs.{needs}
+-- `scribe::jobs::run_end` finds the end of a job's run. The invariant: from i up to k there is job j alone. The measure is what is left of the list.
 use Prim.Native.Nat.{ℕ, _-_, _≤_, _<_}
 use native.Mathlib.Omega.{arith}
 use mathlib.Core.Path.{_≡_}
 use lib.ListN.{length}
+use borrow.Author.Needs.{needs}
 use borrow.Author.Count.{below-more}
 use Rattle.lists.specs.Lists.{_!_}
 use Rattle.scribe.proofs.jobs.run_end.Statement.{statement}
 use Rattle.scribe.proofs.jobs.run_end.Tie as tie
-use Rattle.scribe.proofs.jobs.run_end.Reads as reads
-use Rattle.scribe.proofs.jobs.run_end.Lts as lts
 
 abbrev Inv-loop : tie.InvT-loop
 Inv-loop jobs j i k₀ k = (i ≤ k) × (k ≤ length jobs) × ((m : ℕ) → m < k → i ≤ m → jobs ! m ≡ j)
@@ -16,39 +15,31 @@ Inv-loop jobs j i k₀ k = (i ≤ k) × (k ≤ length jobs) × ((m : ℕ) → m 
 abbrev μ-loop : tie.MeasureT-loop
 μ-loop jobs j i k₀ k = length jobs - k
 
--- src/jobs.rt:19:5
 loop-holds : tie.Need-loop-holds Inv-loop μ-loop
 loop-holds c = (omega arith, c .pre, λ m l h. absurd (omega arith))
 
--- src/jobs.rt:20:12
 mul-if1 : tie.Need-mul-if1 Inv-loop μ-loop
 mul-if1 c = search needs
 
--- src/jobs.rt:20:12
 shared-slice-read-if1 : tie.Need-shared-slice-read-if1 Inv-loop μ-loop
 shared-slice-read-if1 c = search needs
 
--- src/jobs.rt:21:13
 returns : tie.Need-returns Inv-loop μ-loop
 returns c =
     let v = c .before .before .before .loop .inv in
     record { from = v .0; within = v .1; same = λ m h l. v .2 m l h; stops = λ l. c .if1 .taken }
 
--- src/jobs.rt:23:9
 add-k : tie.Need-add-k Inv-loop μ-loop
 add-k c = search needs
 
--- src/jobs.rt:19:5
 loop-less : tie.Need-loop-less Inv-loop μ-loop
 loop-less c = search needs
 
--- src/jobs.rt:19:5
 loop-again : tie.Need-loop-again Inv-loop μ-loop
 loop-again c =
     let v = c .before .before .before .loop .inv in
     (omega arith, omega arith, below-more _ _ (v .2) (λ h. c .if1 .left))
 
--- src/jobs.rt:14:1
 returns-2 : tie.Need-returns-2 Inv-loop μ-loop
 returns-2 c =
     let v = c .before .loop .inv in

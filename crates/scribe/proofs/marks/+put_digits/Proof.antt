@@ -74,7 +74,7 @@ put-digits-put-digits-requires : (t : ℕ) → put-digits-lts.Need-put-digits-re
 ) (put-digits-at t) put-digits.Post
 put-digits-put-digits-requires t c κs =
     let s = c .before .before .before in
-    (omega (arith, s .pre .0, c .before .if1 .left), room-front _ _ (decimal (s .args .v / 10)) ((48 + s .args .v % 10) ∷ []) _ (rw (decimal-more (s .args .v) (c .before .if1 .left)) at (s .pre .1)))
+    (omega (arith, s .pre .0, c .before .if1 .left), room-front _ _ _ _ _ (rw (decimal-more (s .args .v) (c .before .if1 .left)) at (s .pre .1)))
 
 put-digits-cast-store-2 : (t : ℕ) → put-digits-lts.Need-cast-store-2 (
   store-reads.Asked,
@@ -100,7 +100,7 @@ put-digits-store-requires-2 : (t : ℕ) → put-digits-lts.Need-store-requires-2
 ) (put-digits-at t) put-digits.Post
 put-digits-store-requires-2 t c κs =
     let s = c .before .before .before .before .before .before .before in
-    room-back _ _ (decimal (s .args .v / 10)) ((48 + s .args .v % 10) ∷ []) _ _ _ (rw (decimal-more (s .args .v) (c .before .before .before .before .before .if1 .left)) at (s .pre .1)) (c .before .before .before .put-digits .ensures)
+    room-back _ _ _ _ _ _ _ (rw (decimal-more (s .args .v) (c .before .before .before .before .before .if1 .left)) at (s .pre .1)) (c .before .before .before .put-digits .ensures)
 
 put-digits-same-length-2 : (t : ℕ) → put-digits-lts.Need-same-length-2 (
   store-reads.Asked,
@@ -120,7 +120,7 @@ put-digits-returns-2 t c =
     let s = c .before .before .before .before .before .before .before .before .before .before in
     let h = rw (decimal-more (s .args .v) (c .before .before .before .before .before .before .before .before .if1 .left)) at (s .pre .1) in
     rw (decimal-more (s .args .v) (c .before .before .before .before .before .before .before .before .if1 .left))
-    (put-then _ _ (decimal (s .args .v / 10)) ((48 + s .args .v % 10) ∷ []) _ _ _ _ _ (room-front _ _ (decimal (s .args .v / 10)) ((48 + s .args .v % 10) ∷ []) _ h) (c .before .before .before .before .before .before .put-digits .ensures) (c .before .before .store2 .ensures))
+    (put-then _ _ _ _ _ _ _ _ _ (room-front _ _ _ _ _ h) (c .before .before .before .before .before .before .put-digits .ensures) (c .before .before .store2 .ensures))
 
 pub +put-digits-spec : {M : Type 1} → statement M
 +put-digits-spec = close μ-put-digits λ t. put-digits-lts.spec (
