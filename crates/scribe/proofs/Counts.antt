@@ -74,7 +74,7 @@ one-line v = refl
 two-line : (v w : ℕ) (t : List ℕ) → line (v ∷ w ∷ []) ++ t ≡ (decimal v ++ 32 ∷ []) ++ ((decimal w ++ 10 ∷ []) ++ t)
 two-line v w t = rw (line-step v (w ∷ []), one-line w) (append-assoc (decimal v ++ 32 ∷ []) (decimal w ++ 10 ∷ []) t)
 
-module _ (cap : ℕ) (durs dems js ss : List ℕ) (g : Given durs dems js ss) where
+module _ (cap : ℕ) {durs dems js ss : List ℕ} (g : Given durs dems js ss) where
   same-lists : length durs ≡ length dems
   same-lists = sym (g .demands)
 
@@ -103,10 +103,10 @@ module _ (cap : ℕ) (durs dems js ss : List ℕ) (g : Given durs dems js ss) wh
       rw (written-is (made cap durs dems ps), length-append (line (length rs ∷ 1 ∷ [])) (line (cap ∷ []) ++ jobLines rs), length-append (line (cap ∷ [])) (jobLines rs))
       (omega (arith, heads, caps, lines, count, few, m, g .few))
 
-  pub whole-room : (dry : Bool) (b : List ℕ) → cap < 4294967296 → ((k : ℕ) → durs ! k < 4294967296) → ((k : ℕ) → dems ! k < 4294967296)
+  pub whole-room : {dry : Bool} {b : List ℕ} → cap < 4294967296 → ((k : ℕ) → durs ! k < 4294967296) → ((k : ℕ) → dems ! k < 4294967296)
       → (dry ≡ false → length (written (made cap durs dems (paired js ss))) ≤ length b) → Room dry 0 (written (made cap durs dems (paired js ss))) b
-  whole-room dry b c x y h = record { few = omega (arith, written-short c x y); room = λ e. omega (arith, h e) }
+  whole-room c x y h = record { few = omega (arith, written-short c x y); room = λ e. omega (arith, h e) }
 
 -- the whole text put from the start on
-pub put-whole : (dry : Bool) (x : Project) (b b' : List ℕ) (r : ℕ) → Put dry 0 (written x) b b' r → Wrote dry x b b' r
-put-whole dry x b b' r p = let z : 0 + length (written x) ≡ length (written x) = omega arith in record { count = p .place ∙ z; bytes = p .bytes ∙ rw z }
+pub put-whole : {dry : Bool} {x : Project} {b b' : List ℕ} {r : ℕ} → Put dry 0 (written x) b b' r → Wrote dry x b b' r
+put-whole {x = x} p = let z : 0 + length (written x) ≡ length (written x) = omega arith in record { count = p .place ∙ z; bytes = p .bytes ∙ rw z }

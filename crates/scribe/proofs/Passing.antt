@@ -36,7 +36,7 @@ no-fall n js ss h a (suc m) l = let z : a + suc m ≡ suc (a + m) = omega arith 
     go (inl b) q = omega arith
     go (inr b) q = omega (arith, b .0)
 
-module _ (durs dems js ss : List ℕ) (g : Given durs dems js ss) (j i r : ℕ) (p : Passed js j i) (e : RunEnds js j i r) where
+module _ {durs dems js ss : List ℕ} (g : Given durs dems js ss) {j i r : ℕ} (p : Passed js j i) (e : RunEnds js j i r) where
   -- behind the run there are higher jobs alone
   above : (k : ℕ) → r ≤ k → k < length js → j < js ! k
   above k h l =
@@ -75,13 +75,13 @@ unfolding jobLines rowsFrom
 jobs-none j qs ps = refl
 
 -- the lines from job j on: its own, then those from the next one on
-pub lines-step : (durs dems js ss : List ℕ) → Given durs dems js ss → (j i r : ℕ) → Passed js j i → RunEnds js j i r → j < length durs
+pub lines-step : {durs dems js ss : List ℕ} → Given durs dems js ss → {j i r : ℕ} → Passed js j i → RunEnds js j i r → j < length durs
     → jobLines (rowsFrom j (drop j durs) (drop j dems) (paired js ss))
     ≡ line (durs ! j ∷ dems ! j ∷ (r - i) ∷ numbered ss i r) ++ jobLines (rowsFrom (j + 1) (drop (j + 1) durs) (drop (j + 1) dems) (paired js ss))
-lines-step durs dems js ss g j i r p e h =
+lines-step {durs} {dems} {js} {ss} g {j} {i} {r} p e h =
     rw (add-one j, drop-cons durs j 0 h, drop-cons dems j 0 (omega (arith, g .demands)))
     (jobs-cons j (durs ! j) (dems ! j) (drop (suc j) durs) (drop (suc j) dems) (paired js ss)
-    ∙ rw (run-is durs dems js ss g j i r p e, length-slice i r ss (stretch durs dems js ss g j i r p e .within)))
+    ∙ rw (run-is g p e, length-slice i r ss (stretch g p e .within)))
 
 -- none are left
 pub lines-end : (durs dems : List ℕ) (ps : List Pair) (j : ℕ) → length durs ≤ j → jobLines (rowsFrom j (drop j durs) (drop j dems) ps) ≡ []

@@ -39,11 +39,11 @@ put-byte dry at a b e h = record { place = omega arith; bytes = rw e (stored at 
 
 -- ---- put one after the other
 
-module _ (dry : Bool) (at : ℕ) (t u b : List ℕ) where
+module _ {dry : Bool} {at : ℕ} (t u : List ℕ) {b : List ℕ} where
   pub room-front : Room dry at (t ++ u) b → Room dry at t b
   room-front h = let l = length-append t u in record { few = omega (arith, h .few); room = λ e. omega (arith, h .room e) }
 
-  module _ (b' : List ℕ) (r : ℕ) where
+  module _ {b' : List ℕ} {r : ℕ} where
     pub room-back : Room dry at (t ++ u) b → Put dry at t b b' r → Room dry r u b'
     room-back h p =
         let l = length-append t u in
@@ -52,15 +52,15 @@ module _ (dry : Bool) (at : ℕ) (t u b : List ℕ) where
         same : dry ≡ false → length b' ≡ length b
         same e = let q : b' ≡ pasted at t b = p .bytes ∙ rw e in ap length q ∙ pasted-length at t b (omega (arith, h .room e, length-append t u))
 
-    pub put-then : (b'' : List ℕ) (r' : ℕ) → Room dry at t b → Put dry at t b b' r → Put dry r u b' b'' r' → Put dry at (t ++ u) b b'' r'
-    put-then b'' r' h p q = record { place = rw (length-append t u) (omega (arith, p .place, q .place)); bytes = go dry refl }
+    pub put-then : {b'' : List ℕ} {r' : ℕ} → Room dry at t b → Put dry at t b b' r → Put dry r u b' b'' r' → Put dry at (t ++ u) b b'' r'
+    put-then {b''} {r'} h p q = record { place = rw (length-append t u) (omega (arith, p .place, q .place)); bytes = go dry refl }
       where
         go : (d : Bool) → dry ≡ d → b'' ≡ cond d b (pasted at (t ++ u) b)
         go true e = (q .bytes ∙ rw e) ∙ (p .bytes ∙ rw e)
         go false e = (q .bytes ∙ rw (e, p .bytes, e, p .place)) ∙ pasted-twice at t u b (h .room e)
 
 -- nothing
-pub put-none : (dry : Bool) (at : ℕ) (b : List ℕ) → Put dry at [] b b at
+put-none : (dry : Bool) (at : ℕ) (b : List ℕ) → Put dry at [] b b at
 put-none dry at b = record { place = omega arith; bytes = go dry }
   where
     go : (d : Bool) → b ≡ cond d b (pasted at [] b)
@@ -77,56 +77,56 @@ pub record Going (dry : Bool) (start : ℕ) (whole b b' : List ℕ) (at : ℕ) (
 pub going-start : (dry : Bool) (at : ℕ) (t b : List ℕ) → Going dry at t b b at t
 going-start dry at t b = record { front = []; split = refl; put = put-none dry at b }
 
-module _ (dry : Bool) (start : ℕ) (whole b b' : List ℕ) (at : ℕ) where
-  module _ (left t rest : List ℕ) (e : left ≡ t ++ rest) (h : Room dry start whole b) (g : Going dry start whole b b' at left) where
-    whole-room : Room dry start (g .front ++ (t ++ rest)) b
-    whole-room = rw (← e, ← g .split) h
+module _ {dry : Bool} {start : ℕ} {whole b b' : List ℕ} {at : ℕ} {left : List ℕ} where
+  module _ (t rest : List ℕ) (e : left ≡ t ++ rest) (h : Room dry start whole b) (g : Going dry start whole b b' at left) where
+    all-room : Room dry start (g .front ++ (t ++ rest)) b
+    all-room = rw (← e, ← g .split) h
 
     -- room for what comes next
     pub going-room : Room dry at t b'
-    going-room = room-front dry at t rest b' (room-back dry start (g .front) (t ++ rest) b b' at whole-room (g .put))
+    going-room = room-front t rest (room-back (g .front) (t ++ rest) all-room (g .put))
 
     -- and then that put
-    pub going-step : (b'' : List ℕ) (r : ℕ) → Put dry at t b' b'' r → Going dry start whole b b'' r rest
-    going-step b'' r p =
+    pub going-step : {b'' : List ℕ} {r : ℕ} → Put dry at t b' b'' r → Going dry start whole b b'' r rest
+    going-step p =
         record {
           front = g .front ++ t;
           split = g .split ∙ rw e (sym (append-assoc (g .front) t rest));
-          put = put-then dry start (g .front) t b b' at b'' r (room-front dry start (g .front) (t ++ rest) b whole-room) (g .put) p;
+          put = put-then (g .front) t (room-front (g .front) (t ++ rest) all-room) (g .put) p;
         }
 
-  pub going-end : (left : List ℕ) → left ≡ [] → Going dry start whole b b' at left → Put dry start whole b b' at
-  going-end left e g = let q : g .front ≡ whole = sym (g .split ∙ rw e (append-nil (g .front))) in rw (← q) (g .put)
+  pub going-end : left ≡ [] → Going dry start whole b b' at left → Put dry start whole b b' at
+  going-end e g = let q : g .front ≡ whole = sym (g .split ∙ rw e (append-nil (g .front))) in rw (← q) (g .put)
 
 -- ---- a text of four parts
 
 pub record Parts (t u v w whole : List ℕ) : Type 0 where
   pub joined : whole ≡ t ++ (u ++ (v ++ w))
 
-module _ (dry : Bool) (at : ℕ) (t u v w whole b : List ℕ) (e : Parts t u v w whole) (h : Room dry at whole b) where
+module _ {dry : Bool} {at : ℕ} {t u v w whole b : List ℕ} (e : Parts t u v w whole) (h : Room dry at whole b) where
   pub first-room : Room dry at t b
-  first-room = going-room dry at whole b b at whole t (u ++ (v ++ w)) (e .joined) h (going-start dry at whole b)
+  first-room = going-room t (u ++ (v ++ w)) (e .joined) h (going-start dry at whole b)
 
-  module _ (b₁ : List ℕ) (r₁ : ℕ) (p₁ : Put dry at t b b₁ r₁) where
+  module _ {b₁ : List ℕ} {r₁ : ℕ} (p₁ : Put dry at t b b₁ r₁) where
     first-going : Going dry at whole b b₁ r₁ (u ++ (v ++ w))
-    first-going = going-step dry at whole b b at whole t (u ++ (v ++ w)) (e .joined) h (going-start dry at whole b) b₁ r₁ p₁
+    first-going = going-step t (u ++ (v ++ w)) (e .joined) h (going-start dry at whole b) p₁
 
     pub second-room : Room dry r₁ u b₁
-    second-room = going-room dry at whole b b₁ r₁ (u ++ (v ++ w)) u (v ++ w) refl h first-going
+    second-room = going-room u (v ++ w) refl h first-going
 
-    module _ (b₂ : List ℕ) (r₂ : ℕ) (p₂ : Put dry r₁ u b₁ b₂ r₂) where
+    module _ {b₂ : List ℕ} {r₂ : ℕ} (p₂ : Put dry r₁ u b₁ b₂ r₂) where
       second-going : Going dry at whole b b₂ r₂ (v ++ w)
-      second-going = going-step dry at whole b b₁ r₁ (u ++ (v ++ w)) u (v ++ w) refl h first-going b₂ r₂ p₂
+      second-going = going-step u (v ++ w) refl h first-going p₂
 
       pub third-room : Room dry r₂ v b₂
-      third-room = going-room dry at whole b b₂ r₂ (v ++ w) v w refl h second-going
+      third-room = going-room v w refl h second-going
 
-      module _ (b₃ : List ℕ) (r₃ : ℕ) (p₃ : Put dry r₂ v b₂ b₃ r₃) where
+      module _ {b₃ : List ℕ} {r₃ : ℕ} (p₃ : Put dry r₂ v b₂ b₃ r₃) where
         third-going : Going dry at whole b b₃ r₃ w
-        third-going = going-step dry at whole b b₂ r₂ (v ++ w) v w refl h second-going b₃ r₃ p₃
+        third-going = going-step v w refl h second-going p₃
 
         pub fourth-room : Room dry r₃ w b₃
-        fourth-room = going-room dry at whole b b₃ r₃ w w [] (sym (append-nil w)) h third-going
+        fourth-room = going-room w [] (sym (append-nil w)) h third-going
 
-        pub all-put : (b₄ : List ℕ) (r₄ : ℕ) → Put dry r₃ w b₃ b₄ r₄ → Put dry at whole b b₄ r₄
-        all-put b₄ r₄ p₄ = going-end dry at whole b b₄ r₄ [] refl (going-step dry at whole b b₃ r₃ w w [] (sym (append-nil w)) h third-going b₄ r₄ p₄)
+        pub all-put : {b₄ : List ℕ} {r₄ : ℕ} → Put dry r₃ w b₃ b₄ r₄ → Put dry at whole b b₄ r₄
+        all-put p₄ = going-end refl (going-step w [] (sym (append-nil w)) h third-going p₄)

@@ -18,30 +18,30 @@ room : (k : lts.After-shared-slice-known2 (put-reads.Asked, put-reads.Learnt, pu
     → let a = k .before .before .args in Room (a .dry) 0 (written (made (a .cap) (a .dur .now) (a .dem .now) (paired (a .jobs .now) (a .successors .now)))) (a .buffer .now)
 room k =
     let s = k .before .before in
-    whole-room _ _ _ _ _ (s .pre .0) _ _ (s .fits .cap .fits) (λ i. k .before .shared-slice-known .given i .fits) (λ i. k .shared-slice-known2 .given i .fits) (s .pre .1)
+    whole-room _ (s .pre .0) (s .fits .cap .fits) (λ i. k .before .shared-slice-known .given i .fits) (λ i. k .shared-slice-known2 .given i .fits) (s .pre .1)
 
 cast-put : tie.Need-cast-put
 cast-put c = search needs
 
 put-requires : tie.Need-put-requires
-put-requires c κs = first-room _ _ _ _ _ _ _ _ (write-parts _ _ _ _ _ (c .before .before .before .before .before .before .pre .0)) (room (c .before .before .before .before))
+put-requires c κs = first-room (write-parts _ (c .before .before .before .before .before .before .pre .0)) (room (c .before .before .before .before))
 
 put-requires-2 : tie.Need-put-requires-2
-put-requires-2 c κs = second-room _ _ _ _ _ _ _ _ (write-parts _ _ _ _ _ (c .before .before .before .before .before .before .before .before .before .before .pre .0)) (room (c .before .before .before .before .before .before .before .before)) _ _ (c .before .before .before .put .ensures)
+put-requires-2 c κs = second-room (write-parts _ (c .before .before .before .before .before .before .before .before .before .before .pre .0)) (room (c .before .before .before .before .before .before .before .before)) (c .before .before .before .put .ensures)
 
 put-requires-3 : tie.Need-put-requires-3
-put-requires-3 c κs = third-room _ _ _ _ _ _ _ _ (write-parts _ _ _ _ _ (c .before .before .before .before .before .before .before .before .before .before .before .before .before .before .pre .0)) (room (c .before .before .before .before .before .before .before .before .before .before .before .before)) _ _ (c .before .before .before .before .before .before .before .put .ensures) _ _ (c .before .before .before .put2 .ensures)
+put-requires-3 c κs = third-room (write-parts _ (c .before .before .before .before .before .before .before .before .before .before .before .before .before .before .pre .0)) (room (c .before .before .before .before .before .before .before .before .before .before .before .before)) (c .before .before .before .before .before .before .before .put .ensures) (c .before .before .before .put2 .ensures)
 
 put-jobs-requires : tie.Need-put-jobs-requires
 put-jobs-requires c κs =
     let g = c .before .before .before .before .before .before .before .before .before .before .before .before .before .before .before .before .before .before .pre .0 in
-    (g, fourth-room _ _ _ _ _ _ _ _ (write-parts _ _ _ _ _ g) (room (c .before .before .before .before .before .before .before .before .before .before .before .before .before .before .before .before)) _ _ (c .before .before .before .before .before .before .before .before .before .before .before .put .ensures) _ _ (c .before .before .before .before .before .before .before .put2 .ensures) _ _ (c .before .before .before .put3 .ensures))
+    (g, fourth-room (write-parts _ g) (room (c .before .before .before .before .before .before .before .before .before .before .before .before .before .before .before .before)) (c .before .before .before .before .before .before .before .before .before .before .before .put .ensures) (c .before .before .before .before .before .before .before .put2 .ensures) (c .before .before .before .put3 .ensures))
 
 same-length : tie.Need-same-length
 same-length c = search needs
 
 returns : tie.Need-returns
-returns c = put-whole _ _ _ _ _ (all-put _ _ _ _ _ _ _ _ (write-parts _ _ _ _ _ (c .before .before .before .before .before .before .before .before .before .before .before .before .before .before .before .before .before .before .before .before .before .pre .0)) (room (c .before .before .before .before .before .before .before .before .before .before .before .before .before .before .before .before .before .before .before)) _ _ (c .before .before .before .before .before .before .before .before .before .before .before .before .before .before .put .ensures) _ _ (c .before .before .before .before .before .before .before .before .before .before .put2 .ensures) _ _ (c .before .before .before .before .before .before .put3 .ensures) _ _ (c .before .before .put-jobs .ensures))
+returns c = put-whole (all-put (write-parts _ (c .before .before .before .before .before .before .before .before .before .before .before .before .before .before .before .before .before .before .before .before .before .pre .0)) (room (c .before .before .before .before .before .before .before .before .before .before .before .before .before .before .before .before .before .before .before)) (c .before .before .before .before .before .before .before .before .before .before .before .before .before .before .put .ensures) (c .before .before .before .before .before .before .before .before .before .before .put2 .ensures) (c .before .before .before .before .before .before .put3 .ensures) (c .before .before .put-jobs .ensures))
 
 pub write-spec : {M : Type 1} → statement M
 write-spec =

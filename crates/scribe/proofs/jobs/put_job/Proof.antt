@@ -8,12 +8,12 @@ use Rattle.scribe.proofs.jobs.put_job.Tie as tie
 put-requires : tie.Need-put-requires
 put-requires c κs =
     let p = c .before .before .before .pre in
-    first-room _ _ _ _ _ _ _ _ (job-parts _ _ _ _ _ (p .0 .within)) (p .1)
+    first-room (job-parts _ _ _ _ _ (p .0 .within)) (p .1)
 
 put-requires-2 : tie.Need-put-requires-2
 put-requires-2 c κs =
     let p = c .before .before .before .before .before .before .before .pre in
-    second-room _ _ _ _ _ _ _ _ (job-parts _ _ _ _ _ (p .0 .within)) (p .1) _ _ (c .before .before .before .put .ensures)
+    second-room (job-parts _ _ _ _ _ (p .0 .within)) (p .1) (c .before .before .before .put .ensures)
 
 sub-put : tie.Need-sub-put
 sub-put c = search needs
@@ -28,12 +28,12 @@ put-requires-3 : tie.Need-put-requires-3
 put-requires-3 c κs =
     let p = c .before .before .before .before .before .before .before .before .before .before .before .before .pre in
     rw (c .before .mark-of .ensures)
-    (third-room _ _ _ _ _ _ _ _ (job-parts _ _ _ _ _ (p .0 .within)) (p .1) _ _ (c .before .before .before .before .before .before .before .before .put .ensures) _ _ (c .before .before .before .before .put2 .ensures))
+    (third-room (job-parts _ _ _ _ _ (p .0 .within)) (p .1) (c .before .before .before .before .before .before .before .before .put .ensures) (c .before .before .before .before .put2 .ensures))
 
 put-successors-requires : tie.Need-put-successors-requires
 put-successors-requires c κs =
     let p = c .before .before .before .before .before .before .before .before .before .before .before .before .before .before .before .before .pre in
-    (p .0, fourth-room _ _ _ _ _ _ _ _ (job-parts _ _ _ _ _ (p .0 .within)) (p .1) _ _ (c .before .before .before .before .before .before .before .before .before .before .before .before .put .ensures) _ _ (c .before .before .before .before .before .before .before .before .put2 .ensures) _ _ (rw (c .before .before .before .before .before .mark-of .ensures) at (c .before .before .before .put3 .ensures)))
+    (p .0, fourth-room (job-parts _ _ _ _ _ (p .0 .within)) (p .1) (c .before .before .before .before .before .before .before .before .before .before .before .before .put .ensures) (c .before .before .before .before .before .before .before .before .put2 .ensures) (rw (c .before .before .before .before .before .mark-of .ensures) at (c .before .before .before .put3 .ensures)))
 
 same-length : tie.Need-same-length
 same-length c = search needs
@@ -41,7 +41,7 @@ same-length c = search needs
 returns : tie.Need-returns
 returns c =
     let p = c .before .before .before .before .before .before .before .before .before .before .before .before .before .before .before .before .before .before .before .pre in
-    all-put _ _ _ _ _ _ _ _ (job-parts _ _ _ _ _ (p .0 .within)) (p .1) _ _ (c .before .before .before .before .before .before .before .before .before .before .before .before .before .before .before .put .ensures) _ _ (c .before .before .before .before .before .before .before .before .before .before .before .put2 .ensures) _ _ (rw (c .before .before .before .before .before .before .before .before .mark-of .ensures) at (c .before .before .before .before .before .before .put3 .ensures)) _ _ (c .before .before .put-successors .ensures)
+    all-put (job-parts _ _ _ _ _ (p .0 .within)) (p .1) (c .before .before .before .before .before .before .before .before .before .before .before .before .before .before .before .put .ensures) (c .before .before .before .before .before .before .before .before .before .before .before .put2 .ensures) (rw (c .before .before .before .before .before .before .before .before .mark-of .ensures) at (c .before .before .before .before .before .before .put3 .ensures)) (c .before .before .put-successors .ensures)
 
 pub put-job-spec : {M : Type 1} → statement M
 put-job-spec =

@@ -44,7 +44,7 @@ put-job-requires : tie.Need-put-job-requires Inv-loop μ-loop
 put-job-requires c κs =
     let l = c .before .before .before .before .before .loop .inv in
     let p = c .before .before .before .before .before .before .before .before .before .before .before .pre in
-    (stretch _ _ _ _ (p .0) _ _ _ (l .2) (c .before .before .before .run-end .ensures), going-room _ _ _ _ _ _ _ _ _ (lines-step _ _ _ _ (p .0) _ _ _ (l .2) (c .before .before .before .run-end .ensures) (c .before .before .before .before .loop-test .taken)) (p .1) (l .3))
+    (stretch (p .0) (l .2) (c .before .before .before .run-end .ensures), going-room _ _ (lines-step (p .0) (l .2) (c .before .before .before .run-end .ensures) (c .before .before .before .before .loop-test .taken)) (p .1) (l .3))
 
 add-j : tie.Need-add-j Inv-loop μ-loop
 add-j c = search needs
@@ -57,13 +57,13 @@ loop-again c =
     let l = c .before .before .before .before .before .before .before .before .loop .inv in
     let p = c .before .before .before .before .before .before .before .before .before .before .before .before .before .before .pre in
     let e = c .before .before .before .before .before .before .run-end .ensures in
-    (omega (arith, c .before .before .before .before .before .before .before .loop-test .taken), c .before .before .put-job .kept .1 .1 .1 .1 .1 .1 .1 .0 ∙ l .1, passed-step _ _ _ _ (p .0) _ _ _ (l .2) e, going-step _ _ _ _ _ _ _ _ _ (lines-step _ _ _ _ (p .0) _ _ _ (l .2) e (c .before .before .before .before .before .before .before .loop-test .taken)) (p .1) (l .3) _ _ (c .before .before .put-job .ensures))
+    (omega (arith, c .before .before .before .before .before .before .before .loop-test .taken), c .before .before .put-job .kept .1 .1 .1 .1 .1 .1 .1 .0 ∙ l .1, passed-step (p .0) (l .2) e, going-step _ _ (lines-step (p .0) (l .2) e (c .before .before .before .before .before .before .before .loop-test .taken)) (p .1) (l .3) (c .before .before .put-job .ensures))
 
 same-length : tie.Need-same-length Inv-loop μ-loop
 same-length c = c .before .loop .inv .1
 
 returns : tie.Need-returns Inv-loop μ-loop
-returns c = going-end _ _ _ _ _ _ _ (lines-end _ _ _ _ (c .loop-test .left)) (c .before .loop .inv .3)
+returns c = going-end (lines-end _ _ _ _ (c .loop-test .left)) (c .before .loop .inv .3)
 
 pub put-jobs-spec : {M : Type 1} → statement M
 put-jobs-spec =

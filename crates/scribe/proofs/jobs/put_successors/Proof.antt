@@ -39,7 +39,7 @@ put-requires : tie.Need-put-requires Inv-loop μ-loop
 put-requires c κs =
     let l = c .before .before .before .before .loop in
     let p = c .before .before .before .before .before .before .before .pre in
-    rw (c .before .mark-of .ensures) (going-room _ _ _ _ _ _ _ _ _ (successors-step _ _ _ (c .before .before .before .loop-test .taken) (p .0 .within)) (p .1) (l .inv .2))
+    rw (c .before .mark-of .ensures) (going-room _ _ (successors-step _ _ _ (c .before .before .before .loop-test .taken) (p .0 .within)) (p .1) (l .inv .2))
 
 add-i : tie.Need-add-i Inv-loop μ-loop
 add-i c = search needs
@@ -51,13 +51,13 @@ loop-again : tie.Need-loop-again Inv-loop μ-loop
 loop-again c =
     let l = c .before .before .before .before .before .before .before .loop in
     let p = c .before .before .before .before .before .before .before .before .before .before .pre in
-    (omega arith, c .before .before .put .kept .1 .1 .1 .1 .0 ∙ l .inv .1, going-step _ _ _ _ _ _ _ _ _ (successors-step _ _ _ (c .before .before .before .before .before .before .loop-test .taken) (p .0 .within)) (p .1) (l .inv .2) _ _ (rw (c .before .before .before .before .mark-of .ensures) at (c .before .before .put .ensures)))
+    (omega arith, c .before .before .put .kept .1 .1 .1 .1 .0 ∙ l .inv .1, going-step _ _ (successors-step _ _ _ (c .before .before .before .before .before .before .loop-test .taken) (p .0 .within)) (p .1) (l .inv .2) (rw (c .before .before .before .before .mark-of .ensures) at (c .before .before .put .ensures)))
 
 same-length : tie.Need-same-length Inv-loop μ-loop
 same-length c = c .before .loop .inv .1
 
 returns : tie.Need-returns Inv-loop μ-loop
-returns c = going-end _ _ _ _ _ _ _ (ap behind (numbered-none _ _ _ (c .loop-test .left) (c .before .before .before .before .pre .0 .within))) (c .before .loop .inv .2)
+returns c = going-end (ap behind (numbered-none _ _ _ (c .loop-test .left) (c .before .before .before .before .pre .0 .within))) (c .before .loop .inv .2)
 
 pub put-successors-spec : {M : Type 1} → statement M
 put-successors-spec =
