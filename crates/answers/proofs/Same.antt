@@ -9,7 +9,8 @@ use Rattle.answers.specs.declared.Answer.{Answer}
 use Rattle.answers.specs.declared.CheckAnswer.{CheckAnswer}
 use Rattle.answers.specs.declared.OverloadAnswer.{OverloadAnswer}
 use Rattle.answers.specs.declared.ReadAnswer.{ReadAnswer}
-use Rattle.answers.specs.Said.{Word, Said, said, says, saysCheck, saysOverload, saysRead}
+use Rattle.answers.specs.declared.WriteAnswer.{WriteAnswer}
+use Rattle.answers.specs.Said.{Word, Said, said, says, saysCheck, saysOverload, saysRead, saysWrite}
 
 -- the words told apart by numbers
 abbrev pub told : Word → ℕ
@@ -21,6 +22,7 @@ told Word.rejected = 4
 told Word.none = 5
 told Word.overload = 6
 told Word.read = 7
+told Word.written = 8
 
 pub not-said : (v w : Word) → (told v ≡ told w → ⊥) → v ≡ w → ⊥
 not-said v w f e = f (ap (λ (x : Word). told x) e)
@@ -46,6 +48,7 @@ heardOf Word.rejected ns = Answer.Refused 0
 heardOf Word.none ns = Answer.Refused 0
 heardOf Word.overload ns = Answer.Refused 0
 heardOf Word.read ns = Answer.Refused 0
+heardOf Word.written ns = Answer.Refused 0
 
 heard-says : (a : Answer) → heardOf (says a .word) (says a .numbers) ≡ a
 heard-says (Answer.Settled n) = refl
@@ -64,6 +67,7 @@ heardCheck Word.settled ns = CheckAnswer.Refused 0
 heardCheck Word.none ns = CheckAnswer.Refused 0
 heardCheck Word.overload ns = CheckAnswer.Refused 0
 heardCheck Word.read ns = CheckAnswer.Refused 0
+heardCheck Word.written ns = CheckAnswer.Refused 0
 
 heard-check : (a : CheckAnswer) → heardCheck (saysCheck a .word) (saysCheck a .numbers) ≡ a
 heard-check (CheckAnswer.Holds n) = refl
@@ -83,6 +87,7 @@ heardOverload Word.clash ns = OverloadAnswer.None
 heardOverload Word.holds ns = OverloadAnswer.None
 heardOverload Word.rejected ns = OverloadAnswer.None
 heardOverload Word.read ns = OverloadAnswer.None
+heardOverload Word.written ns = OverloadAnswer.None
 
 heard-overload : (a : OverloadAnswer) → heardOverload (saysOverload a .word) (saysOverload a .numbers) ≡ a
 heard-overload OverloadAnswer.None = refl
@@ -101,6 +106,7 @@ heardRead Word.holds ns = ReadAnswer.Refused 0
 heardRead Word.rejected ns = ReadAnswer.Refused 0
 heardRead Word.none ns = ReadAnswer.Refused 0
 heardRead Word.overload ns = ReadAnswer.Refused 0
+heardRead Word.written ns = ReadAnswer.Refused 0
 
 heard-read : (a : ReadAnswer) → heardRead (saysRead a .word) (saysRead a .numbers) ≡ a
 heard-read (ReadAnswer.Read cap pairs) = refl
@@ -108,3 +114,21 @@ heard-read (ReadAnswer.Refused k) = refl
 
 pub read-same : (a b : ReadAnswer) → saysRead a ≡ saysRead b → a ≡ b
 read-same = read-back saysRead (λ s. heardRead (s .word) (s .numbers)) heard-read
+
+abbrev heardWrite : Word → List ℕ → WriteAnswer
+heardWrite Word.written ns = WriteAnswer.Written (ns ! 0)
+heardWrite Word.refused ns = WriteAnswer.Refused (ns ! 0)
+heardWrite Word.settled ns = WriteAnswer.Refused 0
+heardWrite Word.clash ns = WriteAnswer.Refused 0
+heardWrite Word.holds ns = WriteAnswer.Refused 0
+heardWrite Word.rejected ns = WriteAnswer.Refused 0
+heardWrite Word.none ns = WriteAnswer.Refused 0
+heardWrite Word.overload ns = WriteAnswer.Refused 0
+heardWrite Word.read ns = WriteAnswer.Refused 0
+
+heard-write : (a : WriteAnswer) → heardWrite (saysWrite a .word) (saysWrite a .numbers) ≡ a
+heard-write (WriteAnswer.Written bytes) = refl
+heard-write (WriteAnswer.Refused k) = refl
+
+pub write-same : (a b : WriteAnswer) → saysWrite a ≡ saysWrite b → a ≡ b
+write-same = read-back saysWrite (λ s. heardWrite (s .word) (s .numbers)) heard-write

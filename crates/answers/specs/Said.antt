@@ -5,6 +5,7 @@ use Rattle.answers.specs.declared.Answer.{Answer}
 use Rattle.answers.specs.declared.CheckAnswer.{CheckAnswer}
 use Rattle.answers.specs.declared.OverloadAnswer.{OverloadAnswer}
 use Rattle.answers.specs.declared.ReadAnswer.{ReadAnswer}
+use Rattle.answers.specs.declared.WriteAnswer.{WriteAnswer}
 
 -- the answer words
 pub data Word : Type 0 where
@@ -16,6 +17,7 @@ pub data Word : Type 0 where
   none : Word
   overload : Word
   read : Word
+  written : Word
 
 -- an answer: its word and its numbers
 pub record Said : Type 0 where
@@ -48,3 +50,8 @@ saysOverload (OverloadAnswer.Refused k) = said Word.refused (k ∷ [])
 abbrev pub saysRead : ReadAnswer → Said
 saysRead (ReadAnswer.Read cap pairs) = said Word.read (cap ∷ pairs ∷ [])
 saysRead (ReadAnswer.Refused k) = said Word.refused (k ∷ [])
+
+-- the writer's answers
+abbrev pub saysWrite : WriteAnswer → Said
+saysWrite (WriteAnswer.Written bytes) = said Word.written (bytes ∷ [])
+saysWrite (WriteAnswer.Refused k) = said Word.refused (k ∷ [])

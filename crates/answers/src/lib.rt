@@ -27,3 +27,9 @@ pub enum ReadAnswer {
     Read(u32, usize),
     Refused(u32),
 }
+
+// The writer of project texts: the number of bytes; the refusal's number.
+pub enum WriteAnswer {
+    Written(usize),
+    Refused(u32),
+}

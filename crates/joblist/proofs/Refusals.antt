@@ -16,7 +16,7 @@ use Rattle.joblist.specs.GoodList.{Sized, Within, Above, Any, GoodList, 
 
 -- ---- the three tests and their facts
 
-sized-judged : (n : ℕ) (cs : List Column) → Judged (Every (Sized n) cs) (Any (λ c. Sized n c → ⊥) cs) (sized n cs)
+pub sized-judged : (n : ℕ) (cs : List Column) → Judged (Every (Sized n) cs) (Any (λ c. Sized n c → ⊥) cs) (sized n cs)
 unfolding sized
 sized-judged n [] = judged-true
 sized-judged n (c ∷ cs) = judged-both (judged-eqb (length (c .list)) n) (sized-judged n cs)
@@ -54,7 +54,7 @@ none-above [] ds f g a = within-judged ds .apart g a
 none-above (c ∷ cs) ds f g (inl a) = most-judged (c .most) (c .list) .apart (f .0) a
 none-above (c ∷ cs) ds f g (inr a) = none-above cs ds (f .1) g a
 
-limits-judged : (cs ds : List Column) → Judged (Every Within cs × Every Within ds) (Any Above (cs ++ ds)) (both (within cs) (within ds))
+pub limits-judged : (cs ds : List Column) → Judged (Every Within cs × Every Within ds) (Any Above (cs ++ ds)) (both (within cs) (within ds))
 limits-judged cs ds =
     judged-as (judged-both (within-judged cs) (within-judged ds)) (λ f. f) (any-append Above cs ds) (λ f g. none-above cs ds (f .0) (f .1) g)
 

@@ -13,7 +13,7 @@ use borrow.Author.Tests.{le-leb, lt-leb, lt-ltb, le-ltb, eq-eqb, ne-eqb}
 use Rattle.lists.specs.Lists.{_!_}
 use Rattle.lists.specs.Tests.{both, pick, unless}
 use Rattle.narrowing.specs.Windows.{Win}
-use Rattle.joblist.specs.Limits.{Column, demands, jobs, mostJobs, mostTime, mostDemand, threeLists, fourLists, supply}
+use Rattle.joblist.specs.Limits.{Column, demands, jobs, mostJobs, mostTime, mostDemand, threeLists, twoLists, fourLists, supply}
 use Rattle.joblist.specs.GoodList.{sized, atMost, within, refusal}
 
 -- ---- the largest number so far is `top`, the numbers from i on are left
@@ -151,3 +151,11 @@ module _ (W : Win) (p r : List ℕ) (cap : ℕ) where
 
   pub four-good : length r ≡ jobs W → three ≡ 0 → atMost mostDemand r ≡ true → cap ≤ mostDemand → four ≡ 0
   four-good h k d c = four-rest h k ∙ rw (d, le-leb cap mostDemand c)
+
+-- the two lists with the capacity
+pub of-two : (p r : List ℕ) (cap : ℕ) → refusal (length p) (twoLists p r) (supply cap)
+    ≡ unless (eqb (length r) (length p)) 1
+    (unless (leb (length p) mostJobs) 2
+    (unless (both (both (atMost mostTime p) (atMost mostDemand r)) (leb cap mostDemand)) 3 0))
+unfolding refusal sized within
+of-two p r cap = rw (eq-eqb (length p) (length p) refl, both-end (eqb (length r) (length p)), both-end (atMost mostDemand r), within-supply cap)

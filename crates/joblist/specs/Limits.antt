@@ -42,6 +42,10 @@ fourLists W p r = times (W .e) ∷ times (W .l) ∷ times p ∷ demands r ∷ []
 abbrev pub supply : ℕ → List Column
 supply cap = demands (cap ∷ []) ∷ []
 
+-- the lists of the writer: duration, demand; and beside them the capacity
+abbrev pub twoLists : List ℕ → List ℕ → List Column
+twoLists p r = times p ∷ demands r ∷ []
+
 -- the lists of the overload check
 abbrev pub threeLists : Win → List ℕ → List Column
 threeLists W p = times (W .e) ∷ times (W .l) ∷ times p ∷ []

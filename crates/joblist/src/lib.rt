@@ -9,7 +9,7 @@ ghost use lib.ListN.{length, take, drop};
 ghost use Rattle.lists.specs.Tests.{pick};
 ghost use Rattle.lists.specs.Searches.{foundOr};
 ghost use Rattle.narrowing.specs.Windows.{win, closes, lowestTooShort};
-ghost use Rattle.joblist.specs.Limits.{mostJobs, fourLists, threeLists, supply};
+ghost use Rattle.joblist.specs.Limits.{mostJobs, fourLists, threeLists, twoLists, supply};
 ghost use Rattle.joblist.specs.GoodList.{atMost, within, refusal};
 
 // The most jobs that a list may have.
@@ -88,6 +88,28 @@ pub fn refusal(est: &[u32], lct: &[u32], dur: &[u32], dem: &[u32], cap: u32) -> 
     let number = refusal_of_three(est, lct, dur);
     if number != 0 {
         return number;
+    }
+    if above(dem, DRAW) {
+        return 3;
+    }
+    if DRAW < cap {
+        return 3;
+    }
+    0
+}
+
+// The same of a list of durations and demands alone, with a capacity.
+pub fn refusal_of_two(dur: &[u32], dem: &[u32], cap: u32) -> u32
+    ensures { λ r. ⌜ r ≡ refusal (length (now (dur .entry))) (twoLists (now (dur .entry)) (now (dem .entry))) (supply cap) ⌝ }
+{
+    if dem.len() != dur.len() {
+        return 1;
+    }
+    if MOST < dur.len() {
+        return 2;
+    }
+    if above(dur, TIME) {
+        return 3;
     }
     if above(dem, DRAW) {
         return 3;
