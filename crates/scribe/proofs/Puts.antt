@@ -59,6 +59,10 @@ module _ {dry : Bool} {at : ℕ} (t u : List ℕ) {b : List ℕ} where
         go true e = (q .bytes ∙ rw e) ∙ (p .bytes ∙ rw e)
         go false e = (q .bytes ∙ rw (e, p .bytes, e, p .place)) ∙ pasted-twice at t u b (h .room e)
 
+-- room for the same bytes at the same place
+pub room-same : {dry : Bool} {at at' : ℕ} {t t' b : List ℕ} → Room dry at t b → at' ≡ at → t' ≡ t → Room dry at' t' b
+room-same h p q = rw (p, q) h
+
 -- nothing
 put-none : (dry : Bool) (at : ℕ) (b : List ℕ) → Put dry at [] b b at
 put-none dry at b = record { place = omega arith; bytes = go dry }

@@ -13,10 +13,21 @@ use Rattle.lists.specs.Lists.{_!_}
 use Rattle.chains.specs.Listed.{paired}
 use Rattle.scribe.specs.Form.{decimal, line}
 use Rattle.scribe.specs.Made.{successorsOf}
-use Rattle.scribe.specs.Says.{mark, behind, numbered}
+use Rattle.scribe.specs.Says.{Marked, mark, behind, numbered}
 use Rattle.scribe.proofs.Puts.{Parts}
 
 -- ---- a number
+
+-- the same number and the same byte behind it
+pub number-same : {v w a b : ℕ} → v ≡ w → a ≡ b → decimal v ++ a ∷ [] ≡ decimal w ++ b ∷ []
+number-same p q = rw (p, q)
+
+pub byte-same : {a b m : ℕ} (i to : ℕ) → Marked a b m → a ≡ i → b ≡ to → m ≡ cond (ltb i to) 32 10
+byte-same i to h p q = h .byte ∙ rw (p, q)
+
+-- the same duration, demand and number of successors
+pub job-same : {d d' q q' c c' : ℕ} (ns : List ℕ) → d' ≡ d → q' ≡ q → c' ≡ c → line (d' ∷ q' ∷ c' ∷ ns) ≡ line (d ∷ q ∷ c ∷ ns)
+job-same ns x y z = rw (x, y, z)
 
 pub line-step : (v : ℕ) (vs : List ℕ) → line (v ∷ vs) ≡ (decimal v ++ mark vs ∷ []) ++ behind vs
 unfolding line

@@ -4,6 +4,7 @@ use Prim.Native.Nat.{ℕ, suc, _+_, _*_, _≤_, _<_}
 use mathlib.Core.Path.{_≡_}
 use mathlib.Core.Bool.{Bool, false, cond}
 use mathlib.Core.List.{List, [], _∷_, _++_, map}
+use lib.Dec.{ltb}
 use lib.ListN.{length, take, drop}
 use lib.Seq.{slice}
 use Rattle.lists.specs.Lists.{_!_}
@@ -41,6 +42,10 @@ pub record RunEnds (js : List ℕ) (j i r : ℕ) : Type 0 where
 pub record Wrote (dry : Bool) (x : Project) (buffer after : List ℕ) (r : ℕ) : Type 0 where
   pub count : r ≡ length (written x)
   pub bytes : after ≡ cond dry buffer (written x ++ drop (length (written x)) buffer)
+
+-- m is the byte behind a number where others follow from place i on, up to place `to`
+pub record Marked (i to m : ℕ) : Type 0 where
+  pub byte : m ≡ cond (ltb i to) 32 10
 
 -- the byte behind a number, and what stands behind that byte, by the numbers that are left on the line
 abbrev pub mark : List ℕ → ℕ

@@ -1,14 +1,12 @@
 // The lines of the jobs. The pairs are passed over once: as they rise, those of a job stand side by side.
 use crate::marks::put;
-ghost use mathlib.Core.Path.{_≡_};
 ghost use mathlib.Core.List.{_∷_};
-ghost use mathlib.Core.Bool.{cond};
 ghost use Prim.Native.Nat.{_-_, _≤_};
 ghost use lib.ListN.{length};
 ghost use Rattle.chains.specs.Listed.{paired};
 ghost use Rattle.scribe.specs.Form.{line, jobLines};
 ghost use Rattle.scribe.specs.Made.{rowsFrom};
-ghost use Rattle.scribe.specs.Says.{Room, Put, RunEnds, behind, numbered, Stretch, Given};
+ghost use Rattle.scribe.specs.Says.{Room, Put, RunEnds, Marked, behind, numbered, Stretch, Given};
 
 // The first place from i on whose job is not j.
 fn run_end(jobs: &[u32], j: u32, i: usize) -> usize
@@ -25,11 +23,11 @@ fn run_end(jobs: &[u32], j: u32, i: usize) -> usize
     k
 }
 
-// The byte behind a number: a space where another one follows on the line.
-fn mark_of(follows: bool) -> u8
-    ensures { λ r. ⌜ r ≡ cond follows 32 10 ⌝ }
+// The byte behind a number: a space where another one follows on the line, as one does from place i on up to place `to`.
+fn mark_of(i: usize, to: usize) -> u8
+    ensures { λ r. ⌜ Marked i to r ⌝ }
 {
-    if follows {
+    if i < to {
         return b' ';
     }
     b'\n'
@@ -50,7 +48,7 @@ fn put_successors(
     let mut i = from;
     let mut place = at;
     while i < to {
-        place = put(dry, successors[i] + 1, mark_of(i + 1 < to), place, buffer);
+        place = put(dry, successors[i] + 1, mark_of(i + 1, to), place, buffer);
         i += 1;
     }
     place
@@ -72,7 +70,7 @@ fn put_job(
 {
     let a = put(dry, d, b' ', at, buffer);
     let b = put(dry, q, b' ', a, buffer);
-    let c = put(dry, (to - from) as u32, mark_of(from < to), b, buffer);
+    let c = put(dry, (to - from) as u32, mark_of(from, to), b, buffer);
     put_successors(dry, successors, from, to, c, buffer)
 }
 

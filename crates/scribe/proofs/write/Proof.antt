@@ -1,10 +1,12 @@
 -- `scribe::write` puts the whole text in four parts: the two counts, the capacity, and the lines of the jobs.
+use native.Mathlib.Omega.{arith}
 use borrow.Author.Needs.{needs}
 use Rattle.chains.specs.Listed.{paired}
 use Rattle.scribe.specs.Form.{written}
 use Rattle.scribe.specs.Made.{made}
 use Rattle.scribe.specs.Says.{Room}
-use Rattle.scribe.proofs.Puts.{first-room, second-room, third-room, fourth-room, all-put}
+use Rattle.scribe.proofs.Puts.{room-same, first-room, second-room, third-room, fourth-room, all-put}
+use Rattle.scribe.proofs.Steps.{number-same}
 use Rattle.scribe.proofs.Counts.{write-parts, whole-room, put-whole}
 use Rattle.scribe.proofs.write.Statement.{statement}
 use Rattle.scribe.proofs.write.Tie as tie
@@ -24,13 +26,13 @@ cast-put : tie.Need-cast-put
 cast-put c = search needs
 
 put-requires : tie.Need-put-requires
-put-requires c κs = first-room (write-parts _ (c .before .before .before .before .before .before .pre .0)) (room (c .before .before .before .before))
+put-requires c κs = room-same (first-room (write-parts _ (c .before .before .before .before .before .before .pre .0)) (room (c .before .before .before .before))) (omega arith) (number-same (omega arith) (omega arith))
 
 put-requires-2 : tie.Need-put-requires-2
-put-requires-2 c κs = second-room (write-parts _ (c .before .before .before .before .before .before .before .before .before .before .pre .0)) (room (c .before .before .before .before .before .before .before .before)) (c .before .before .before .put .ensures)
+put-requires-2 c κs = room-same (second-room (write-parts _ (c .before .before .before .before .before .before .before .before .before .before .pre .0)) (room (c .before .before .before .before .before .before .before .before)) (c .before .before .before .put .ensures)) (omega arith) (number-same (omega arith) (omega arith))
 
 put-requires-3 : tie.Need-put-requires-3
-put-requires-3 c κs = third-room (write-parts _ (c .before .before .before .before .before .before .before .before .before .before .before .before .before .before .pre .0)) (room (c .before .before .before .before .before .before .before .before .before .before .before .before)) (c .before .before .before .before .before .before .before .put .ensures) (c .before .before .before .put2 .ensures)
+put-requires-3 c κs = room-same (third-room (write-parts _ (c .before .before .before .before .before .before .before .before .before .before .before .before .before .before .pre .0)) (room (c .before .before .before .before .before .before .before .before .before .before .before .before)) (c .before .before .before .before .before .before .before .put .ensures) (c .before .before .before .put2 .ensures)) (omega arith) (number-same (omega arith) (omega arith))
 
 put-jobs-requires : tie.Need-put-jobs-requires
 put-jobs-requires c κs =

@@ -1,19 +1,20 @@
 -- `scribe::jobs::put_job` puts a job's line in four parts: duration, demand, how many successors, and these.
+use native.Mathlib.Omega.{arith}
 use borrow.Author.Needs.{needs}
-use Rattle.scribe.proofs.Puts.{first-room, second-room, third-room, fourth-room, all-put}
-use Rattle.scribe.proofs.Steps.{job-parts}
+use Rattle.scribe.proofs.Puts.{room-same, first-room, second-room, third-room, fourth-room, all-put}
+use Rattle.scribe.proofs.Steps.{number-same, byte-same, job-parts}
 use Rattle.scribe.proofs.jobs.put_job.Statement.{statement}
 use Rattle.scribe.proofs.jobs.put_job.Tie as tie
 
 put-requires : tie.Need-put-requires
 put-requires c κs =
     let p = c .before .before .before .pre in
-    first-room (job-parts _ _ _ _ _ (p .0 .within)) (p .1)
+    room-same (first-room (job-parts _ _ _ _ _ (p .0 .within)) (p .1)) (omega arith) (number-same (omega arith) (omega arith))
 
 put-requires-2 : tie.Need-put-requires-2
 put-requires-2 c κs =
     let p = c .before .before .before .before .before .before .before .pre in
-    second-room (job-parts _ _ _ _ _ (p .0 .within)) (p .1) (c .before .before .before .put .ensures)
+    room-same (second-room (job-parts _ _ _ _ _ (p .0 .within)) (p .1) (c .before .before .before .put .ensures)) (omega arith) (number-same (omega arith) (omega arith))
 
 sub-put : tie.Need-sub-put
 sub-put c = search needs
@@ -26,14 +27,16 @@ mark-of-requires c κs = search needs
 
 put-requires-3 : tie.Need-put-requires-3
 put-requires-3 c κs =
-    let p = c .before .before .before .before .before .before .before .before .before .before .before .before .pre in
-    rw (c .before .mark-of .ensures)
+    let s = c .before .before .before .before .before .before .before .before .before .before .before .before in
+    let p = s .pre in
+    room-same
     (third-room (job-parts _ _ _ _ _ (p .0 .within)) (p .1) (c .before .before .before .before .before .before .before .before .put .ensures) (c .before .before .before .before .put2 .ensures))
+    (omega arith) (number-same (omega arith) (byte-same (s .args .from) (s .args .to) (c .before .mark-of .ensures) (omega arith) (omega arith)))
 
 put-successors-requires : tie.Need-put-successors-requires
 put-successors-requires c κs =
     let p = c .before .before .before .before .before .before .before .before .before .before .before .before .before .before .before .before .pre in
-    (p .0, fourth-room (job-parts _ _ _ _ _ (p .0 .within)) (p .1) (c .before .before .before .before .before .before .before .before .before .before .before .before .put .ensures) (c .before .before .before .before .before .before .before .before .put2 .ensures) (rw (c .before .before .before .before .before .mark-of .ensures) at (c .before .before .before .put3 .ensures)))
+    (p .0, fourth-room (job-parts _ _ _ _ _ (p .0 .within)) (p .1) (c .before .before .before .before .before .before .before .before .before .before .before .before .put .ensures) (c .before .before .before .before .before .before .before .before .put2 .ensures) (rw (c .before .before .before .before .before .mark-of .ensures .byte) at (c .before .before .before .put3 .ensures)))
 
 same-length : tie.Need-same-length
 same-length c = search needs
@@ -41,7 +44,7 @@ same-length c = search needs
 returns : tie.Need-returns
 returns c =
     let p = c .before .before .before .before .before .before .before .before .before .before .before .before .before .before .before .before .before .before .before .pre in
-    all-put (job-parts _ _ _ _ _ (p .0 .within)) (p .1) (c .before .before .before .before .before .before .before .before .before .before .before .before .before .before .before .put .ensures) (c .before .before .before .before .before .before .before .before .before .before .before .put2 .ensures) (rw (c .before .before .before .before .before .before .before .before .mark-of .ensures) at (c .before .before .before .before .before .before .put3 .ensures)) (c .before .before .put-successors .ensures)
+    all-put (job-parts _ _ _ _ _ (p .0 .within)) (p .1) (c .before .before .before .before .before .before .before .before .before .before .before .before .before .before .before .put .ensures) (c .before .before .before .before .before .before .before .before .before .before .before .put2 .ensures) (rw (c .before .before .before .before .before .before .before .before .mark-of .ensures .byte) at (c .before .before .before .before .before .before .put3 .ensures)) (c .before .before .put-successors .ensures)
 
 pub put-job-spec : {M : Type 1} → statement M
 put-job-spec =

@@ -8,7 +8,8 @@ use borrow.Author.Needs.{needs}
 use Rattle.chains.specs.Listed.{paired}
 use Rattle.scribe.specs.Form.{jobLines}
 use Rattle.scribe.specs.Made.{rowsFrom}
-use Rattle.scribe.proofs.Puts.{Going, going-start, going-room, going-step, going-end}
+use Rattle.scribe.proofs.Puts.{room-same, Going, going-start, going-room, going-step, going-end}
+use Rattle.scribe.proofs.Steps.{job-same}
 use Rattle.scribe.proofs.Passing.{Passed, passed-start, passed-step, stretch, lines-step, lines-end}
 use Rattle.scribe.proofs.jobs.put_jobs.Statement.{statement}
 use Rattle.scribe.proofs.jobs.put_jobs.Tie as tie
@@ -44,7 +45,8 @@ put-job-requires : tie.Need-put-job-requires Inv-loop μ-loop
 put-job-requires c κs =
     let l = c .before .before .before .before .before .loop .inv in
     let p = c .before .before .before .before .before .before .before .before .before .before .before .pre in
-    (stretch (p .0) (l .2) (c .before .before .before .run-end .ensures), going-room _ _ (lines-step (p .0) (l .2) (c .before .before .before .run-end .ensures) (c .before .before .before .before .loop-test .taken)) (p .1) (l .3))
+    let e = c .before .before .before .run-end .ensures in
+    (stretch (p .0) (l .2) e, room-same (going-room _ _ (lines-step (p .0) (l .2) e (c .before .before .before .before .loop-test .taken)) (p .1) (l .3)) (omega arith) (job-same _ (omega arith) (omega arith) (omega arith)))
 
 add-j : tie.Need-add-j Inv-loop μ-loop
 add-j c = search needs

@@ -1,13 +1,13 @@
 -- `scribe::jobs::put_successors` puts the successors up to the end of the line. The invariant: what is left of the text is that of the successors from
 -- place i on. The measure is how many of them are left.
-use Prim.Native.Nat.{_-_, _≤_}
+use Prim.Native.Nat.{_+_, _-_, _≤_}
 use native.Mathlib.Omega.{arith}
 use mathlib.Core.Path.{_≡_, ap, _∙_}
 use lib.ListN.{length}
 use borrow.Author.Needs.{needs}
 use Rattle.scribe.specs.Says.{behind, numbered}
-use Rattle.scribe.proofs.Puts.{Going, going-start, going-room, going-step, going-end}
-use Rattle.scribe.proofs.Steps.{numbered-none, successors-step}
+use Rattle.scribe.proofs.Puts.{room-same, Going, going-start, going-room, going-step, going-end}
+use Rattle.scribe.proofs.Steps.{number-same, byte-same, numbered-none, successors-step}
 use Rattle.scribe.proofs.jobs.put_successors.Statement.{statement}
 use Rattle.scribe.proofs.jobs.put_successors.Tie as tie
 
@@ -39,7 +39,8 @@ put-requires : tie.Need-put-requires Inv-loop μ-loop
 put-requires c κs =
     let l = c .before .before .before .before .loop in
     let p = c .before .before .before .before .before .before .before .pre in
-    rw (c .before .mark-of .ensures) (going-room _ _ (successors-step _ _ _ (c .before .before .before .loop-test .taken) (p .0 .within)) (p .1) (l .inv .2))
+    room-same (going-room _ _ (successors-step _ _ _ (c .before .before .before .loop-test .taken) (p .0 .within)) (p .1) (l .inv .2)) (omega arith)
+    (number-same (omega arith) (byte-same (l .i + 1) (c .before .before .before .before .before .before .before .args .to) (c .before .mark-of .ensures) (omega arith) (omega arith)))
 
 add-i : tie.Need-add-i Inv-loop μ-loop
 add-i c = search needs
@@ -51,7 +52,7 @@ loop-again : tie.Need-loop-again Inv-loop μ-loop
 loop-again c =
     let l = c .before .before .before .before .before .before .before .loop in
     let p = c .before .before .before .before .before .before .before .before .before .before .pre in
-    (omega arith, c .before .before .put .kept .1 .1 .1 .1 .0 ∙ l .inv .1, going-step _ _ (successors-step _ _ _ (c .before .before .before .before .before .before .loop-test .taken) (p .0 .within)) (p .1) (l .inv .2) (rw (c .before .before .before .before .mark-of .ensures) at (c .before .before .put .ensures)))
+    (omega arith, c .before .before .put .kept .1 .1 .1 .1 .0 ∙ l .inv .1, going-step _ _ (successors-step _ _ _ (c .before .before .before .before .before .before .loop-test .taken) (p .0 .within)) (p .1) (l .inv .2) (rw (c .before .before .before .before .mark-of .ensures .byte) at (c .before .before .put .ensures)))
 
 same-length : tie.Need-same-length Inv-loop μ-loop
 same-length c = c .before .loop .inv .1

@@ -27,7 +27,7 @@ shared-slice-read-if1 c = search needs
 returns : tie.Need-returns Inv-loop μ-loop
 returns c =
     let v = c .before .before .before .loop .inv in
-    record { from = v .0; within = v .1; same = λ m h l. v .2 m l h; stops = λ l. c .if1 .taken }
+    record { from = v .0; within = v .1; same = λ m h l. v .2 m l h; stops = λ l q. c .if1 .taken (omega (arith, q)) }
 
 add-k : tie.Need-add-k Inv-loop μ-loop
 add-k c = search needs
@@ -38,7 +38,7 @@ loop-less c = search needs
 loop-again : tie.Need-loop-again Inv-loop μ-loop
 loop-again c =
     let v = c .before .before .before .loop .inv in
-    (omega arith, omega arith, below-more _ _ (v .2) (λ h. c .if1 .left))
+    (omega arith, omega arith, below-more _ _ (v .2) (λ h. omega (arith, c .if1 .left)))
 
 returns-2 : tie.Need-returns-2 Inv-loop μ-loop
 returns-2 c =

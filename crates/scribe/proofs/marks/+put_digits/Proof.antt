@@ -1,11 +1,14 @@
 -- `scribe::marks::put_digits` puts a number's decimal digits: those of v / 10, by a call of itself, and then the last. The measure is v.
 use Prim.Native.Nat.{ℕ, _<_}
 use native.Mathlib.Omega.{arith}
+use mathlib.Core.Path.{ap}
+use mathlib.Core.List.{[], _∷_}
 use borrow.Author.Needs.{needs}
 use borrow.Fn.Kinds.{In}
 use borrow.Fn.PlainCycle.{Measures, is, falls, and}
+use Rattle.scribe.specs.Form.{decimal}
 use Rattle.scribe.proofs.Decimals.{decimal-one, decimal-more}
-use Rattle.scribe.proofs.Puts.{room-front, room-back, put-then}
+use Rattle.scribe.proofs.Puts.{room-same, room-front, room-back, put-then}
 use Rattle.scribe.proofs.marks.put_digits.Reads as put-digits
 use Rattle.scribe.proofs.marks.put_digits.Kinds as put-digits-kinds
 use Rattle.scribe.proofs.marks.+put_digits.Lts-put_digits as put-digits-lts
@@ -72,7 +75,7 @@ put-digits-put-digits-requires : (t : ℕ) → put-digits-lts.Need-put-digits-re
 ) (put-digits-at t) put-digits.Post
 put-digits-put-digits-requires t c κs =
     let s = c .before .before .before in
-    (omega (arith, s .pre .0, c .before .if1 .left), room-front _ _ (rw (decimal-more (s .args .v) (c .before .if1 .left)) at (s .pre .1)))
+    (omega (arith, s .pre .0, c .before .if1 .left), room-same (room-front _ _ (rw (decimal-more (s .args .v) (c .before .if1 .left)) at (s .pre .1))) (omega arith) (ap decimal (omega arith)))
 
 put-digits-cast-store-2 : (t : ℕ) → put-digits-lts.Need-cast-store-2 (
   store-reads.Asked,
@@ -98,7 +101,7 @@ put-digits-store-requires-2 : (t : ℕ) → put-digits-lts.Need-store-requires-2
 ) (put-digits-at t) put-digits.Post
 put-digits-store-requires-2 t c κs =
     let s = c .before .before .before .before .before .before .before in
-    room-back _ _ (rw (decimal-more (s .args .v) (c .before .before .before .before .before .if1 .left)) at (s .pre .1)) (c .before .before .before .put-digits .ensures)
+    room-same (room-back _ _ (rw (decimal-more (s .args .v) (c .before .before .before .before .before .if1 .left)) at (s .pre .1)) (c .before .before .before .put-digits .ensures)) (omega arith) (ap (λ (b : ℕ). b ∷ []) (omega arith))
 
 put-digits-same-length-2 : (t : ℕ) → put-digits-lts.Need-same-length-2 (
   store-reads.Asked,
