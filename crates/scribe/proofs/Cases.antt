@@ -15,6 +15,11 @@ pub seven-written : decimal 7 ≡ 55 ∷ []
 unfolding decimal
 seven-written = refl
 
+-- `9`
+pub nine-written : decimal 9 ≡ 57 ∷ []
+unfolding decimal
+nine-written = refl
+
 -- `10`
 pub ten-written : decimal 10 ≡ 49 ∷ 48 ∷ []
 unfolding decimal

@@ -13,10 +13,11 @@ use Rattle.chains.specs.Listed.{paired}
 use Rattle.rows.specs.Projects.{Project, tagged, pairsFrom}
 use Rattle.scribe.specs.Form.{decimal, line, jobLines, written}
 use Rattle.scribe.specs.Made.{successorsOf, rowsFrom, made}
-use Rattle.scribe.specs.Says.{mostBytes, Put, Room, Wrote, Given}
+use Rattle.scribe.specs.Says.{mostBytes, Put, Room}
+use Rattle.scribe.specs.Writing.{Given, Wrote}
 use Rattle.scribe.proofs.Decimals.{decimal-32}
 use Rattle.scribe.proofs.Back.{written-is}
-use Rattle.scribe.proofs.Pairs.{Ups, rising-ups, paired-length, rising-few}
+use Rattle.scribe.proofs.Pairs.{Ups, rising-ups, paired-length, rising-few, every-from}
 use Rattle.scribe.proofs.Rows.{of-below, of-few, rows-length, pairs-back}
 use Rattle.scribe.proofs.Puts.{Parts}
 use Rattle.scribe.proofs.Steps.{line-step}
@@ -27,10 +28,6 @@ use Rattle.scribe.proofs.Passing.{jobs-cons, jobs-none}
 -- numbers of 32 bits
 abbrev Words : List ℕ → Type 0
 Words vs = Every (λ v. v < 4294967296) vs
-
-words-of : (xs : List ℕ) → ((k : ℕ) → xs ! k < 4294967296) → Words xs
-words-of [] h = tt
-words-of (x ∷ xs) h = (h 0, words-of xs (λ k. h (suc k)))
 
 -- ten digits and a byte behind them
 line-short : (vs : List ℕ) → Words vs → length (line vs) ≤ 1 + 11 * length vs
@@ -95,7 +92,7 @@ module _ (cap : ℕ) {durs dems js ss : List ℕ} (g : Given durs dems js ss) wh
       let u = rising-ups n js ss (g .rising) (sym (g .pairs)) in
       let few = rising-few n js ss (g .rising) (sym (g .pairs)) in
       let m = mul-le-mul (g .few) (g .few) in
-      let lines = jobs-short n 0 durs dems ps u (g .few) same-lists (words-of durs a) (words-of dems b) in
+      let lines = jobs-short n 0 durs dems ps u (g .few) same-lists (every-from (λ v. v < 4294967296) durs (λ k l. a k)) (every-from (λ v. v < 4294967296) dems (λ k l. b k)) in
       let count : length (pairsFrom 0 rs) ≡ length js = ap length (pairs-back n cap durs dems js ss (g .rising) (sym (g .pairs)) refl (g .demands)) ∙ paired-length js ss (sym (g .pairs)) in
       let jobs = rows-length 0 durs dems ps same-lists in
       let heads = line-short (length rs ∷ 1 ∷ []) (omega (arith, jobs, g .few), (omega arith, tt)) in

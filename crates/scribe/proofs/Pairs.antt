@@ -6,7 +6,7 @@ use mathlib.Core.Path.{_≡_, refl, ap}
 use mathlib.Core.List.{List, [], _∷_}
 use mathlib.Core.Logic.{_⊎_, inl, inr}
 use lib.ListN.{length}
-use Rattle.lists.specs.Lists.{Every}
+use Rattle.lists.specs.Lists.{_!_, Every}
 use Rattle.chains.specs.Paths.{Pair, pair}
 use Rattle.chains.specs.Listed.{paired, Rising}
 
@@ -15,6 +15,11 @@ use Rattle.chains.specs.Listed.{paired, Rising}
 pub every-map : {A : Type 0} (P Q : A → Type 0) → ((x : A) → P x → Q x) → (xs : List A) → Every P xs → Every Q xs
 every-map P Q f [] h = tt
 every-map P Q f (x ∷ xs) h = (f x (h .0), every-map P Q f xs (h .1))
+
+-- what holds of each place's number holds of every number
+pub every-from : (P : ℕ → Type 0) (xs : List ℕ) → ((k : ℕ) → k < length xs → P (xs ! k)) → Every P xs
+every-from P [] h = tt
+every-from P (x ∷ xs) h = (h 0 (omega arith), every-from P xs (λ k l. h (suc k) (omega arith)))
 
 -- each is less than all behind it, by a number of its own
 abbrev pub Climbs : {A : Type 0} → (A → ℕ) → List A → Type 0

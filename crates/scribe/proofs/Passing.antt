@@ -14,7 +14,8 @@ use Rattle.chains.specs.Paths.{Pair}
 use Rattle.chains.specs.Listed.{InOrder, paired, Rising}
 use Rattle.scribe.specs.Form.{line, jobLines}
 use Rattle.scribe.specs.Made.{successorsOf, rowsFrom}
-use Rattle.scribe.specs.Says.{RunEnds, numbered, Stretch, Given}
+use Rattle.scribe.specs.Says.{RunEnds, numbered, Stretch}
+use Rattle.scribe.specs.Writing.{Given}
 use Rattle.scribe.proofs.Pairs.{rising-few}
 use Rattle.scribe.proofs.Steps.{stretch-of}
 

@@ -13,7 +13,7 @@ use Rattle.lists.specs.Lists.{_!_}
 use Rattle.chains.specs.Listed.{paired}
 use Rattle.scribe.specs.Form.{decimal, line}
 use Rattle.scribe.specs.Made.{successorsOf}
-use Rattle.scribe.specs.Says.{Marked, mark, behind, numbered}
+use Rattle.scribe.specs.Says.{Marked, behind, numbered}
 use Rattle.scribe.proofs.Puts.{Parts}
 
 -- ---- a number
@@ -29,6 +29,11 @@ byte-same i to h p q = h .byte ∙ rw (p, q)
 pub job-same : {d d' q q' c c' : ℕ} (ns : List ℕ) → d' ≡ d → q' ≡ q → c' ≡ c → line (d' ∷ q' ∷ c' ∷ ns) ≡ line (d ∷ q ∷ c ∷ ns)
 job-same ns x y z = rw (x, y, z)
 
+-- the byte behind a number, by the numbers that are left on the line
+abbrev pub mark : List ℕ → ℕ
+mark [] = 10
+mark (v ∷ vs) = 32
+
 pub line-step : (v : ℕ) (vs : List ℕ) → line (v ∷ vs) ≡ (decimal v ++ mark vs ∷ []) ++ behind vs
 unfolding line
 line-step v [] = sym (append-nil (decimal v ++ 10 ∷ []))
@@ -43,7 +48,7 @@ module _ (ss : List ℕ) (i to : ℕ) where
   numbered-step : i < to → to ≤ length ss → numbered ss i to ≡ (ss ! i + 1) ∷ numbered ss (i + 1) to
   numbered-step h k = rw (slice-cons i to ss 0 h k, add-one (ss ! i), add-one i)
 
-  pub mark-is : to ≤ length ss → mark (numbered ss i to) ≡ cond (ltb i to) 32 10
+  mark-is : to ≤ length ss → mark (numbered ss i to) ≡ cond (ltb i to) 32 10
   mark-is k = go (ltb i to) refl
     where
       go : (t : Bool) → ltb i to ≡ t → mark (numbered ss i to) ≡ cond t 32 10

@@ -1,4 +1,5 @@
 pub mod Form
 pub mod Made
 pub mod Writable
+pub mod Writing
 pub mod Says

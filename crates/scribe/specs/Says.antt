@@ -1,5 +1,5 @@
--- What the writer's functions say of the lent buffer. Each of them can run dry: it then writes nothing and only counts, so that a caller sees whether
--- there is room (document 02, Item 13: a buffer that is too short is left as it was).
+-- What the writer's inner functions say: bytes put into the lent buffer from a place on, and the pairs passed over job by job. Each function can run
+-- dry: it then writes nothing and only counts.
 use Prim.Native.Nat.{ℕ, suc, _+_, _*_, _≤_, _<_}
 use mathlib.Core.Path.{_≡_}
 use mathlib.Core.Bool.{Bool, false, cond}
@@ -9,9 +9,7 @@ use lib.ListN.{length, take, drop}
 use lib.Seq.{slice}
 use Rattle.lists.specs.Lists.{_!_}
 use Rattle.joblist.specs.Limits.{mostJobs}
-use Rattle.chains.specs.Listed.{Rising}
-use Rattle.rows.specs.Projects.{Project}
-use Rattle.scribe.specs.Form.{line, written}
+use Rattle.scribe.specs.Form.{line}
 
 -- no text that we write has more bytes than this (proofs/Counts.antt)
 abbrev pub mostBytes : ℕ
@@ -38,20 +36,11 @@ pub record RunEnds (js : List ℕ) (j i r : ℕ) : Type 0 where
   pub same : (k : ℕ) → i ≤ k → k < r → js ! k ≡ j
   pub stops : r < length js → js ! r ≡ j → ⊥
 
--- the whole text stands at the front of the buffer, the bytes beyond stay, and r is how many they are
-pub record Wrote (dry : Bool) (x : Project) (buffer after : List ℕ) (r : ℕ) : Type 0 where
-  pub count : r ≡ length (written x)
-  pub bytes : after ≡ cond dry buffer (written x ++ drop (length (written x)) buffer)
-
 -- m is the byte behind a number where others follow from place i on, up to place `to`
 pub record Marked (i to m : ℕ) : Type 0 where
   pub byte : m ≡ cond (ltb i to) 32 10
 
--- the byte behind a number, and what stands behind that byte, by the numbers that are left on the line
-abbrev pub mark : List ℕ → ℕ
-mark [] = 10
-mark (v ∷ vs) = 32
-
+-- what stands behind the byte behind a number: the rest of the line, by the numbers that are left on it
 abbrev pub behind : List ℕ → List ℕ
 behind [] = []
 behind (v ∷ vs) = line (v ∷ vs)
@@ -66,10 +55,3 @@ pub record Stretch (ss : List ℕ) (from to : ℕ) : Type 0 where
   pub within : to ≤ length ss
   pub few : to ≤ mostJobs * mostJobs
   pub below : (k : ℕ) → k < to → ss ! k < mostJobs
-
--- what the lists are that a project is written from: their lengths, and the pairs in their order
-pub record Given (durs dems js ss : List ℕ) : Type 0 where
-  pub demands : length dems ≡ length durs
-  pub few : length durs ≤ mostJobs
-  pub pairs : length ss ≡ length js
-  pub rising : Rising (length durs) js ss

@@ -6,7 +6,8 @@ ghost use lib.ListN.{length};
 ghost use Rattle.chains.specs.Listed.{paired};
 ghost use Rattle.scribe.specs.Form.{line, jobLines};
 ghost use Rattle.scribe.specs.Made.{rowsFrom};
-ghost use Rattle.scribe.specs.Says.{Room, Put, RunEnds, Marked, behind, numbered, Stretch, Given};
+ghost use Rattle.scribe.specs.Says.{Room, Put, RunEnds, Marked, behind, numbered, Stretch};
+ghost use Rattle.scribe.specs.Writing.{Given};
 
 // The first place from i on whose job is not j.
 fn run_end(jobs: &[u32], j: u32, i: usize) -> usize

@@ -11,7 +11,7 @@ ghost use lib.ListN.{length};
 ghost use Rattle.chains.specs.Listed.{paired};
 ghost use Rattle.scribe.specs.Form.{written};
 ghost use Rattle.scribe.specs.Made.{made};
-ghost use Rattle.scribe.specs.Says.{Given, Wrote};
+ghost use Rattle.scribe.specs.Writing.{Given, Wrote};
 
 // The project of one resource, at the front of the buffer; its number of bytes. A dry run leaves the buffer as it is.
 pub fn write(
