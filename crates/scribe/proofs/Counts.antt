@@ -14,7 +14,7 @@ use Rattle.rows.specs.Projects.{Project, tagged, pairsFrom}
 use Rattle.scribe.specs.Form.{decimal, line, jobLines, written}
 use Rattle.scribe.specs.Made.{successorsOf, rowsFrom, made}
 use Rattle.scribe.specs.Says.{mostBytes, Put, Room}
-use Rattle.scribe.specs.Writing.{Given, Wrote}
+use Rattle.scribe.specs.Writing.{Given, Ran}
 use Rattle.scribe.proofs.Decimals.{decimal-32}
 use Rattle.scribe.proofs.Back.{written-is}
 use Rattle.scribe.proofs.Pairs.{Ups, rising-ups, paired-length, rising-few, every-from}
@@ -105,5 +105,5 @@ module _ (cap : ℕ) {durs dems js ss : List ℕ} (g : Given durs dems js ss) wh
   whole-room c x y h = record { few = omega (arith, written-short c x y); room = λ e. omega (arith, h e) }
 
 -- the whole text put from the start on
-pub put-whole : {dry : Bool} {x : Project} {b b' : List ℕ} {r : ℕ} → Put dry 0 (written x) b b' r → Wrote dry x b b' r
+pub put-whole : {dry : Bool} {x : Project} {b b' : List ℕ} {r : ℕ} → Put dry 0 (written x) b b' r → Ran dry x b b' r
 put-whole {x = x} p = let z : 0 + length (written x) ≡ length (written x) = omega arith in record { count = p .place ∙ z; bytes = p .bytes ∙ rw z }

@@ -1,6 +1,6 @@
 -- What the writer asks for and what it says (document 02, Item 13). A dry run leaves the buffer as it is and only counts, so that a caller sees whether
 -- there is room before a byte is written.
-use Prim.Native.Nat.{ℕ, _≤_}
+use Prim.Native.Nat.{ℕ, _≤_, _<_}
 use mathlib.Core.Path.{_≡_}
 use mathlib.Core.Bool.{Bool, cond}
 use mathlib.Core.List.{List, _++_}
@@ -9,6 +9,8 @@ use Rattle.joblist.specs.Limits.{mostJobs}
 use Rattle.chains.specs.Listed.{Rising}
 use Rattle.rows.specs.Projects.{Project}
 use Rattle.scribe.specs.Form.{written}
+use Rattle.scribe.specs.declared.Outcome.{Outcome}
+use Rattle.scribe.specs.declared.Outcome.the-variants.{Wrote, Short}
 
 -- what the lists are that a project is written from: their lengths, and the pairs in their order
 pub record Given (durs dems js ss : List ℕ) : Type 0 where
@@ -18,6 +20,11 @@ pub record Given (durs dems js ss : List ℕ) : Type 0 where
   pub rising : Rising (length durs) js ss
 
 -- the whole text stands at the front of the buffer, the bytes beyond stay, and r is how many they are
-pub record Wrote (dry : Bool) (x : Project) (buffer after : List ℕ) (r : ℕ) : Type 0 where
+pub record Ran (dry : Bool) (x : Project) (buffer after : List ℕ) (r : ℕ) : Type 0 where
   pub count : r ≡ length (written x)
   pub bytes : after ≡ cond dry buffer (written x ++ drop (length (written x)) buffer)
+
+-- the text written where there is room for it; else the buffer is too short, and is as it was
+abbrev pub OutcomeSays : Project → List ℕ → List ℕ → Outcome → Type 0
+OutcomeSays x buffer after (Wrote n) = (length (written x) ≤ length buffer) × (n ≡ length (written x)) × (after ≡ written x ++ drop (length (written x)) buffer)
+OutcomeSays x buffer after Short = (length buffer < length (written x)) × (after ≡ buffer)

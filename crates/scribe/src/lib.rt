@@ -11,10 +11,36 @@ ghost use lib.ListN.{length};
 ghost use Rattle.chains.specs.Listed.{paired};
 ghost use Rattle.scribe.specs.Form.{written};
 ghost use Rattle.scribe.specs.Made.{made};
-ghost use Rattle.scribe.specs.Writing.{Given, Wrote};
+ghost use Rattle.scribe.specs.Writing.{Given, Ran, OutcomeSays};
 
-// The project of one resource, at the front of the buffer; its number of bytes. A dry run leaves the buffer as it is.
+// The number of bytes written; or the buffer is too short for them.
+pub enum Outcome {
+    Wrote(usize),
+    Short,
+}
+
+// The project of one resource, at the front of the buffer where there is room for it.
 pub fn write(
+    cap: u32,
+    dur: &[u32],
+    dem: &[u32],
+    jobs: &[u32],
+    successors: &[u32],
+    buffer: &mut [u8],
+) -> Outcome
+    requires { ⌜ Given (now dur) (now dem) (now jobs) (now successors) ⌝ }
+    ensures { λ r. ⌜ OutcomeSays (made cap (now (dur .entry)) (now (dem .entry)) (paired (now (jobs .entry)) (now (successors .entry)))) (now (buffer .entry)) (now (buffer .exit)) r ⌝ }
+{
+    let bytes = put_project(true, cap, dur, dem, jobs, successors, buffer);
+    if buffer.len() < bytes {
+        return Outcome::Short;
+    }
+    let end = put_project(false, cap, dur, dem, jobs, successors, buffer);
+    Outcome::Wrote(end)
+}
+
+// The project's bytes put at the front of the buffer, and their number. A dry run leaves the buffer as it is.
+fn put_project(
     dry: bool,
     cap: u32,
     dur: &[u32],
@@ -25,7 +51,7 @@ pub fn write(
 ) -> usize
     requires { ⌜ Given (now dur) (now dem) (now jobs) (now successors) ⌝ }
     requires { ⌜ (dry ≡ false → length (written (made cap (now dur) (now dem) (paired (now jobs) (now successors)))) ≤ length (now buffer)) ⌝ }
-    ensures { λ r. ⌜ Wrote dry (made cap (now (dur .entry)) (now (dem .entry)) (paired (now (jobs .entry)) (now (successors .entry)))) (now (buffer .entry)) (now (buffer .exit)) r ⌝ }
+    ensures { λ r. ⌜ Ran dry (made cap (now (dur .entry)) (now (dem .entry)) (paired (now (jobs .entry)) (now (successors .entry)))) (now (buffer .entry)) (now (buffer .exit)) r ⌝ }
 {
     let a = put(dry, dur.len() as u32, b' ', 0, buffer);
     let b = put(dry, 1, b'\n', a, buffer);

@@ -1,58 +1,43 @@
--- `scribe::write` puts the whole text in four parts: the two counts, the capacity, and the lines of the jobs.
-use native.Mathlib.Omega.{arith}
+-- `scribe::write` meets its contract: a dry run counts the bytes, and a second run puts them where the buffer is long enough.
 use borrow.Author.Needs.{needs}
-use Rattle.chains.specs.Listed.{paired}
-use Rattle.scribe.specs.Form.{written}
-use Rattle.scribe.specs.Made.{made}
-use Rattle.scribe.specs.Says.{Room}
-use Rattle.scribe.proofs.Puts.{room-same, first-room, second-room, third-room, fourth-room, all-put}
-use Rattle.scribe.proofs.Steps.{number-same}
-use Rattle.scribe.proofs.Counts.{write-parts, whole-room, put-whole}
+use native.Mathlib.Omega.{arith}
+use mathlib.Core.Path.{refl, ap, _∙_}
+use lib.ListN.{length}
+use mathlib.Core.Bool.{true}
+use Rattle.lists.proofs.Sets.{clash}
 use Rattle.scribe.proofs.write.Statement.{statement}
 use Rattle.scribe.proofs.write.Tie as tie
-use Rattle.scribe.proofs.write.Reads as reads
-use Rattle.scribe.proofs.write.Lts as lts
-use Rattle.scribe.proofs.jobs.put_jobs.Reads as put-jobs-reads
-use Rattle.scribe.proofs.marks.put.Reads as put-reads
 
--- there is room for the whole text, and it is not too long to be counted
-room : (k : lts.After-shared-slice-known2 (put-reads.Asked, put-reads.Learnt, put-jobs-reads.Asked, put-jobs-reads.Learnt) reads.Pre reads.Post)
-    → let a = k .before .before .args in Room (a .dry) 0 (written (made (a .cap) (a .dur .now) (a .dem .now) (paired (a .jobs .now) (a .successors .now)))) (a .buffer .now)
-room k =
-    let s = k .before .before in
-    whole-room _ (s .pre .0) (s .fits .cap .fits) (λ i. k .before .shared-slice-known .given i .fits) (λ i. k .shared-slice-known2 .given i .fits) (s .pre .1)
-
-cast-put : tie.Need-cast-put
-cast-put c = search needs
-
-put-requires : tie.Need-put-requires
-put-requires c κs = room-same (first-room (write-parts _ (c .before .before .before .before .before .before .pre .0)) (room (c .before .before .before .before))) (omega arith) (number-same (omega arith) (omega arith))
-
-put-requires-2 : tie.Need-put-requires-2
-put-requires-2 c κs = room-same (second-room (write-parts _ (c .before .before .before .before .before .before .before .before .before .before .pre .0)) (room (c .before .before .before .before .before .before .before .before)) (c .before .before .before .put .ensures)) (omega arith) (number-same (omega arith) (omega arith))
-
-put-requires-3 : tie.Need-put-requires-3
-put-requires-3 c κs = room-same (third-room (write-parts _ (c .before .before .before .before .before .before .before .before .before .before .before .before .before .before .pre .0)) (room (c .before .before .before .before .before .before .before .before .before .before .before .before)) (c .before .before .before .before .before .before .before .put .ensures) (c .before .before .before .put2 .ensures)) (omega arith) (number-same (omega arith) (omega arith))
-
-put-jobs-requires : tie.Need-put-jobs-requires
-put-jobs-requires c κs =
-    let g = c .before .before .before .before .before .before .before .before .before .before .before .before .before .before .before .before .before .before .pre .0 in
-    (g, fourth-room (write-parts _ g) (room (c .before .before .before .before .before .before .before .before .before .before .before .before .before .before .before .before)) (c .before .before .before .before .before .before .before .before .before .before .before .put .ensures) (c .before .before .before .before .before .before .before .put2 .ensures) (c .before .before .before .put3 .ensures))
+put-project-requires : tie.Need-put-project-requires
+put-project-requires c κs = (c .before .before .before .before .before .before .pre, λ e. clash true refl e)
 
 same-length : tie.Need-same-length
 same-length c = search needs
 
 returns : tie.Need-returns
-returns c = put-whole (all-put (write-parts _ (c .before .before .before .before .before .before .before .before .before .before .before .before .before .before .before .before .before .before .before .before .before .pre .0)) (room (c .before .before .before .before .before .before .before .before .before .before .before .before .before .before .before .before .before .before .before)) (c .before .before .before .before .before .before .before .before .before .before .before .before .before .before .put .ensures) (c .before .before .before .before .before .before .before .before .before .before .put2 .ensures) (c .before .before .before .before .before .before .put3 .ensures) (c .before .before .put-jobs .ensures))
+returns c = (omega (arith, c .before .before .before .put-project .ensures .count, c .if1 .taken), c .before .before .before .put-project .ensures .bytes)
+
+put-project-requires-2 : tie.Need-put-project-requires-2
+put-project-requires-2 c κs =
+    let d = c .before .before .before .before .put-project .ensures in
+    (c .before .before .before .before .before .before .before .before .before .before .before .pre, λ e. omega (arith, d .count, ap length (d .bytes), c .before .if1 .left))
+
+same-length-2 : tie.Need-same-length-2
+same-length-2 c = search needs
+
+returns-2 : tie.Need-returns-2
+returns-2 c =
+    let w = c .before .before .put-project2 .ensures in
+    let d = c .before .before .before .before .before .before .before .put-project .ensures in
+    (omega (arith, d .count, c .before .before .before .before .if1 .left), w .count, w .bytes ∙ rw (d .bytes))
 
 pub write-spec : {M : Type 1} → statement M
 write-spec =
     tie.close
     (tie.spec
-    cast-put
-    put-requires
-    put-requires-2
-    put-requires-3
-    put-jobs-requires
+    put-project-requires
     same-length
-    returns)
+    returns
+    put-project-requires-2
+    same-length-2
+    returns-2)

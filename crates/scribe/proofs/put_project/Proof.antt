@@ -1,0 +1,58 @@
+-- `scribe::put_project` puts the whole text in four parts: the two counts, the capacity, and the lines of the jobs.
+use native.Mathlib.Omega.{arith}
+use borrow.Author.Needs.{needs}
+use Rattle.chains.specs.Listed.{paired}
+use Rattle.scribe.specs.Form.{written}
+use Rattle.scribe.specs.Made.{made}
+use Rattle.scribe.specs.Says.{Room}
+use Rattle.scribe.proofs.Puts.{room-same, first-room, second-room, third-room, fourth-room, all-put}
+use Rattle.scribe.proofs.Steps.{number-same}
+use Rattle.scribe.proofs.Counts.{write-parts, whole-room, put-whole}
+use Rattle.scribe.proofs.put_project.Statement.{statement}
+use Rattle.scribe.proofs.put_project.Tie as tie
+use Rattle.scribe.proofs.put_project.Reads as reads
+use Rattle.scribe.proofs.put_project.Lts as lts
+use Rattle.scribe.proofs.jobs.put_jobs.Reads as put-jobs-reads
+use Rattle.scribe.proofs.marks.put.Reads as put-reads
+
+-- there is room for the whole text, and it is not too long to be counted
+room : (k : lts.After-shared-slice-known2 (put-reads.Asked, put-reads.Learnt, put-jobs-reads.Asked, put-jobs-reads.Learnt) reads.Pre reads.Post)
+    → let a = k .before .before .args in Room (a .dry) 0 (written (made (a .cap) (a .dur .now) (a .dem .now) (paired (a .jobs .now) (a .successors .now)))) (a .buffer .now)
+room k =
+    let s = k .before .before in
+    whole-room _ (s .pre .0) (s .fits .cap .fits) (λ i. k .before .shared-slice-known .given i .fits) (λ i. k .shared-slice-known2 .given i .fits) (s .pre .1)
+
+cast-put : tie.Need-cast-put
+cast-put c = search needs
+
+put-requires : tie.Need-put-requires
+put-requires c κs = room-same (first-room (write-parts _ (c .before .before .before .before .before .before .pre .0)) (room (c .before .before .before .before))) (omega arith) (number-same (omega arith) (omega arith))
+
+put-requires-2 : tie.Need-put-requires-2
+put-requires-2 c κs = room-same (second-room (write-parts _ (c .before .before .before .before .before .before .before .before .before .before .pre .0)) (room (c .before .before .before .before .before .before .before .before)) (c .before .before .before .put .ensures)) (omega arith) (number-same (omega arith) (omega arith))
+
+put-requires-3 : tie.Need-put-requires-3
+put-requires-3 c κs = room-same (third-room (write-parts _ (c .before .before .before .before .before .before .before .before .before .before .before .before .before .before .pre .0)) (room (c .before .before .before .before .before .before .before .before .before .before .before .before)) (c .before .before .before .before .before .before .before .put .ensures) (c .before .before .before .put2 .ensures)) (omega arith) (number-same (omega arith) (omega arith))
+
+put-jobs-requires : tie.Need-put-jobs-requires
+put-jobs-requires c κs =
+    let g = c .before .before .before .before .before .before .before .before .before .before .before .before .before .before .before .before .before .before .pre .0 in
+    (g, fourth-room (write-parts _ g) (room (c .before .before .before .before .before .before .before .before .before .before .before .before .before .before .before .before)) (c .before .before .before .before .before .before .before .before .before .before .before .put .ensures) (c .before .before .before .before .before .before .before .put2 .ensures) (c .before .before .before .put3 .ensures))
+
+same-length : tie.Need-same-length
+same-length c = search needs
+
+returns : tie.Need-returns
+returns c = put-whole (all-put (write-parts _ (c .before .before .before .before .before .before .before .before .before .before .before .before .before .before .before .before .before .before .before .before .before .pre .0)) (room (c .before .before .before .before .before .before .before .before .before .before .before .before .before .before .before .before .before .before .before)) (c .before .before .before .before .before .before .before .before .before .before .before .before .before .before .put .ensures) (c .before .before .before .before .before .before .before .before .before .before .put2 .ensures) (c .before .before .before .before .before .before .put3 .ensures) (c .before .before .put-jobs .ensures))
+
+pub put-project-spec : {M : Type 1} → statement M
+put-project-spec =
+    tie.close
+    (tie.spec
+    cast-put
+    put-requires
+    put-requires-2
+    put-requires-3
+    put-jobs-requires
+    same-length
+    returns)
