@@ -7,7 +7,7 @@ use lib.Dec.{ltb}
 use lib.ListN.{length}
 use Rattle.rows.specs.Projects.{Row, Project}
 
--- the decimal digits of v, at most m of them
+-- the decimal digits of v, at most m of them; what `let` names is computed only where it is asked for
 unfoldable pub decimalIn : ℕ → ℕ → List ℕ
 decimalIn zero v = []
 decimalIn (suc m) v = let longer = decimalIn m (v / 10) ++ ((48 + v % 10) ∷ []) in cond (ltb v 10) ((48 + v) ∷ []) longer
