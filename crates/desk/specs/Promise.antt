@@ -9,9 +9,14 @@ pub use Rattle.replay.specs.Replay.{Checked, finds}
 pub use Rattle.replay.specs.Promise.{Checks}
 pub use Rattle.readhead.specs.Promise.{Overloads}
 pub use Rattle.chains.specs.Paths.{Pair, Precedes, Listed, Path, Cycle, Chain, Longest, Back, Longer}
+pub use Rattle.chains.specs.Listed.{paired, Rising, NotRising}
 pub use Rattle.rows.specs.Projects.{Row, Project, pairsOf}
 pub use Rattle.rows.specs.Patterson.{patterson}
+pub use Rattle.psplib.specs.Psplib.{psplib}
+pub use Rattle.scribe.specs.Form.{written}
+pub use Rattle.scribe.specs.Made.{made}
 pub use Rattle.layouts.specs.Calls.{Lent, TextCall, TextAfter}
 pub use Rattle.layouts.specs.Tests.{Fits, Unfit, Refusal}
 pub use Rattle.layouts.specs.Table.{Filled, Taken, Answered}
 pub use Rattle.layouts.specs.Promise.{Written, Respects, Reads}
+pub use Rattle.layouts.specs.Write.{WriteCall, WriteAfter, textOf, WriteRefusal, WriteLeaves, WriteAnswered, SaysSame, textLeft, Writes}

@@ -3,6 +3,8 @@
 // declared.
 pub use journal::show_record;
 pub use layouts::read_patterson;
+pub use layouts::read_psplib;
+pub use layouts::write_patterson;
 pub use planner::narrow;
 pub use readhead::overload;
 pub use replay::check_log;

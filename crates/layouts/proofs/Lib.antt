@@ -5,4 +5,6 @@ pub mod Meaning
 pub mod One
 pub mod When
 pub mod Computed
+pub mod WriteTests
+pub mod WriteBack
 pub mod Cases

@@ -16,16 +16,16 @@ use Rattle.layouts.specs.Tests.{Fitting, Misfit, Fits, Unfit, TooLong, U
 -- ---- one number alone
 
 -- a set of numbers with no two in it
-abbrev Alone : (ℕ → Type 0) → Type 0
+abbrev pub Alone : (ℕ → Type 0) → Type 0
 Alone P = (c d : ℕ) → P c → P d → c ≡ d
 
-unless-alone : (k : ℕ) (Fact Fault : Type 0) (Next : ℕ → Type 0) → (Fact → Fault → ⊥) → Alone Next → Alone (Unless k Fact Fault Next)
+pub unless-alone : (k : ℕ) (Fact Fault : Type 0) (Next : ℕ → Type 0) → (Fact → Fault → ⊥) → Alone Next → Alone (Unless k Fact Fault Next)
 unless-alone k Fact Fault Next f g c d (inl p) (inl q) = p .1 ∙ sym (q .1)
 unless-alone k Fact Fault Next f g c d (inl p) (inr q) = absurd (f (q .0) (p .0))
 unless-alone k Fact Fault Next f g c d (inr p) (inl q) = absurd (f (p .0) (q .0))
 unless-alone k Fact Fault Next f g c d (inr p) (inr q) = g c d (p .1) (q .1)
 
-none-alone : Alone None
+pub none-alone : Alone None
 none-alone c d p q = p ∙ sym q
 
 fits-apart : (n m e l d q j s : ℕ) → Fitting n m e l d q j s → Misfit n m e l d q j s → ⊥

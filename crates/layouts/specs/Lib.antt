@@ -4,3 +4,4 @@ pub mod Table
 pub mod Promise
 pub mod When
 pub mod Parts
+pub mod Write

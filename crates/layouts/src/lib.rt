@@ -1,11 +1,13 @@
-// The readers of project texts (document 02, Items 1 and 13): a partner's text becomes a job list and its precedence pairs. They differ in their
-// layouts alone.
+// Project texts (document 02, Items 1 and 13). The readers make a job list and its precedence pairs of a partner's text; they differ in their layouts
+// alone. The writer (`write`) makes a text of them.
 mod fill;
 mod parts;
 mod whole;
+mod write;
 
 use answers::ReadAnswer;
 use whole::read_parsed;
+pub use write::write_patterson;
 ghost use Rattle.answers.specs.Said.{saysRead};
 ghost use Rattle.rows.specs.Patterson.{patterson};
 ghost use Rattle.psplib.specs.Psplib.{psplib};

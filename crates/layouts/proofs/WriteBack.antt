@@ -1,0 +1,102 @@
+-- What is written is read back (document 02, Item 13): the text that the writer leaves says what it was given, and Item 1's reader, with any horizon that
+-- it takes, gives back the same capacity, durations, demands and pairs. It can refuse such a text by its own arguments alone.
+use Prim.Native.Nat.{ℕ, zero, suc, _≤_, _<_}
+use native.Mathlib.Omega.{arith}
+use mathlib.Core.Path.{_≡_, refl, sym, ap, _∙_, subst}
+use mathlib.Core.List.{List, [], _∷_, _++_, map}
+use mathlib.Core.Logic.{_⊎_, inl, inr, _↔_}
+use lib.ListN.{length, drop, take}
+use lib.Seq.{take-append-seam}
+use Rattle.lists.specs.Lists.{_!_, Every}
+use Rattle.answers.specs.Said.{Word, Said, said}
+use Rattle.answers.proofs.Same.{not-said}
+use Rattle.joblist.specs.Limits.{mostTime, mostDemand}
+use Rattle.joblist.specs.GoodList.{GoodList, refusal}
+use Rattle.chains.specs.Paths.{Pair, Precedes, Cycle}
+use Rattle.chains.specs.Listed.{paired, Rising, NotRising}
+use Rattle.texts.specs.Readings.{good}
+use Rattle.texts.proofs.Readings.{good-one}
+use Rattle.rows.specs.Projects.{Project, pairsOf, durations, demandsOn}
+use Rattle.rows.specs.Patterson.{patterson}
+use Rattle.scribe.specs.Form.{written}
+use Rattle.scribe.specs.Made.{made}
+use Rattle.scribe.proofs.Pairs.{every-from}
+use Rattle.scribe.proofs.Rows.{made-back, pairs-back, durations-back, demands-back}
+use Rattle.layouts.specs.Calls.{Lent, TextCall, TextAfter}
+use Rattle.layouts.specs.Promise.{Reads}
+use Rattle.layouts.specs.Write.{WriteCall, WriteAfter, pairsIn, textOf, columns, alone, PairsTested, WriteRefusal, WriteLeaves, WriteAnswered, SaysSame, textLeft, Writes}
+use Rattle.layouts.proofs.WriteTests.{by-lists, good-lists, behind-lists, WritePassed, passed-none, left-by, written-exactly}
+
+-- ---- the text that is left says the same
+
+module _ (c : WriteCall) (p : WritePassed c) where
+  abbrev said-by : Project
+  said-by = made (c .cap) (c .dur) (c .dem) (pairsIn c)
+
+  text-back : patterson (textOf c) ≡ good said-by []
+  text-back =
+      made-back (length (c .dur)) (c .cap) (c .dur) (c .dem) (c .jobs) (c .successors) (p .rising) (sym (p .even)) refl (p .lists .sized .1 .0) (p .lists .few) (p .lists .beside .0 0)
+      (every-from (λ x. x ≤ mostTime) (c .dur) (λ i h. p .lists .within .0 i)) (every-from (λ x. x ≤ mostDemand) (c .dem) (λ i h. p .lists .within .1 .0 i))
+
+  same-said : SaysSame c said-by
+  same-said = record {
+    capacity = refl;
+    durations = durations-back (length (c .dur)) (c .cap) (c .dur) (c .dem) (c .jobs) (c .successors) (p .rising) (sym (p .even)) refl (p .lists .sized .1 .0);
+    demands = demands-back (length (c .dur)) (c .cap) (c .dur) (c .dem) (c .jobs) (c .successors) (p .rising) (sym (p .even)) refl (p .lists .sized .1 .0);
+    pairs = pairs-back (length (c .dur)) (c .cap) (c .dur) (c .dem) (c .jobs) (c .successors) (p .rising) (sym (p .even)) refl (p .lists .sized .1 .0);
+  }
+
+pub writes-of : (c : WriteCall) (a : WriteAfter) → WriteAnswered c a → Writes c a
+writes-of c a r = record {
+  answered = r;
+  readable = λ e.
+      let none = written-exactly c a r .0 e in
+      let p = passed-none c .0 none in
+      let left : textLeft a ≡ textOf c = ap (λ (y : WriteAfter). textLeft y) (left-by c a r 0 none) ∙ take-append-seam (textOf c) (drop (length (textOf c)) (c .buffer)) in
+      (said-by c p, ap patterson left ∙ text-back c p, same-said c p);
+}
+
+-- ---- from what the parts say to the contract
+
+module _ (c : WriteCall) where
+  -- a refusal, with the buffer as it was
+  abbrev Refuses : ℕ → Type 0
+  Refuses k = Writes c (record { says = said Word.refused (k ∷ []); buffer = c .buffer })
+
+  refuses : (k : ℕ) → (k ≡ 0 → ⊥) → WriteRefusal c k → Refuses k
+  refuses zero f t = absurd (f refl)
+  refuses (suc k) f t = writes-of c _ (record { number = suc k; refusal = t; leaves = refl })
+
+  pub lists-refused : (k : ℕ) → (k ≡ 0 → ⊥) → k ≡ refusal (length (c .dur)) (columns c) (alone c) → Refuses k
+  lists-refused k f e = refuses k f (by-lists c k f e)
+
+  module _ (k : ℕ) (none : k ≡ 0) (tested : k ≡ refusal (length (c .dur)) (columns c) (alone c)) where
+    lists-good : GoodList (length (c .dur)) (columns c) (alone c)
+    lists-good = good-lists c (sym none ∙ tested)
+
+    behind : (k : ℕ) → (k ≡ 0 → ⊥) → PairsTested c k → Refuses k
+    behind k f t = refuses k f (behind-lists c k lists-good t)
+
+    pub pairs-uneven : (length (c .successors) ≡ length (c .jobs) → ⊥) → Refuses 1
+    pairs-uneven f = behind 1 (λ z. omega arith) (inl (f, refl))
+
+    module _ (even : length (c .successors) ≡ length (c .jobs)) where
+      pub not-rising : NotRising (length (c .dur)) (c .jobs) (c .successors) → Refuses 32
+      not-rising f = behind 32 (λ z. omega arith) (inr (even, inl (f, refl)))
+
+      module _ (rising : Rising (length (c .dur)) (c .jobs) (c .successors)) where
+        pub cyclic : Cycle (Precedes (pairsIn c)) → Refuses 33
+        cyclic f = behind 33 (λ z. omega arith) (inr (even, inr (rising, inl (f, refl))))
+
+        module _ (acyclic : Cycle (Precedes (pairsIn c)) → ⊥) (after : List ℕ) where
+          pub too-short : length (c .buffer) < length (textOf c) → after ≡ c .buffer → Writes c (record { says = said Word.refused (36 ∷ []); buffer = after })
+          too-short f e = rw e (behind 36 (λ z. omega arith) (inr (even, inr (rising, inr (acyclic, inl (f, refl))))))
+
+          pub wrote : (bytes : ℕ) → length (textOf c) ≤ length (c .buffer) → bytes ≡ length (textOf c) → after ≡ textOf c ++ drop (length (textOf c)) (c .buffer)
+              → Writes c (record { says = said Word.written (bytes ∷ []); buffer = after })
+          wrote bytes room d e =
+              writes-of c _ (record {
+                number = 0;
+                refusal = passed-none c .1 (record { lists = lists-good; even = even; rising = rising; acyclic = acyclic; room = room });
+                leaves = rw (d, e);
+              })

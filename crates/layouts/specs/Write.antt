@@ -1,0 +1,90 @@
+-- A call of the writer (document 02, Item 13) and what it leaves: its tests in facts and in their order, its answer table, and its promise.
+use Prim.Native.Nat.{ℕ, zero, suc, _≤_, _<_}
+use mathlib.Core.Path.{_≡_}
+use mathlib.Core.List.{List, [], _∷_, _++_}
+use lib.ListN.{length, drop, take}
+use Rattle.lists.specs.Lists.{_!_, Every}
+use Rattle.answers.specs.Said.{Word, Said, said}
+use Rattle.joblist.specs.Limits.{Column, mostJobs, twoLists, supply}
+use Rattle.joblist.specs.GoodList.{Sized, Within, Any, Above, Unequal}
+use Rattle.chains.specs.Paths.{Pair, Precedes, Cycle}
+use Rattle.chains.specs.Listed.{paired, Rising, NotRising}
+use Rattle.texts.specs.Readings.{good}
+use Rattle.rows.specs.Projects.{Project, pairsOf, durations, demandsOn}
+use Rattle.rows.specs.Patterson.{patterson}
+use Rattle.scribe.specs.Form.{written}
+use Rattle.scribe.specs.Made.{made}
+use Rattle.layouts.specs.Tests.{Unless, None}
+
+-- one resource's capacity, durations, demands, jobs and successors of the pairs, and the lent buffer
+pub record WriteCall : Type 0 where
+  pub cap : ℕ
+  pub dur : List ℕ
+  pub dem : List ℕ
+  pub jobs : List ℕ
+  pub successors : List ℕ
+  pub buffer : List ℕ
+
+-- the answer, and the buffer
+pub record WriteAfter : Type 0 where
+  pub says : Said
+  pub buffer : List ℕ
+
+-- the pairs in the call's lists
+abbrev pub pairsIn : WriteCall → List Pair
+pairsIn c = paired (c .jobs) (c .successors)
+
+-- the bytes to be written: the project that the lists say, in the form of document 01
+abbrev pub textOf : WriteCall → List ℕ
+textOf c = written (made (c .cap) (c .dur) (c .dem) (pairsIn c))
+
+-- the lists, and the number that stands beside them
+abbrev pub columns : WriteCall → List Column
+columns c = twoLists (c .dur) (c .dem)
+
+abbrev pub alone : WriteCall → List Column
+alone c = supply (c .cap)
+
+-- behind tests 1 to 3: the pairs' lists differ in length; a pair is out of range or out of order; there is a cycle; the buffer is too short
+abbrev pub PairsTested : WriteCall → ℕ → Type 0
+PairsTested c =
+    Unless 1 (length (c .successors) ≡ length (c .jobs)) (length (c .successors) ≡ length (c .jobs) → ⊥)
+    (Unless 32 (Rising (length (c .dur)) (c .jobs) (c .successors)) (NotRising (length (c .dur)) (c .jobs) (c .successors))
+    (Unless 33 (Cycle (Precedes (pairsIn c)) → ⊥) (Cycle (Precedes (pairsIn c)))
+    (Unless 36 (length (textOf c) ≤ length (c .buffer)) (length (c .buffer) < length (textOf c)) None)))
+
+-- the number of the first test that fails, and 0 where none does
+abbrev pub WriteRefusal : WriteCall → ℕ → Type 0
+WriteRefusal c =
+    Unless 1 (Every (Sized (length (c .dur))) (columns c)) (Unequal (length (c .dur)) (columns c))
+    (Unless 2 (length (c .dur) ≤ mostJobs) (mostJobs < length (c .dur))
+    (Unless 3 (Every Within (columns c) × Every Within (alone c)) (Any Above (columns c ++ alone c))
+    (PairsTested c)))
+
+-- by the number of the refusal: the bytes in front and how many they are said, those beyond as they were; or that number, and the buffer as it was
+abbrev pub WriteLeaves : WriteCall → ℕ → WriteAfter
+WriteLeaves c zero = record { says = said Word.written (length (textOf c) ∷ []); buffer = textOf c ++ drop (length (textOf c)) (c .buffer) }
+WriteLeaves c (suc k) = record { says = said Word.refused (suc k ∷ []); buffer = c .buffer }
+
+-- the answer table
+pub record WriteAnswered (c : WriteCall) (a : WriteAfter) : Type 0 where
+  pub number : ℕ
+  pub refusal : WriteRefusal c number
+  pub leaves : a ≡ WriteLeaves c number
+
+-- a project that says what the call was given
+pub record SaysSame (c : WriteCall) (x : Project) : Type 0 where
+  pub capacity : x .capacities ≡ c .cap ∷ []
+  pub durations : durations (x .rows) ≡ c .dur
+  pub demands : demandsOn 0 (x .rows) ≡ c .dem
+  pub pairs : pairsOf x ≡ pairsIn c
+
+-- the text in front of the buffer, by the number of bytes that is said
+abbrev pub textLeft : WriteAfter → List ℕ
+textLeft a = take (a .says .numbers ! 0) (a .buffer)
+
+-- the contract of the writer
+pub record Writes (c : WriteCall) (a : WriteAfter) : Type 0 where
+  pub answered : WriteAnswered c a
+  -- what is written is a text of the Patterson layout that says the same
+  pub readable : a .says .word ≡ Word.written → (x : Project) × (patterson (textLeft a) ≡ good x []) × SaysSame c x
