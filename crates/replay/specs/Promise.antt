@@ -21,6 +21,7 @@ takenBy Word.settled k = 0
 takenBy Word.refused k = 0
 takenBy Word.none k = 0
 takenBy Word.overload k = 0
+takenBy Word.written k = 0
 takenBy Word.read k = 0
 
 abbrev pub taken : Said → ℕ
