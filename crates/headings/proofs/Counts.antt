@@ -6,15 +6,14 @@ use mathlib.Core.List.{List}
 use lib.ListN.{drop, take}
 use Rattle.texts.specs.Tokens.{tokens}
 use Rattle.texts.specs.Readings.{one}
-use Rattle.headings.specs.Lines.{nextLine, behindLines, behindColon, counted}
-use Rattle.headings.specs.Found.{behind, LineTo}
-use Rattle.headings.proofs.Places.{colon-is}
+use Rattle.headings.specs.Lines.{behind, nextLine, behindLines, counted}
+use Rattle.headings.specs.Found.{LineTo}
 
 -- on the part of the text that ends with the line
 pub counted-part : (top : ℕ) (s : List ℕ) (at end from : ℕ) → LineTo s at end → drop from (take end s) ≡ behind 58 (drop at (take end s))
     → counted top (drop at s) ≡ one top 31 (tokens (drop from (take end s)))
 unfolding counted
-counted-part top s at end from l e = ap (λ (t : List ℕ). one top 31 (tokens t)) (sym (e ∙ sym (colon-is (drop at (take end s))) ∙ ap behindColon (l .same)))
+counted-part top s at end from l e = ap (λ (t : List ℕ). one top 31 (tokens t)) (sym (e ∙ ap (behind 58) (l .same)))
 
 -- ---- lines
 

@@ -13,7 +13,7 @@ use Rattle.lists.proofs.Tests.{both-true, true-both}
 use Rattle.texts.specs.Tokens.{Token, tokens}
 use Rattle.texts.specs.Readings.{bad, good}
 use Rattle.texts.proofs.Readings.{one-takes, one-codes}
-use Rattle.headings.specs.Lines.{line, behindColon, counted}
+use Rattle.headings.specs.Lines.{line, behind, counted}
 use Rattle.headings.specs.Headings.{headings, Mark, marks, inOrder}
 
 -- ---- headings in order
@@ -55,8 +55,8 @@ in-order-which s = (to, order-from 0 5 (marks s) (omega arith))
 module _ (top : ℕ) (s : List ℕ) where
   pub counted-codes : (c : ℕ) → counted top s ≡ bad c → (c ≡ 30) ⊎ (c ≡ 31)
   unfolding counted
-  counted-codes c e = one-codes top 31 c (tokens (behindColon (line s))) e
+  counted-codes c e = one-codes top 31 c (tokens (behind 58 (line s))) e
 
   pub counted-takes : (v : ℕ) (rest : List Token) → counted top s ≡ good v rest → v ≤ top
   unfolding counted
-  counted-takes v rest e = one-takes top 31 v (tokens (behindColon (line s))) rest e .1
+  counted-takes v rest e = one-takes top 31 v (tokens (behind 58 (line s))) rest e .1

@@ -6,7 +6,7 @@ use mathlib.Core.Bool.{Bool, true, false, cond}
 use mathlib.Core.List.{List, [], _∷_, _++_}
 use lib.Dec.{eqb}
 use lib.ListN.{length, drop, length-drop}
-use Rattle.headings.specs.Lines.{nextLine}
+use Rattle.headings.specs.Lines.{behind, nextLine}
 use Rattle.headings.specs.Headings.{headings, unspaced, Mark, markOf, lineMark, laterMarks, marks}
 
 pub marks-none : marks [] ≡ []
@@ -15,7 +15,7 @@ marks-none = refl
 
 -- the headings of later lines are those of the text behind the first line
 later-is : (s : List ℕ) → laterMarks s ≡ marks (nextLine s)
-unfolding laterMarks marks nextLine
+unfolding laterMarks marks behind
 later-is [] = refl
 later-is (b ∷ s) = go (eqb b 10) (later-is s)
   where
@@ -33,7 +33,7 @@ unfolding lineMark
 line-mark s t ms e q = rw (← e) q
 
 next-less : (s : List ℕ) → length (nextLine s) ≤ length s - 1
-unfolding nextLine
+unfolding behind
 next-less [] = omega arith
 next-less (b ∷ s) = go (eqb b 10) (next-less s)
   where

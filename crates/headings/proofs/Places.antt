@@ -11,9 +11,9 @@ use lib.Seq.{drop-cons, take-all, slice-empty, slice-cons}
 use borrow.Author.Tests.{eq-eqb, ne-eqb}
 use Rattle.lists.specs.Lists.{_!_}
 use Rattle.lists.specs.Tests.{both}
-use Rattle.headings.specs.Lines.{line, nextLine, behindColon}
+use Rattle.headings.specs.Lines.{line, behind}
 use Rattle.headings.specs.Headings.{startsWith, unspaced}
-use Rattle.headings.specs.Found.{behind, LineTo}
+use Rattle.headings.specs.Found.{LineTo}
 
 -- ---- bytes compared
 
@@ -41,16 +41,6 @@ pub part-rest : (s : List ℕ) (at : ℕ) → take (length s - at) (drop at s) �
 part-rest s at = take-all (length s - at) (drop at s) (omega (arith, length-drop at s))
 
 -- ---- the first byte of a kind
-
-pub next-is : (s : List ℕ) → nextLine s ≡ behind 10 s
-unfolding nextLine behind
-next-is [] = refl
-next-is (b ∷ s) = ap (cond (eqb b 10) s) (next-is s)
-
-pub colon-is : (s : List ℕ) → behindColon s ≡ behind 58 s
-unfolding behindColon behind
-colon-is [] = refl
-colon-is (b ∷ s) = ap (cond (eqb b 58) s) (colon-is s)
 
 module _ (s : List ℕ) (i : ℕ) where
   pub unspaced-end : length s ≤ i → drop i s ≡ unspaced (drop i s)

@@ -1,9 +1,8 @@
 -- What the functions of this crate say of a place in the text s: `drop at s` is what is left of it from the place `at` on.
 use Prim.Native.Nat.{ℕ, _≤_, _<_}
 use mathlib.Core.Path.{_≡_}
-use mathlib.Core.Bool.{Bool, true, false, cond}
+use mathlib.Core.Bool.{Bool, true, false}
 use mathlib.Core.List.{List, [], _∷_}
-use lib.Dec.{eqb}
 use lib.ListN.{length, drop}
 use lib.Seq.{slice}
 use Rattle.lists.specs.Lists.{_!_}
@@ -15,11 +14,6 @@ use Rattle.headings.specs.declared.Stands.{Stands}
 use Rattle.headings.specs.declared.Stands.the-variants.{Heading, Nothing}
 use Rattle.headings.specs.declared.Count.{Count}
 use Rattle.headings.specs.declared.Count.the-variants.{Is, Not}
-
--- the text behind the first byte b, and nothing where it has none
-unfoldable pub behind : ℕ → List ℕ → List ℕ
-behind b [] = []
-behind b (c ∷ s) = cond (eqb c b) s (behind b s)
 
 -- from `at` up to `to` stands the rest of a line
 pub record LineTo (s : List ℕ) (at to : ℕ) : Type 0 where

@@ -11,23 +11,22 @@ unfoldable pub line : List ℕ → List ℕ
 line [] = []
 line (b ∷ s) = cond (eqb b 10) [] (b ∷ line s)
 
--- the text behind that line
-unfoldable pub nextLine : List ℕ → List ℕ
-nextLine [] = []
-nextLine (b ∷ s) = cond (eqb b 10) s (nextLine s)
+-- the text behind its first byte b, and nothing where it has none
+unfoldable pub behind : ℕ → List ℕ → List ℕ
+behind b [] = []
+behind b (c ∷ s) = cond (eqb c b) s (behind b s)
+
+-- the text behind its first line
+abbrev pub nextLine : List ℕ → List ℕ
+nextLine s = behind 10 s
 
 -- the text behind so many lines
 unfoldable pub behindLines : ℕ → List ℕ → List ℕ
-unfolding nextLine
+unfolding behind
 behindLines zero s = s
 behindLines (suc m) s = behindLines m (nextLine s)
 
--- the text behind its first colon, and nothing where it has none
-unfoldable pub behindColon : List ℕ → List ℕ
-behindColon [] = []
-behindColon (b ∷ s) = cond (eqb b 58) s (behindColon s)
-
 -- the number behind the first colon of the line: 30 where none stands there, 31 where it is above `top`
 unfoldable pub counted : ℕ → List ℕ → Read ℕ
-unfolding line behindColon
-counted top s = one top 31 (tokens (behindColon (line s)))
+unfolding line behind
+counted top s = one top 31 (tokens (behind 58 (line s)))

@@ -1,9 +1,9 @@
 // From place to place along a text.
 ghost use mathlib.Core.Path.{_≡_};
 ghost use lib.ListN.{drop};
-ghost use Rattle.headings.specs.Lines.{nextLine};
+ghost use Rattle.headings.specs.Lines.{behind, nextLine};
 ghost use Rattle.headings.specs.Headings.{startsWith, unspaced};
-ghost use Rattle.headings.specs.Found.{behind, LineTo};
+ghost use Rattle.headings.specs.Found.{LineTo};
 
 // Whether the text starts with these bytes.
 fn starts_with(text: &[u8], word: &[u8]) -> bool

@@ -7,4 +7,5 @@ pub mod When
 pub mod Computed
 pub mod WriteTests
 pub mod WriteBack
+pub mod RoundTrip
 pub mod Cases

@@ -136,39 +136,40 @@ module _ (x : Project) (resource horizon : ℕ) (L K : Lent) (limits : Within x)
 
 -- ---- of any call whose layout keeps to the limits
 
-module _ (c : TextCall) (limits : (x : Project) (rest : List Token) → c .text ≡ good x rest → Within x) (a : TextAfter) where
+module _ (c : TextCall) (a : TextAfter) where
   -- an answer that says `read` is of a text that was read
-  read-taken : Answered c a → a .says .word ≡ Word.read → Taken c a × Refusal c 0
+  pub read-taken : Answered c a → a .says .word ≡ Word.read → Taken c a × Refusal c 0
   read-taken r e = go (r .number) (r .refusal) (r .leaves)
     where
       go : (k : ℕ) → Refusal c k → Leaves c a k → Taken c a × Refusal c 0
       go zero t l = (l, t)
       go (suc k) t l = absurd (not-said Word.refused Word.read (λ z. omega arith) (sym (ap (λ (y : TextAfter). y .says .word) l) ∙ e))
 
+module _ (c : TextCall) (limits : (x : Project) (rest : List Token) → c .text ≡ good x rest → Within x) (a : TextAfter) where
   pub reads-of : Answered c a → Reads c a
   reads-of r = record {
     answered = r;
     good = λ e.
-        let t = read-taken r e in
+        let t = read-taken c a r e in
         let y = t .0 in
         let n = refusal-none c (y .x) (y .rest) (y .text) (t .1) in
         subst (λ (m : ℕ). GoodList (jobs (windows (a .lent))) (fourLists (windows (a .lent)) (a .lent .dur) (a .lent .dem)) (supply m))
         (sym (ap (λ (z : Said). z .numbers ! 0) (y .says)))
         (filled-good (y .x) (c .resource) (c .horizon) (c .lent) (a .lent) (limits (y .x) (y .rest) (y .text)) (n .0) (n .1) (y .filled));
     long = λ e.
-        let t = read-taken r e in
+        let t = read-taken c a r e in
         let y = t .0 in
         let n = refusal-none c (y .x) (y .rest) (y .text) (t .1) in
         filled-long (y .x) (c .resource) (c .horizon) (c .lent) (a .lent) (limits (y .x) (y .rest) (y .text)) (n .0) (n .1) (y .filled);
     ordered = λ e.
-        let t = read-taken r e in
+        let t = read-taken c a r e in
         let y = t .0 in
         let n = refusal-none c (y .x) (y .rest) (y .text) (t .1) in
         subst (λ (m : ℕ). Below (length (a .lent .dur)) (Written (a .lent) m) × (Cycle (Written (a .lent) m) → ⊥))
         (sym (ap (λ (z : Said). z .numbers ! 1) (y .says)))
         (filled-ordered (y .x) (c .resource) (c .horizon) (c .lent) (a .lent) (limits (y .x) (y .rest) (y .text)) (n .0) (n .1) (y .filled));
     kept = λ e s.
-        let t = read-taken r e in
+        let t = read-taken c a r e in
         let y = t .0 in
         let n = refusal-none c (y .x) (y .rest) (y .text) (t .1) in
         subst (λ (m : ℕ). Respects (a .lent) m (c .horizon) s → Schedule (length (a .lent .dur)) (a .lent .dur) (Respects (a .lent) m (c .horizon)) (windows (a .lent)) s)

@@ -57,42 +57,55 @@ module _ (c : TextCall) where
   of-tested : (k : ℕ) (s : Says c) → Tested (s .x) (c .resource) (c .horizon) (c .lent) k → Refusal c k
   of-tested k s t = refusal-of c (s .x) (s .rest) (s .text) k (s .near) t
 
-  -- which test of a project gives k
-  by-test : (x : Project) (k : ℕ) → Tested x (c .resource) (c .horizon) (c .lent) k → (k ≡ 37) ⊎ ((k ≡ 38) ⊎ ((k ≡ 33) ⊎ ((k ≡ 34) ⊎ (k ≡ 0))))
-  by-test x k (inl p) = inl (p .1)
-  by-test x k (inr (u, inl p)) = inr (inl (p .1))
-  by-test x k (inr (u, inr (v, inl p))) = inr (inr (inl (p .1)))
-  by-test x k (inr (u, inr (v, inr (w, inl p)))) = inr (inr (inr (inl (p .1))))
-  by-test x k (inr (u, inr (v, inr (w, inr (y, p))))) = inr (inr (inr (inr p)))
+  -- the tests of a project give numbers from 33 on, 35 left out, and 0
+  abbrev OfProject : ℕ → Type 0
+  OfProject k = (k ≡ 0) ⊎ ((33 ≤ k) × (k ≡ 35 → ⊥))
 
-  -- no test of a project gives 30, 31 or 32
-  no-test : (x : Project) (k : ℕ) → 30 ≤ k → k ≤ 32 → Tested x (c .resource) (c .horizon) (c .lent) k → ⊥
-  no-test x k a b t = go (by-test x k t)
-    where
-      go : (k ≡ 37) ⊎ ((k ≡ 38) ⊎ ((k ≡ 33) ⊎ ((k ≡ 34) ⊎ (k ≡ 0)))) → ⊥
-      go (inl p) = omega arith
-      go (inr (inl p)) = omega arith
-      go (inr (inr (inl p))) = omega arith
-      go (inr (inr (inr (inl p)))) = omega arith
-      go (inr (inr (inr (inr p)))) = omega arith
+  by-test : (x : Project) (k : ℕ) → Tested x (c .resource) (c .horizon) (c .lent) k → OfProject k
+  by-test x k (inl p) = inr (omega (arith, p .1), λ e. omega (arith, p .1))
+  by-test x k (inr (u, inl p)) = inr (omega (arith, p .1), λ e. omega (arith, p .1))
+  by-test x k (inr (u, inr (v, inl p))) = inr (omega (arith, p .1), λ e. omega (arith, p .1))
+  by-test x k (inr (u, inr (v, inr (w, inl p)))) = inr (omega (arith, p .1), λ e. omega (arith, p .1))
+  by-test x k (inr (u, inr (v, inr (w, inr (y, p))))) = inl p
 
-  -- 30 and 32 are the text's alone
-  pub when-text : (k : ℕ) → 30 ≤ k → k ≤ 32 → (k ≡ 31 → ⊥) → Refusal c k ↔ Meets c k
-  when-text k a b d = (λ r. to (parts k r), of-text k)
+  -- the text's own numbers but 31
+  abbrev OfText : ℕ → Type 0
+  OfText k = (k ≡ 30) ⊎ ((k ≡ 32) ⊎ (k ≡ 35))
+
+  text-apart : (k : ℕ) → OfText k → OfProject k → ⊥
+  text-apart k (inl e) (inl p) = omega arith
+  text-apart k (inr (inl e)) (inl p) = omega arith
+  text-apart k (inr (inr e)) (inl p) = omega arith
+  text-apart k (inl e) (inr p) = omega (arith, p .0)
+  text-apart k (inr (inl e)) (inr p) = omega (arith, p .0)
+  text-apart k (inr (inr e)) (inr p) = p .1 e
+
+  not-31 : (k : ℕ) → OfText k → k ≡ 31 → ⊥
+  not-31 k (inl e) z = omega arith
+  not-31 k (inr (inl e)) z = omega arith
+  not-31 k (inr (inr e)) z = omega arith
+
+  -- 30, 32 and 35 are the text's alone
+  pub when-text : (k : ℕ) → OfText k → Refusal c k ↔ Meets c k
+  when-text k d = (λ r. to (parts k r), of-text k)
     where
       to : ((mostTime < c .horizon) × (k ≡ 31)) ⊎ (Meets c k ⊎ ((s : Says c) × Tested (s .x) (c .resource) (c .horizon) (c .lent) k)) → Meets c k
-      to (inl p) = absurd (d (p .1))
+      to (inl p) = absurd (not-31 k d (p .1))
       to (inr (inl m)) = m
-      to (inr (inr (s, t))) = absurd (no-test (s .x) k a b t)
+      to (inr (inr (s, t))) = absurd (text-apart k d (by-test (s .x) k t))
 
   -- 31 is the horizon's too
   pub when-31 : Refusal c 31 ↔ AboveLimit c
   when-31 = (λ r. to (parts 31 r), from)
     where
+      nothing : OfProject 31 → ⊥
+      nothing (inl p) = omega arith
+      nothing (inr p) = omega (arith, p .0)
+
       to : ((mostTime < c .horizon) × (_≡_ {A = ℕ} 31 31)) ⊎ (Meets c 31 ⊎ ((s : Says c) × Tested (s .x) (c .resource) (c .horizon) (c .lent) 31)) → AboveLimit c
       to (inl p) = inl (p .0)
       to (inr (inl m)) = inr m
-      to (inr (inr (s, t))) = absurd (no-test (s .x) 31 (omega arith) (omega arith) t)
+      to (inr (inr (s, t))) = absurd (nothing (by-test (s .x) 31 t))
 
       from : AboveLimit c → Refusal c 31
       from (inl p) = inl (p, refl)

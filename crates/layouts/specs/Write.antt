@@ -14,6 +14,7 @@ use Rattle.rows.specs.Projects.{Project, pairsOf, durations, demandsOn}
 use Rattle.rows.specs.Patterson.{patterson}
 use Rattle.scribe.specs.Form.{written}
 use Rattle.scribe.specs.Made.{made}
+use Rattle.layouts.specs.Calls.{Lent, TextAfter}
 use Rattle.layouts.specs.Tests.{Unless, None}
 
 -- one resource's capacity, durations, demands, jobs and successors of the pairs, and the lent buffer
@@ -88,3 +89,11 @@ pub record Writes (c : WriteCall) (a : WriteAfter) : Type 0 where
   pub answered : WriteAnswered c a
   -- what is written is a text of the Patterson layout that says the same
   pub readable : a .says .word ≡ Word.written → (x : Project) × (patterson (textLeft a) ≡ good x []) × SaysSame c x
+
+-- what a reader of such a text gives back, L being the lists that were lent: the same capacity, durations, demands and pairs
+pub record GivenBack (c : WriteCall) (L : Lent) (b : TextAfter) : Type 0 where
+  pub says : b .says ≡ said Word.read (c .cap ∷ length (c .jobs) ∷ [])
+  pub dur : b .lent .dur ≡ c .dur
+  pub dem : b .lent .dem ≡ c .dem
+  pub jobs : b .lent .jobs ≡ c .jobs ++ drop (length (c .jobs)) (L .jobs)
+  pub successors : b .lent .successors ≡ c .successors ++ drop (length (c .jobs)) (L .successors)

@@ -4,7 +4,7 @@ use native.Mathlib.Omega.{arith}
 use mathlib.Core.Path.{_≡_, refl, sym, _∙_}
 use lib.ListN.{length, drop}
 use Rattle.lists.specs.Lists.{_!_}
-use Rattle.headings.specs.Found.{behind}
+use Rattle.headings.specs.Lines.{behind}
 use Rattle.headings.proofs.Places.{behind-here, behind-other, behind-end}
 use Rattle.headings.proofs.lines.behind.Statement.{statement}
 use Rattle.headings.proofs.lines.behind.Tie as tie

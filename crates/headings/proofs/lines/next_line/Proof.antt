@@ -1,6 +1,5 @@
 -- `headings::next_line` meets its contract: a line ends at a line feed.
 use borrow.Author.Needs.{needs}
-use Rattle.headings.proofs.Places.{next-is}
 use Rattle.headings.proofs.lines.next_line.Statement.{statement}
 use Rattle.headings.proofs.lines.next_line.Tie as tie
 
@@ -8,7 +7,7 @@ behind-requires : tie.Need-behind-requires
 behind-requires c κs = search needs
 
 returns : tie.Need-returns
-returns c = rw (c .behind .ensures, next-is)
+returns c = rw (c .behind .ensures)
 
 pub next-line-spec : {M : Type 1} → statement M
 next-line-spec = tie.close (tie.spec behind-requires returns)
