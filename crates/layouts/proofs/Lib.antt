@@ -9,3 +9,5 @@ pub mod WriteTests
 pub mod WriteBack
 pub mod RoundTrip
 pub mod Cases
+pub mod PsplibCases
+pub mod WriteCases

@@ -1,3 +1,5 @@
+pub mod Cases
 pub mod Joined
 pub mod Limits
 pub mod Parsing
+pub mod Exactly
