@@ -138,24 +138,27 @@ module _ (W : Win) (p r : List ℕ) (cap : ℕ) where
       rw (of-four, eq-eqb (length r) (jobs W) h, three-is W p)
       (first-of-three (sized (jobs W) (threeLists W p)) (leb (jobs W) mostJobs) (within (threeLists W p)) (atMost mostDemand r) (leb cap mostDemand) (λ z. k (three-is W p ∙ z)))
 
-  four-rest : length r ≡ jobs W → three ≡ 0 → four ≡ unless (both (atMost mostDemand r) (leb cap mostDemand)) 3 0
+  -- and else the demands and the capacity are tested
+  pub four-rest : length r ≡ jobs W → three ≡ 0 → four ≡ unless (both (atMost mostDemand r) (leb cap mostDemand)) 3 0
   four-rest h k =
       rw (of-four, eq-eqb (length r) (jobs W) h)
       (rest-of-three (sized (jobs W) (threeLists W p)) (leb (jobs W) mostJobs) (within (threeLists W p)) (atMost mostDemand r) (leb cap mostDemand) (sym (three-is W p) ∙ k))
-
-  pub four-demand : length r ≡ jobs W → three ≡ 0 → atMost mostDemand r ≡ false → four ≡ 3
-  four-demand h k d = four-rest h k ∙ rw d
-
-  pub four-supply : length r ≡ jobs W → three ≡ 0 → mostDemand < cap → four ≡ 3
-  four-supply h k c = four-rest h k ∙ rw (lt-leb cap mostDemand c, both-never (atMost mostDemand r))
-
-  pub four-good : length r ≡ jobs W → three ≡ 0 → atMost mostDemand r ≡ true → cap ≤ mostDemand → four ≡ 0
-  four-good h k d c = four-rest h k ∙ rw (d, le-leb cap mostDemand c)
 
 -- the two lists with the capacity
 pub of-two : (p r : List ℕ) (cap : ℕ) → refusal (length p) (twoLists p r) (supply cap)
     ≡ unless (eqb (length r) (length p)) 1
     (unless (leb (length p) mostJobs) 2
-    (unless (both (both (atMost mostTime p) (atMost mostDemand r)) (leb cap mostDemand)) 3 0))
+    (unless (both (atMost mostTime p) (both (atMost mostDemand r) (leb cap mostDemand))) 3 0))
 unfolding refusal sized within
-of-two p r cap = rw (eq-eqb (length p) (length p) refl, both-end (eqb (length r) (length p)), both-end (atMost mostDemand r), within-supply cap)
+of-two p r cap =
+    rw (
+      eq-eqb (length p) (length p) refl,
+      both-end (eqb (length r) (length p)),
+      both-end (atMost mostDemand r),
+      within-supply cap,
+      both-group (atMost mostTime p) (atMost mostDemand r) (leb cap mostDemand),
+    )
+  where
+    both-group : (a b c : Bool) → both (both a b) c ≡ both a (both b c)
+    both-group true b c = refl
+    both-group false b c = refl

@@ -6,10 +6,10 @@ ghost use mathlib.Core.Bool.{Bool, not};
 ghost use mathlib.Core.List.{List, [], _++_};
 ghost use lib.Dec.{leb};
 ghost use lib.ListN.{length, take, drop};
-ghost use Rattle.lists.specs.Tests.{pick};
+ghost use Rattle.lists.specs.Tests.{pick, both};
 ghost use Rattle.lists.specs.Searches.{foundOr};
 ghost use Rattle.narrowing.specs.Windows.{win, closes, lowestTooShort};
-ghost use Rattle.joblist.specs.Limits.{mostJobs, fourLists, threeLists, twoLists, supply};
+ghost use Rattle.joblist.specs.Limits.{mostJobs, mostDemand, fourLists, threeLists, twoLists, supply};
 ghost use Rattle.joblist.specs.GoodList.{atMost, within, refusal};
 
 // The most jobs that a list may have.
@@ -46,7 +46,17 @@ fn above(list: &[u32], most: u32) -> bool
     most < top
 }
 
-// Test 3 of the three lists that every call has.
+// Test 3 of the demands and the capacity.
+fn overdrawn(dem: &[u32], cap: u32) -> bool
+    ensures { λ r. ⌜ r ≡ not (both (atMost mostDemand (now (dem .entry))) (leb cap mostDemand)) ⌝ }
+{
+    if above(dem, DRAW) {
+        return true;
+    }
+    DRAW < cap
+}
+
+// Test 3 of windows and durations.
 fn too_late(est: &[u32], lct: &[u32], dur: &[u32]) -> bool
     ensures { λ r. ⌜ r ≡ not (within (threeLists (win (now (est .entry)) (now (lct .entry))) (now (dur .entry)))) ⌝ }
 {
@@ -89,10 +99,7 @@ pub fn refusal(est: &[u32], lct: &[u32], dur: &[u32], dem: &[u32], cap: u32) -> 
     if number != 0 {
         return number;
     }
-    if above(dem, DRAW) {
-        return 3;
-    }
-    if DRAW < cap {
+    if overdrawn(dem, cap) {
         return 3;
     }
     0
@@ -111,10 +118,7 @@ pub fn refusal_of_two(dur: &[u32], dem: &[u32], cap: u32) -> u32
     if above(dur, TIME) {
         return 3;
     }
-    if above(dem, DRAW) {
-        return 3;
-    }
-    if DRAW < cap {
+    if overdrawn(dem, cap) {
         return 3;
     }
     0
