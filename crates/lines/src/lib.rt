@@ -83,6 +83,20 @@ pub fn list(sink: &mut [u8], at: usize, xs: &[u32]) -> usize
     numbers(sink, next, xs)
 }
 
+// The same with a list of bytes.
+pub fn bytes(sink: &mut [u8], at: usize, xs: &[u8]) -> usize
+    requires { ⌜ at < length (now sink) ⌝ }
+    ensures { λ r. ⌜ r < length (now (sink .entry)) ⌝ }
+{
+    let mut next = number(sink, at, xs.len() as u64);
+    let mut i = 0;
+    while i < xs.len() {
+        next = number(sink, next, wide_byte(xs[i]));
+        i += 1;
+    }
+    next
+}
+
 pub fn end(sink: &mut [u8], at: usize) -> usize
     requires { ⌜ at < length (now sink) ⌝ }
     ensures { λ r. ⌜ r < length (now (sink .entry)) ⌝ }
@@ -91,5 +105,9 @@ pub fn end(sink: &mut [u8], at: usize) -> usize
 }
 
 fn wide(x: u32) -> u64 {
+    x as u64
+}
+
+fn wide_byte(x: u8) -> u64 {
     x as u64
 }

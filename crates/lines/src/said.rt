@@ -5,6 +5,7 @@ use answers::Answer;
 use answers::CheckAnswer;
 use answers::OverloadAnswer;
 use answers::ReadAnswer;
+use answers::WriteAnswer;
 ghost use Prim.Native.Nat.{_<_};
 ghost use lib.ListN.{length};
 
@@ -79,5 +80,15 @@ pub fn reading(sink: &mut [u8], at: usize, a: ReadAnswer) -> usize
     match a {
         ReadAnswer::Read(capacity, pairs) => two(sink, at, b"read", capacity as u64, pairs as u64),
         ReadAnswer::Refused(number) => refused(sink, at, number),
+    }
+}
+
+pub fn writing(sink: &mut [u8], at: usize, a: WriteAnswer) -> usize
+    requires { ⌜ at < length (now sink) ⌝ }
+    ensures { λ r. ⌜ r < length (now (sink .entry)) ⌝ }
+{
+    match a {
+        WriteAnswer::Written(bytes) => one(sink, at, b"written", bytes as u64),
+        WriteAnswer::Refused(number) => refused(sink, at, number),
     }
 }
