@@ -5,6 +5,7 @@ use Rattle.io.specs.Counts.{Counts}
 use Rattle.probe.specs.declared.lent.Times.{Times}
 use Rattle.probe.specs.declared.lent.Jobs.{Jobs}
 use Rattle.probe.specs.declared.lent.Logged.{Logged}
+use Rattle.probe.specs.declared.project.Needs.{Needs}
 use Rattle.probe.specs.declared.project.Pairs.{Pairs}
 
 -- the lists of an overload check
@@ -25,7 +26,12 @@ pub record LoggedIn (n : Logged) (est lct dur dem log : List ℕ) : Type 0 where
   pub jobs-in : JobsIn (n .jobs) est lct dur dem
   pub log-in : Counts (n .log) log
 
--- the pairs and the text of a project list
+-- the durations and demands of a project list to be written
+pub record NeedsIn (n : Needs) (dur dem : List ℕ) : Type 0 where
+  pub dur-in : Counts (n .dur) dur
+  pub dem-in : Counts (n .dem) dem
+
+-- the pairs of a project list, and its text or the buffer for one
 pub record PairsIn (n : Pairs) (jobs successors text : List ℕ) : Type 0 where
   pub jobs-in : Counts (n .jobs) jobs
   pub successors-in : Counts (n .successors) successors

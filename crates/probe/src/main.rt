@@ -5,25 +5,29 @@
 // record K log
 // overload est lct dur
 // patterson RESOURCE HORIZON est lct dur dem jobs successors text
+// psplib RESOURCE HORIZON est lct dur dem jobs successors text
+// write CAP dur dem jobs successors buffer
 //
-// A list is its length and then its numbers. What is written is the answer's word and numbers, then the lent lists as
-// they are afterwards; `unreadable` where the line has any other form. The text is a list of bytes, lent to be read
-// and not written again.
+// A list is its length and then its numbers; a text and a buffer are lists of bytes. What is written is the answer's word and
+// numbers, then the lists that the call may change, as they are afterwards, and for `record` the part that it shows;
+// `unreadable` where the line has any other form.
 mod calls;
 mod input;
 mod lent;
 mod logged;
-mod patterson;
 mod project;
+mod reading;
 mod words;
+mod writing;
 
 use calls::Place;
 use check::same;
 use input::Cursor;
+use project::Layout;
 ghost use Prim.Native.Nat.{_<_};
 ghost use lib.ListN.{length};
 
-// The most words of a log, the most pairs, and the most bytes of a text.
+// The most words of a log, the most pairs, and the most bytes of a text or a buffer.
 const LOG: usize = 131072;
 
 const PAIRS: usize = 70000;
@@ -41,7 +45,8 @@ enum Call {
     Check,
     Record,
     Overload,
-    Patterson,
+    Read(Layout),
+    Write,
     Unknown,
 }
 
@@ -59,7 +64,13 @@ fn named(word: &[u8]) -> Call {
         return Call::Overload;
     }
     if same(word, b"patterson") {
-        return Call::Patterson;
+        return Call::Read(Layout::Patterson);
+    }
+    if same(word, b"psplib") {
+        return Call::Read(Layout::Psplib);
+    }
+    if same(word, b"write") {
+        return Call::Write;
     }
     Call::Unknown
 }
@@ -87,7 +98,8 @@ fn answer(
         Call::Check => logged::check(source, sink, cursor, log),
         Call::Record => calls::record(source, sink, cursor, log),
         Call::Overload => calls::overload(source, sink, cursor),
-        Call::Patterson => patterson::read(source, sink, cursor, jobs, successors, text),
+        Call::Read(layout) => reading::read(source, sink, cursor, layout, jobs, successors, text),
+        Call::Write => writing::write(source, sink, cursor, jobs, successors, text),
         Call::Unknown => Place {
             cursor,
             at: calls::unreadable(sink),

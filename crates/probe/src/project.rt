@@ -1,4 +1,4 @@
-// The numbers and lists of a call that reads a project list, read from its line.
+// The numbers and lists of a call that reads or writes a project list, read from its line.
 use crate::input::Cursor;
 use crate::lent::Jobs;
 use crate::lent::read_jobs;
@@ -6,16 +6,31 @@ use crate::words::SHORT;
 use crate::words::bytes;
 use crate::words::list;
 use crate::words::number;
-ghost use Rattle.probe.specs.Read.{JobsIn, PairsIn};
+ghost use Rattle.probe.specs.Read.{JobsIn, NeedsIn, PairsIn};
 
-// The two numbers, and the lengths of the lists of jobs.
+// The layout that a text is to be read in.
+pub enum Layout {
+    Patterson,
+    Psplib,
+}
+
+// What a reader is asked: the layout, the two numbers, and the lengths of the lists of jobs.
 pub struct Tasks {
+    pub layout: Layout,
     pub resource: u32,
     pub horizon: u32,
     pub jobs: Jobs,
 }
 
-// The lengths of the pair lists and the text, and the cursor behind them.
+// What the writer is asked: the capacity, the lengths of the lists of jobs, and the cursor behind them.
+pub struct Needs {
+    pub cap: u32,
+    pub dur: usize,
+    pub dem: usize,
+    pub cursor: Cursor,
+}
+
+// What both are lent: the lengths of the pair lists and of the text, or of the buffer for one, and the cursor behind them.
 pub struct Pairs {
     pub jobs: usize,
     pub successors: usize,
@@ -27,6 +42,7 @@ pub struct Pairs {
 pub fn read_tasks(
     source: &mut [u8],
     c: Cursor,
+    layout: Layout,
     est: &mut [u32],
     lct: &mut [u32],
     dur: &mut [u32],
@@ -40,13 +56,31 @@ pub fn read_tasks(
     let horizon = second.value as u32;
     let jobs = read_jobs(source, second.cursor, est, lct, dur, dem);
     Tasks {
+        layout,
         resource,
         horizon,
         jobs,
     }
 }
 
+// CAP dur dem
+pub fn read_needs(source: &mut [u8], c: Cursor, dur: &mut [u32], dem: &mut [u32]) -> Needs
+    ensures { λ r. ⌜ NeedsIn r (now (dur .exit)) (now (dem .exit)) ⌝ }
+{
+    let cap = number(source, c, SHORT);
+    let p = list(source, cap.cursor, dur);
+    let d = list(source, p.cursor, dem);
+    let cursor = d.cursor;
+    Needs {
+        cap: cap.value as u32,
+        dur: p.value as usize,
+        dem: d.value as usize,
+        cursor,
+    }
+}
+
 // jobs successors text
+// jobs successors buffer
 pub fn read_pairs(
     source: &mut [u8],
     c: Cursor,

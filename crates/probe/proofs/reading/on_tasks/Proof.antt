@@ -1,8 +1,8 @@
--- `probe::patterson::on_tasks` meets its contract. The three facts that the parts ask are found one by one; the search
+-- `probe::reading::on_tasks` meets its contract. The three facts that the parts ask are found one by one; the search
 -- for all at once breaks off. Assumes nothing.
 use borrow.Author.Needs.{needs}
-use Rattle.probe.proofs.patterson.on_tasks.Statement.{statement}
-use Rattle.probe.proofs.patterson.on_tasks.Tie as tie
+use Rattle.probe.proofs.reading.on_tasks.Statement.{statement}
+use Rattle.probe.proofs.reading.on_tasks.Tie as tie
 
 read-pairs-requires : tie.Need-read-pairs-requires
 read-pairs-requires c κs = search needs
