@@ -1,18 +1,30 @@
 -- Pairs in two lists: they are the pairs that stand at the lists' places, and pairs in rising order and pairs that are not are never both there.
 use Prim.Native.Nat.{ℕ, zero, suc, _≤_, _<_}
 use native.Mathlib.Omega.{arith}
-use mathlib.Core.Path.{_≡_, refl}
-use mathlib.Core.List.{List, [], _∷_}
+use mathlib.Core.Path.{_≡_, refl, ap}
+use mathlib.Core.List.{List, [], _∷_, map}
 use mathlib.Core.Logic.{inl, inr}
 use lib.ListN.{length, drop, drop-of-length-le}
 use Rattle.lists.specs.Lists.{_!_}
-use Rattle.chains.specs.Paths.{pair, Precedes, Listed, Below}
+use Rattle.chains.specs.Paths.{Pair, pair, Precedes, Listed, Below}
 use Rattle.chains.specs.Listed.{paired, InRange, InOrder, Rising, OutOfRange, OutOfOrder, NotRising}
 
 pub paired-length : (js ss : List ℕ) → length ss ≡ length js → length (paired js ss) ≡ length js
 paired-length [] ss e = refl
 paired-length (j ∷ js) [] e = absurd (omega arith)
 paired-length (j ∷ js) (s ∷ ss) e = let q = paired-length js ss (omega arith) in omega (arith, q)
+
+-- the jobs and the successors of pairs that stand in two lists of one length
+pub paired-jobs : (js ss : List ℕ) → length ss ≡ length js → map (λ (p : Pair). p .job) (paired js ss) ≡ js
+paired-jobs [] ss e = refl
+paired-jobs (j ∷ js) [] e = absurd (omega arith)
+paired-jobs (j ∷ js) (s ∷ ss) e = let h : length ss ≡ length js = omega arith in ap (λ (l : List ℕ). j ∷ l) (paired-jobs js ss h)
+
+pub paired-successors : (js ss : List ℕ) → length ss ≡ length js → map (λ (p : Pair). p .successor) (paired js ss) ≡ ss
+paired-successors [] [] e = refl
+paired-successors [] (s ∷ ss) e = absurd (omega arith)
+paired-successors (j ∷ js) [] e = absurd (omega arith)
+paired-successors (j ∷ js) (s ∷ ss) e = let h : length ss ≡ length js = omega arith in ap (λ (l : List ℕ). s ∷ l) (paired-successors js ss h)
 
 -- ---- one of the pairs
 

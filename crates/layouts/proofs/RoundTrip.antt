@@ -11,7 +11,7 @@ use Rattle.answers.specs.Said.{Word, Said, said}
 use Rattle.joblist.specs.Limits.{mostTime}
 use Rattle.chains.specs.Paths.{Pair, Precedes, Cycle}
 use Rattle.chains.specs.Listed.{paired}
-use Rattle.chains.proofs.Listed.{paired-length}
+use Rattle.chains.proofs.Listed.{paired-length, paired-jobs, paired-successors}
 use Rattle.texts.specs.Readings.{Read, good}
 use Rattle.texts.proofs.Readings.{good-one}
 use Rattle.rows.specs.Projects.{Project, pairsOf, durations, demandsOn}
@@ -24,18 +24,6 @@ use Rattle.layouts.proofs.Tests.{Passed, tested-none, none-tested, refu
 use Rattle.layouts.proofs.Meaning.{read-taken}
 use Rattle.layouts.proofs.When.{read-exactly}
 use Rattle.layouts.proofs.WriteTests.{passed-none, written-exactly}
-
--- the jobs and the successors of pairs that stand in two lists of one length
-paired-jobs : (js ss : List ℕ) → length ss ≡ length js → map (λ (p : Pair). p .job) (paired js ss) ≡ js
-paired-jobs [] ss e = refl
-paired-jobs (j ∷ js) [] e = absurd (omega arith)
-paired-jobs (j ∷ js) (s ∷ ss) e = let h : length ss ≡ length js = omega arith in ap (λ (l : List ℕ). j ∷ l) (paired-jobs js ss h)
-
-paired-successors : (js ss : List ℕ) → length ss ≡ length js → map (λ (p : Pair). p .successor) (paired js ss) ≡ ss
-paired-successors [] [] e = refl
-paired-successors [] (s ∷ ss) e = absurd (omega arith)
-paired-successors (j ∷ js) [] e = absurd (omega arith)
-paired-successors (j ∷ js) (s ∷ ss) e = let h : length ss ≡ length js = omega arith in ap (λ (l : List ℕ). s ∷ l) (paired-successors js ss h)
 
 module _ (c : WriteCall) (a : WriteAfter) (w : Writes c a) (wrote : a .says .word ≡ Word.written) (horizon : ℕ) (L : Lent) where
   -- the text that was written, read for its one resource

@@ -8,6 +8,7 @@ use mathlib.Core.Logic.{_⊎_, inl, inr, _↔_}
 use lib.ListN.{length, drop, take}
 use lib.Seq.{take-append-seam}
 use Rattle.lists.specs.Lists.{_!_, Every}
+use Rattle.lists.proofs.Every.{every-from}
 use Rattle.answers.specs.Said.{Word, Said, said}
 use Rattle.answers.proofs.Same.{not-said}
 use Rattle.joblist.specs.Limits.{mostTime, mostDemand}
@@ -20,7 +21,6 @@ use Rattle.rows.specs.Projects.{Project, pairsOf, durations, demandsOn}
 use Rattle.rows.specs.Patterson.{patterson}
 use Rattle.scribe.specs.Form.{written}
 use Rattle.scribe.specs.Made.{made}
-use Rattle.scribe.proofs.Pairs.{every-from}
 use Rattle.scribe.proofs.Rows.{made-back, pairs-back, durations-back, demands-back}
 use Rattle.layouts.specs.Calls.{Lent, TextCall, TextAfter}
 use Rattle.layouts.specs.Promise.{Reads}

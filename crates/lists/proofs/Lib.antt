@@ -14,3 +14,4 @@ pub mod Sets
 pub mod Examples
 pub mod Spares
 pub mod Signed
+pub mod Every

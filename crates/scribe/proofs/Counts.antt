@@ -17,7 +17,9 @@ use Rattle.scribe.specs.Says.{mostBytes, Put, Room}
 use Rattle.scribe.specs.Writing.{Given, Ran}
 use Rattle.scribe.proofs.Decimals.{decimal-32}
 use Rattle.scribe.proofs.Back.{written-is}
-use Rattle.scribe.proofs.Pairs.{Ups, rising-ups, paired-length, rising-few, every-from}
+use Rattle.lists.proofs.Every.{every-from}
+use Rattle.chains.proofs.Listed.{paired-length}
+use Rattle.scribe.proofs.Pairs.{Ups, rising-ups, rising-few}
 use Rattle.scribe.proofs.Rows.{of-below, of-few, rows-length, pairs-back}
 use Rattle.scribe.proofs.Puts.{Parts}
 use Rattle.scribe.proofs.Steps.{line-step}
@@ -93,7 +95,7 @@ module _ (cap : ℕ) {durs dems js ss : List ℕ} (g : Given durs dems js ss) wh
       let few = rising-few n js ss (g .rising) (sym (g .pairs)) in
       let m = mul-le-mul (g .few) (g .few) in
       let lines = jobs-short n 0 durs dems ps u (g .few) same-lists (every-from (λ v. v < 4294967296) durs (λ k l. a k)) (every-from (λ v. v < 4294967296) dems (λ k l. b k)) in
-      let count : length (pairsFrom 0 rs) ≡ length js = ap length (pairs-back n cap durs dems js ss (g .rising) (sym (g .pairs)) refl (g .demands)) ∙ paired-length js ss (sym (g .pairs)) in
+      let count : length (pairsFrom 0 rs) ≡ length js = ap length (pairs-back n cap durs dems js ss (g .rising) (sym (g .pairs)) refl (g .demands)) ∙ paired-length js ss (g .pairs) in
       let jobs = rows-length 0 durs dems ps same-lists in
       let heads = line-short (length rs ∷ 1 ∷ []) (omega (arith, jobs, g .few), (omega arith, tt)) in
       let caps = line-short (cap ∷ []) (c, tt) in

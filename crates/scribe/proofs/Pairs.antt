@@ -2,37 +2,15 @@
 use Prim.Native.Nat.{ℕ, suc, _+_, _*_, _≤_, _<_}
 use native.Mathlib.Omega.{arith}
 use native.Mathlib.Nat.{mul-le-mul-right}
-use mathlib.Core.Path.{_≡_, refl, ap}
+use mathlib.Core.Path.{_≡_, sym}
 use mathlib.Core.List.{List, [], _∷_}
 use mathlib.Core.Logic.{_⊎_, inl, inr}
 use lib.ListN.{length}
-use Rattle.lists.specs.Lists.{_!_, Every}
+use Rattle.lists.specs.Lists.{Every}
+use Rattle.lists.proofs.Every.{every-map, Climbs, climb-few}
 use Rattle.chains.specs.Paths.{Pair, pair}
 use Rattle.chains.specs.Listed.{paired, Rising}
-
--- ---- numbers that rise
-
-pub every-map : {A : Type 0} (P Q : A → Type 0) → ((x : A) → P x → Q x) → (xs : List A) → Every P xs → Every Q xs
-every-map P Q f [] h = tt
-every-map P Q f (x ∷ xs) h = (f x (h .0), every-map P Q f xs (h .1))
-
--- what holds of each place's number holds of every number
-pub every-from : (P : ℕ → Type 0) (xs : List ℕ) → ((k : ℕ) → k < length xs → P (xs ! k)) → Every P xs
-every-from P [] h = tt
-every-from P (x ∷ xs) h = (h 0 (omega arith), every-from P xs (λ k l. h (suc k) (omega arith)))
-
--- each is less than all behind it, by a number of its own
-abbrev pub Climbs : {A : Type 0} → (A → ℕ) → List A → Type 0
-Climbs key [] = Unit {0}
-Climbs key (x ∷ xs) = Every (λ y. key x < key y) xs × Climbs key xs
-
--- then there are no more of them than numbers
-climb-from : {A : Type 0} (key : A → ℕ) (top low : ℕ) (xs : List A) → Climbs key xs → Every (λ x. key x < top) xs → Every (λ x. low ≤ key x) xs → low ≤ top → low + length xs ≤ top
-climb-from key top low [] c h k l = omega arith
-climb-from key top low (x ∷ xs) c h k l = let q = climb-from key top (suc (key x)) xs (c .1) (h .1) (c .0) (h .0) in omega (arith, q, k .0)
-
-pub climb-few : {A : Type 0} (key : A → ℕ) (top : ℕ) (xs : List A) → Climbs key xs → Every (λ x. key x < top) xs → length xs ≤ top
-climb-few key top xs c h = let q = climb-from key top 0 xs c h (every-map (λ x. key x < top) (λ x. 0 ≤ key x) (λ x l. omega arith) xs h) (omega arith) in omega arith
+use Rattle.chains.proofs.Listed.{paired-length}
 
 -- ---- pairs that rise
 
@@ -65,11 +43,6 @@ rising-ups n (j ∷ j' ∷ js) (s ∷ s' ∷ ss) h e =
     let b = h .order 0 (omega arith) in
     (h .range 0 (omega arith), (b, every-map (Before (pair j' s')) (Before (pair j s)) (λ z. before-trans (pair j s) (pair j' s') z b) (paired js ss) (r .1)), r)
 
-pub paired-length : (js ss : List ℕ) → length js ≡ length ss → length (paired js ss) ≡ length js
-paired-length [] ss e = refl
-paired-length (j ∷ js) [] e = absurd (omega arith)
-paired-length (j ∷ js) (s ∷ ss) e = ap suc (paired-length js ss (omega arith))
-
 -- ---- how many pairs
 
 -- a pair's number among all n * n
@@ -96,4 +69,4 @@ rising-few n js ss h e =
     let u = rising-ups n js ss h e in
     let q = climb-few (code n) (n * n) (paired js ss) (ups-climb n (paired js ss) u)
     (every-map (λ x. (x .job < n) × (x .successor < n)) (λ x. code n x < n * n) (code-top n) (paired js ss) (ups-range n (paired js ss) u)) in
-    omega (arith, q, paired-length js ss e)
+    omega (arith, q, paired-length js ss (sym e))

@@ -19,7 +19,8 @@ use Rattle.scribe.specs.Form.{written}
 use Rattle.scribe.specs.Made.{successorsOf, rowsFrom, made}
 use Rattle.scribe.specs.Writable.{WritableRow, Writable}
 use Rattle.scribe.proofs.Back.{read-back}
-use Rattle.scribe.proofs.Pairs.{every-map, Climbs, climb-few, Before, Ups, rising-ups, ups-range}
+use Rattle.lists.proofs.Every.{every-map, Climbs, climb-few}
+use Rattle.scribe.proofs.Pairs.{Before, Ups, rising-ups, ups-range}
 
 -- ---- the successors of one job
 
