@@ -1,26 +1,23 @@
 -- The round trip (document 02, Item 13), over the contracts of both calls: Item 1's reader, with any horizon that it takes, gives back the capacity, the
 -- durations, the demands and the pairs that the writer was given; and it refuses such a text by its own arguments alone.
-use Prim.Native.Nat.{ℕ, zero, suc, _≤_, _<_}
+use Prim.Native.Nat.{ℕ, _≤_, _<_}
 use native.Mathlib.Omega.{arith}
-use mathlib.Core.Path.{_≡_, refl, sym, ap, _∙_, subst}
-use mathlib.Core.List.{List, [], _∷_, _++_, map}
-use mathlib.Core.Logic.{_⊎_, inl, inr, _↔_}
+use mathlib.Core.Path.{_≡_, sym, ap, _∙_}
+use mathlib.Core.List.{List, [], _∷_, _++_}
+use mathlib.Core.Logic.{_↔_}
 use lib.ListN.{length, drop}
-use Rattle.lists.specs.Lists.{_!_}
-use Rattle.answers.specs.Said.{Word, Said, said}
+use Rattle.answers.specs.Said.{Word, said}
 use Rattle.joblist.specs.Limits.{mostTime}
-use Rattle.chains.specs.Paths.{Pair, Precedes, Cycle}
-use Rattle.chains.specs.Listed.{paired}
+use Rattle.chains.specs.Paths.{Precedes, Cycle}
 use Rattle.chains.proofs.Listed.{paired-length, paired-jobs, paired-successors}
-use Rattle.texts.specs.Readings.{Read, good}
 use Rattle.texts.proofs.Readings.{good-one}
 use Rattle.rows.specs.Projects.{Project, pairsOf, durations, demandsOn}
 use Rattle.rows.specs.Patterson.{patterson}
 use Rattle.layouts.specs.Calls.{Lent, TextCall, TextAfter}
-use Rattle.layouts.specs.Tests.{Fits, TooLong, Tested, Refusal}
+use Rattle.layouts.specs.Tests.{Fits, TooLong}
 use Rattle.layouts.specs.Promise.{Reads}
-use Rattle.layouts.specs.Write.{WriteCall, WriteAfter, pairsIn, SaysSame, textLeft, Writes, GivenBack}
-use Rattle.layouts.proofs.Tests.{Passed, tested-none, none-tested, refusal-of, refusal-none}
+use Rattle.layouts.specs.Write.{WriteCall, WriteAfter, pairsIn, textLeft, Writes, GivenBack}
+use Rattle.layouts.proofs.Tests.{none-tested, refusal-of, refusal-none}
 use Rattle.layouts.proofs.Meaning.{read-taken}
 use Rattle.layouts.proofs.When.{read-exactly}
 use Rattle.layouts.proofs.WriteTests.{passed-none, written-exactly}

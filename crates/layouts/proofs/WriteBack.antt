@@ -2,29 +2,24 @@
 -- it takes, gives back the same capacity, durations, demands and pairs. It can refuse such a text by its own arguments alone.
 use Prim.Native.Nat.{ℕ, zero, suc, _≤_, _<_}
 use native.Mathlib.Omega.{arith}
-use mathlib.Core.Path.{_≡_, refl, sym, ap, _∙_, subst}
-use mathlib.Core.List.{List, [], _∷_, _++_, map}
-use mathlib.Core.Logic.{_⊎_, inl, inr, _↔_}
-use lib.ListN.{length, drop, take}
+use mathlib.Core.Path.{_≡_, refl, sym, ap, _∙_}
+use mathlib.Core.List.{List, [], _∷_, _++_}
+use mathlib.Core.Logic.{inl, inr}
+use lib.ListN.{length, drop}
 use lib.Seq.{take-append-seam}
-use Rattle.lists.specs.Lists.{_!_, Every}
 use Rattle.lists.proofs.Every.{every-from}
-use Rattle.answers.specs.Said.{Word, Said, said}
-use Rattle.answers.proofs.Same.{not-said}
+use Rattle.answers.specs.Said.{Word, said}
 use Rattle.joblist.specs.Limits.{mostTime, mostDemand}
 use Rattle.joblist.specs.GoodList.{GoodList, refusal}
-use Rattle.chains.specs.Paths.{Pair, Precedes, Cycle}
-use Rattle.chains.specs.Listed.{paired, Rising, NotRising}
+use Rattle.chains.specs.Paths.{Precedes, Cycle}
+use Rattle.chains.specs.Listed.{Rising, NotRising}
 use Rattle.texts.specs.Readings.{good}
-use Rattle.texts.proofs.Readings.{good-one}
-use Rattle.rows.specs.Projects.{Project, pairsOf, durations, demandsOn}
+use Rattle.rows.specs.Projects.{Project, durations}
 use Rattle.rows.specs.Patterson.{patterson}
 use Rattle.scribe.specs.Form.{written}
 use Rattle.scribe.specs.Made.{made}
 use Rattle.scribe.proofs.Rows.{made-back, pairs-back, durations-back, demands-back}
-use Rattle.layouts.specs.Calls.{Lent, TextCall, TextAfter}
-use Rattle.layouts.specs.Promise.{Reads}
-use Rattle.layouts.specs.Write.{WriteCall, WriteAfter, pairsIn, textOf, columns, alone, PairsTested, WriteRefusal, WriteLeaves, WriteAnswered, SaysSame, textLeft, Writes}
+use Rattle.layouts.specs.Write.{WriteCall, WriteAfter, pairsIn, textOf, columns, alone, PairsTested, WriteRefusal, WriteAnswered, SaysSame, textLeft, Writes}
 use Rattle.layouts.proofs.WriteTests.{by-lists, good-lists, behind-lists, WritePassed, passed-none, left-by, written-exactly}
 
 -- ---- the text that is left says the same

@@ -2,17 +2,16 @@
 use Prim.Native.Nat.{ℕ, _-_, _≤_}
 use native.Mathlib.Omega.{arith}
 use mathlib.Core.Path.{_≡_, refl, sym, ap, _∙_}
-use mathlib.Core.List.{List, [], _∷_, _++_}
+use mathlib.Core.List.{List, [], _∷_}
 use lib.ListN.{length, drop}
 use Rattle.chains.specs.Paths.{Pair, pair}
 use Rattle.texts.specs.Tokens.{Token, tokens}
-use Rattle.texts.specs.Readings.{Read, bad, good, andThen, times}
+use Rattle.texts.specs.Readings.{Read, bad, good}
 use Rattle.texts.proofs.Readings.{bad-not-good}
 use Rattle.rows.specs.declared.Table.{Table}
 use Rattle.rows.specs.declared.Walk.{Walk}
 use Rattle.rows.specs.declared.Step.the-variants as steps
-use Rattle.rows.specs.Projects.{Row, link, tagged, pairsFrom, durations, demandsOn}
-use Rattle.rows.specs.Walk.{rowIn, Seen, seeing, see, Fit, addPair, addRow, StepSays}
+use Rattle.rows.specs.Walk.{Seen, see, Fit, addPair, addRow, StepSays}
 use Rattle.order.specs.declared.Pull.the-variants.{Next, NoMore}
 use Rattle.rows.specs.Parsed.{onlyPairs, comes}
 use Rattle.order.specs.Pairs.{PullSays}

@@ -4,7 +4,7 @@ use mathlib.Core.Path.{_≡_}
 use mathlib.Core.List.{List, [], _∷_}
 use Rattle.chains.specs.Paths.{Pair, pair}
 use Rattle.texts.specs.Tokens.{Token}
-use Rattle.texts.specs.Readings.{Read, bad, good}
+use Rattle.texts.specs.Readings.{good}
 use Rattle.rows.specs.declared.Table.{Table}
 use Rattle.rows.specs.declared.Walk.{Walk}
 use Rattle.rows.specs.Walk.{Fit, Further}

@@ -29,8 +29,8 @@ First {A} c r Next = (r ≡ bad c) ⊎ ((a : A) × (rest : List Token) × (r ≡
 -- a table
 abbrev pub TablesRefused : ℕ → ℕ → List ℕ → List ℕ → List ℕ → ℕ → Type 0
 TablesRefused n k relations requests capacities c =
-    First c (times (relation n) 0 n (tokens (behindLines 2 relations))) (λ rs.
-    First c (times (request n k) 0 n (tokens (behindLines 3 requests))) (λ qs.
+    First c (times (relation n) 0 n (tokens (behindLines 2 relations))) (λ sss.
+    First c (times (request k) 0 n (tokens (behindLines 3 requests))) (λ qs.
     many mostDemand k (tokens (behindLines 2 capacities)) ≡ bad c))
 
 -- a count, or a table behind both
@@ -63,9 +63,9 @@ module _ (c : ℕ) where
   tables-refused : (n k : ℕ) (relations requests capacities : List ℕ) → (tables n k relations requests capacities ≡ bad c) ↔ TablesRefused n k relations requests capacities c
   unfolding tables
   tables-refused n k relations requests capacities =
-      first-refused (times (relation n) 0 n (tokens (behindLines 2 relations))) _ _ c (λ rs t₁.
-      first-refused (times (request n k) 0 n (tokens (behindLines 3 requests))) _ _ c (λ qs t₂.
-      last-refused (many mostDemand k (tokens (behindLines 2 capacities))) (λ cs. record { capacities = cs; rows = join rs qs }) c))
+      first-refused (times (relation n) 0 n (tokens (behindLines 2 relations))) _ _ c (λ sss t₁.
+      first-refused (times (request k) 0 n (tokens (behindLines 3 requests))) _ _ c (λ qs t₂.
+      last-refused (many mostDemand k (tokens (behindLines 2 capacities))) (λ cs. record { capacities = cs; rows = join sss qs }) c))
 
   sections-refused : (part : ℕ → List ℕ) → (sections part ≡ bad c) ↔ SectionsRefused part c
   unfolding sections

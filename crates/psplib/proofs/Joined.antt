@@ -1,43 +1,45 @@
--- The rows of the two tables of jobs, joined: as many, with the pairs of the one and the durations and demands of the other, and within their limits.
+-- The two tables of jobs, joined: as many jobs, with the pairs of the one and the durations and demands of the other, and within their limits.
 use Prim.Native.Nat.{ℕ, suc}
 use native.Mathlib.Omega.{arith}
 use mathlib.Core.Path.{_≡_, refl, ap}
-use mathlib.Core.List.{List, [], _∷_, _++_}
+use mathlib.Core.List.{List, [], _∷_, _++_, map}
 use lib.ListN.{length}
 use Rattle.lists.specs.Lists.{_!_, Every}
 use Rattle.chains.specs.Paths.{Pair}
-use Rattle.rows.specs.Projects.{Row, tagged, pairsFrom, durations, demandsOn}
+use Rattle.rows.specs.Projects.{tagged, pairsFrom, durations, demandsOn}
+use Rattle.rows.specs.Tables.{Need}
 use Rattle.rows.proofs.Takes.{Limited}
+use Rattle.rows.proofs.Tables.{linked, needed}
 use Rattle.psplib.specs.Psplib.{join}
 
-pub join-long : (rs qs : List Row) → length rs ≡ length qs → length (join rs qs) ≡ length rs
+pub join-long : (sss : List (List ℕ)) (qs : List Need) → length sss ≡ length qs → length (join sss qs) ≡ length sss
 unfolding join
 join-long [] qs e = refl
-join-long (r ∷ rs) [] e = absurd (omega arith)
-join-long (r ∷ rs) (q ∷ qs) e = let z : length rs ≡ length qs = omega arith in ap suc (join-long rs qs z)
+join-long (ss ∷ sss) [] e = absurd (omega arith)
+join-long (ss ∷ sss) (q ∷ qs) e = let z : length sss ≡ length qs = omega arith in ap suc (join-long sss qs z)
 
-pub join-pairs : (j : ℕ) (rs qs : List Row) → length rs ≡ length qs → pairsFrom j (join rs qs) ≡ pairsFrom j rs
+pub join-pairs : (j : ℕ) (sss : List (List ℕ)) (qs : List Need) → length sss ≡ length qs → pairsFrom j (join sss qs) ≡ pairsFrom j (map linked sss)
 unfolding join pairsFrom
 join-pairs j [] qs e = refl
-join-pairs j (r ∷ rs) [] e = absurd (omega arith)
-join-pairs j (r ∷ rs) (q ∷ qs) e = let z : length rs ≡ length qs = omega arith in ap (λ (ps : List Pair). tagged j (r .successors) ++ ps) (join-pairs (suc j) rs qs z)
+join-pairs j (ss ∷ sss) [] e = absurd (omega arith)
+join-pairs j (ss ∷ sss) (q ∷ qs) e = let z : length sss ≡ length qs = omega arith in ap (λ (ps : List Pair). tagged j ss ++ ps) (join-pairs (suc j) sss qs z)
 
-pub join-durations : (rs qs : List Row) → length rs ≡ length qs → durations (join rs qs) ≡ durations qs
+pub join-durations : (sss : List (List ℕ)) (qs : List Need) → length sss ≡ length qs → durations (join sss qs) ≡ durations (map needed qs)
 unfolding join
 join-durations [] [] e = refl
 join-durations [] (q ∷ qs) e = absurd (omega arith)
-join-durations (r ∷ rs) [] e = absurd (omega arith)
-join-durations (r ∷ rs) (q ∷ qs) e = let z : length rs ≡ length qs = omega arith in ap (λ (ds : List ℕ). q .duration ∷ ds) (join-durations rs qs z)
+join-durations (ss ∷ sss) [] e = absurd (omega arith)
+join-durations (ss ∷ sss) (q ∷ qs) e = let z : length sss ≡ length qs = omega arith in ap (λ (ds : List ℕ). q .duration ∷ ds) (join-durations sss qs z)
 
-pub join-demands : (res : ℕ) (rs qs : List Row) → length rs ≡ length qs → demandsOn res (join rs qs) ≡ demandsOn res qs
+pub join-demands : (res : ℕ) (sss : List (List ℕ)) (qs : List Need) → length sss ≡ length qs → demandsOn res (join sss qs) ≡ demandsOn res (map needed qs)
 unfolding join
 join-demands res [] [] e = refl
 join-demands res [] (q ∷ qs) e = absurd (omega arith)
-join-demands res (r ∷ rs) [] e = absurd (omega arith)
-join-demands res (r ∷ rs) (q ∷ qs) e = let z : length rs ≡ length qs = omega arith in ap (λ (ds : List ℕ). q .demands ! res ∷ ds) (join-demands res rs qs z)
+join-demands res (ss ∷ sss) [] e = absurd (omega arith)
+join-demands res (ss ∷ sss) (q ∷ qs) e = let z : length sss ≡ length qs = omega arith in ap (λ (ds : List ℕ). q .demands ! res ∷ ds) (join-demands res sss qs z)
 
-pub join-limited : (n : ℕ) (rs qs : List Row) → Every (Limited n) rs → Every (Limited n) qs → Every (Limited n) (join rs qs)
+pub join-limited : (n : ℕ) (sss : List (List ℕ)) (qs : List Need) → Every (λ ss. Limited n (linked ss)) sss → Every (λ q. Limited n (needed q)) qs → Every (Limited n) (join sss qs)
 unfolding join
 join-limited n [] qs h k = tt
-join-limited n (r ∷ rs) [] h k = tt
-join-limited n (r ∷ rs) (q ∷ qs) h k = (record { duration = k .0 .duration; demands = k .0 .demands; successors = h .0 .successors }, join-limited n rs qs (h .1) (k .1))
+join-limited n (ss ∷ sss) [] h k = tt
+join-limited n (ss ∷ sss) (q ∷ qs) h k = (record { duration = k .0 .duration; demands = k .0 .demands; successors = h .0 .successors }, join-limited n sss qs (h .1) (k .1))

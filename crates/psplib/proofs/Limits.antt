@@ -14,40 +14,35 @@ use Rattle.texts.proofs.Readings.{bad-not-good, good-same, then-good, many-take
 use Rattle.headings.specs.Lines.{behindLines, counted}
 use Rattle.headings.specs.Headings.{marks, inOrder, section}
 use Rattle.headings.proofs.Facts.{counted-codes, counted-takes}
-use Rattle.rows.specs.Projects.{Row, Project, Within}
-use Rattle.rows.specs.Tables.{relation, request}
-use Rattle.rows.specs.Walk.{headIn, rowIn}
-use Rattle.rows.specs.declared.Table.the-variants.{Relations, Requests}
-use Rattle.rows.proofs.Takes.{OfText, low-code, some-code, then-codes, row-codes, Limited, row-takes}
+use Rattle.rows.specs.Projects.{Project, Within}
+use Rattle.rows.specs.Tables.{relation, Need, request}
+use Rattle.rows.proofs.Takes.{OfText, low-code, some-code, then-codes, Limited}
+use Rattle.rows.proofs.Tables.{linked, needed, relation-within, request-within, relation-code, request-code}
 use Rattle.rows.proofs.Limits.{rows-within}
 use Rattle.psplib.specs.Psplib.{join, tables, sections, psplib}
 use Rattle.psplib.proofs.Joined.{join-long, join-limited}
 
--- rows that were read: so many, each within its limits
-pub relations-take : (n : ℕ) (ts rest : List Token) (rs : List Row) → times (relation n) 0 n ts ≡ good rs rest → (length rs ≡ n) × Every (Limited n) rs × (length rest ≤ length ts)
-unfolding relation rowIn headIn
-relations-take n ts rest rs e = times-takes (relation n) (Limited n) (λ j u v r p. row-takes Relations n j u v r p) 0 n ts rest rs e
+-- tables that were read: so many rows, each within its limits
+pub relations-take : (n : ℕ) (ts rest : List Token) (sss : List (List ℕ)) → times (relation n) 0 n ts ≡ good sss rest → (length sss ≡ n) × Every (λ ss. Limited n (linked ss)) sss × (length rest ≤ length ts)
+relations-take n ts rest sss e = times-takes (relation n) (λ ss. Limited n (linked ss)) (λ j u v ss p. relation-within n j u v ss p) 0 n ts rest sss e
 
-pub requests-take : (n k : ℕ) (ts rest : List Token) (qs : List Row) → times (request n k) 0 n ts ≡ good qs rest → (length qs ≡ n) × Every (Limited n) qs × (length rest ≤ length ts)
-unfolding request rowIn headIn
-requests-take n k ts rest qs e = times-takes (request n k) (Limited n) (λ j u v r p. row-takes (Requests k) n j u v r p) 0 n ts rest qs e
+pub requests-take : (n k : ℕ) (ts rest : List Token) (qs : List Need) → times (request k) 0 n ts ≡ good qs rest → (length qs ≡ n) × Every (λ q. Limited n (needed q)) qs × (length rest ≤ length ts)
+requests-take n k ts rest qs e = times-takes (request k) (λ q. Limited n (needed q)) (λ j u v q p. request-within n k j u v q p) 0 n ts rest qs e
 
 relations-codes : (n c : ℕ) (ts : List Token) → times (relation n) 0 n ts ≡ bad c → OfText c
-unfolding relation rowIn headIn
-relations-codes n c ts e = times-codes (relation n) OfText (λ j d v q. row-codes Relations n j d v q) 0 n c ts e
+relations-codes n c ts e = times-codes (relation n) OfText (λ j d v q. relation-code n j d v q) 0 n c ts e
 
-requests-codes : (n k c : ℕ) (ts : List Token) → times (request n k) 0 n ts ≡ bad c → OfText c
-unfolding request rowIn headIn
-requests-codes n k c ts e = times-codes (request n k) OfText (λ j d v q. row-codes (Requests k) n j d v q) 0 n c ts e
+requests-codes : (n k c : ℕ) (ts : List Token) → times (request k) 0 n ts ≡ bad c → OfText c
+requests-codes n k c ts e = times-codes (request k) OfText (λ j d v q. request-code k j d v q) 0 n c ts e
 
 -- ---- the tables
 
 module _ (n k : ℕ) (s₁ s₂ s₃ : List ℕ) where
-  abbrev relations : Read (List Row)
+  abbrev relations : Read (List (List ℕ))
   relations = times (relation n) 0 n (tokens (behindLines 2 s₁))
 
-  abbrev requests : Read (List Row)
-  requests = times (request n k) 0 n (tokens (behindLines 3 s₂))
+  abbrev requests : Read (List Need)
+  requests = times (request k) 0 n (tokens (behindLines 3 s₂))
 
   abbrev capacities : Read (List ℕ)
   capacities = many mostDemand k (tokens (behindLines 2 s₃))
@@ -65,7 +60,7 @@ module _ (n k : ℕ) (s₁ s₂ s₃ : List ℕ) where
       subst Within (o .0) (rows-within n (r .0) (join (s .0) (t .0)) few (each-within mostDemand (r .0) (d .1))
       (join-long (s .0) (t .0) (a .0 ∙ sym (b .0)) ∙ a .0) (join-limited n (s .0) (t .0) (a .1) (b .1)))
     where
-      made : List Row → List Row → List ℕ → Project
+      made : List (List ℕ) → List Need → List ℕ → Project
       made rs qs cs = record { capacities = cs; rows = join rs qs }
 
   pub tables-codes : (c : ℕ) → tables n k s₁ s₂ s₃ ≡ bad c → OfText c

@@ -9,27 +9,23 @@ use Rattle.texts.specs.Readings.{Read, bad, good, andThen, times, many}
 use Rattle.headings.specs.Lines.{behindLines, counted}
 use Rattle.headings.specs.Headings.{marks, inOrder, section}
 use Rattle.rows.specs.Projects.{Row, Project}
-use Rattle.rows.specs.Tables.{relation, request}
+use Rattle.rows.specs.Tables.{relation, Need, request}
 
--- a job: its successors from its row of the relations, its duration and demands from its row of the requests
-abbrev pub joined : Row → Row → Row
-joined r q = record { duration = q .duration; demands = q .demands; successors = r .successors }
-
--- the jobs, one by one
-unfoldable pub join : List Row → List Row → List Row
+-- the jobs, one by one: successors from the relations, duration and demands from the requests
+unfoldable pub join : List (List ℕ) → List Need → List Row
 join [] qs = []
-join (r ∷ rs) [] = []
-join (r ∷ rs) (q ∷ qs) = joined r q ∷ join rs qs
+join (ss ∷ sss) [] = []
+join (ss ∷ sss) (q ∷ qs) = record { duration = q .duration; demands = q .demands; successors = ss } ∷ join sss qs
 
 -- the three tables of n jobs on k resources, each from its heading on: its rows stand behind the heading's line and a line of column names, those of
 -- the requests behind a line of hyphens too
 unfoldable pub tables : ℕ → ℕ → List ℕ → List ℕ → List ℕ → Read Project
 unfolding times relation request many tokens behindLines join
 tables n k relations requests capacities =
-    andThen (times (relation n) 0 n (tokens (behindLines 2 relations))) (λ rs t₁.
-    andThen (times (request n k) 0 n (tokens (behindLines 3 requests))) (λ qs t₂.
+    andThen (times (relation n) 0 n (tokens (behindLines 2 relations))) (λ sss t₁.
+    andThen (times (request k) 0 n (tokens (behindLines 3 requests))) (λ qs t₂.
     andThen (many mostDemand k (tokens (behindLines 2 capacities))) (λ cs t₃.
-    good (record { capacities = cs; rows = join rs qs }) [])))
+    good (record { capacities = cs; rows = join sss qs }) [])))
 
 -- the two counts on the lines of their headings, then the tables; `part i` is the text from heading i on
 unfoldable pub sections : (ℕ → List ℕ) → Read Project

@@ -15,9 +15,9 @@ ghost use Rattle.rows.specs.Parsed.{ParsedSays};
 ghost use Rattle.psplib.specs.Psplib.{tables, psplib};
 
 // How many lines a table's rows stand behind: the heading's and the column names'; for the requests a line of hyphens too.
-const NAMES: u32 = 2;
+const BEHIND_NAMES: u32 = 2;
 
-const HYPHENS: u32 = 3;
+const BEHIND_HYPHENS: u32 = 3;
 
 // Where the headings of the three tables start.
 struct Tables {
@@ -74,15 +74,15 @@ fn read_tables(
     requires { ⌜ (n ≤ mostJobs) × (length (now dur) ≡ mostJobs) × (length (now dem) ≡ mostJobs) × ((j : ℕ) → now dur ! j ≤ mostTime) ⌝ }
     ensures { λ r. ⌜ ParsedSays (tables n k (drop (from .relations) (now (text .entry))) (drop (from .requests) (now (text .entry))) (drop (from .capacities) (now (text .entry)))) (now (text .entry)) res (now (dur .exit)) (now (dem .exit)) r × (length (now (dur .exit)) ≡ mostJobs) × (length (now (dem .exit)) ≡ mostJobs) × ((j : ℕ) → now (dur .exit) ! j ≤ mostTime) ⌝ }
 {
-    let at = headings::behind_lines(text, from.relations, NAMES);
+    let at = headings::behind_lines(text, from.relations, BEHIND_NAMES);
     match rows::validate(text, at, n, Table::Relations, res, dur, dem) {
         Found::Not(c) => Parsed::Broken(c),
         Found::All(pairs, _) => {
-            let requests = headings::behind_lines(text, from.requests, HYPHENS);
+            let requests = headings::behind_lines(text, from.requests, BEHIND_HYPHENS);
             match rows::validate(text, requests, n, Table::Requests(k), res, dur, dem) {
                 Found::Not(c) => Parsed::Broken(c),
                 Found::All(_, _) => {
-                    let capacities = headings::behind_lines(text, from.capacities, NAMES);
+                    let capacities = headings::behind_lines(text, from.capacities, BEHIND_NAMES);
                     match rows::read_many(text, capacities, k, joblist::DRAW, res) {
                         Got::Bad(c) => Parsed::Broken(c),
                         Got::Good(cap, _) => Parsed::Entire(Shape {

@@ -1,6 +1,7 @@
 pub mod Numbers
 pub mod Seeing
 pub mod Takes
+pub mod Tables
 pub mod Whole
 pub mod Steps
 pub mod Checking

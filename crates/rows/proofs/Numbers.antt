@@ -14,8 +14,8 @@ use Rattle.texts.specs.Readings.{bad, good, one, exactly, times, many}
 use Rattle.texts.proofs.Readings.{ahead, ahead-nil, times-step, times-bad, times-done}
 use Rattle.rows.specs.Projects.{link}
 use Rattle.rows.specs.Patterson.{head}
-use Rattle.rows.specs.Tables.{numbered, relationHead, requestHead}
-use Rattle.rows.specs.Walk.{headIn}
+use Rattle.rows.specs.Tables.{numbered}
+use Rattle.rows.specs.Heads.{relationHead, requestHead, headIn}
 use Rattle.rows.specs.declared.Table.the-variants.{Whole, Relations, Requests}
 
 -- the number at a place, with one number more read

@@ -7,14 +7,15 @@ use mathlib.Core.List.{List, [], _∷_, _++_}
 use lib.ListN.{length, drop, take, length-map}
 use lib.Seq.{length-take-le}
 use Rattle.joblist.specs.Limits.{mostJobs}
-use Rattle.chains.specs.Paths.{Pair, Precedes, Below}
+use Rattle.chains.specs.Paths.{Precedes, Below}
 use Rattle.texts.specs.Tokens.{Token, tokens}
 use Rattle.texts.specs.Readings.{Read, bad, good, andThen, times}
 use Rattle.texts.specs.Scan.{none?}
 use Rattle.texts.proofs.Readings.{bad-not-good, good-one}
 use Rattle.rows.specs.Projects.{Row, Project, link, tagged, pairsFrom, pairsOf, durations, demandsOn, Within}
 use Rattle.rows.specs.Patterson.{row, opening, project, patterson}
-use Rattle.rows.specs.Walk.{headIn, rowIn, Seen, seeing, OpenSays, FoundSays}
+use Rattle.rows.specs.Heads.{headIn, rowIn}
+use Rattle.rows.specs.Walk.{Seen, seeing, OpenSays, FoundSays}
 use Rattle.rows.specs.Parsed.{onlyPairs, Parsing, ParsedSays}
 use Rattle.rows.specs.declared.Table.{Table}
 use Rattle.rows.specs.declared.Table.the-variants.{Whole}

@@ -9,7 +9,8 @@ use Rattle.joblist.specs.Limits.{mostJobs}
 use Rattle.texts.specs.Tokens.{tokens}
 use Rattle.texts.specs.Readings.{bad, good}
 use Rattle.rows.specs.Projects.{Head, link}
-use Rattle.rows.specs.Walk.{headIn, seeing, see, Fit, StepSays}
+use Rattle.rows.specs.Heads.{headIn}
+use Rattle.rows.specs.Walk.{seeing, see, Fit, StepSays}
 use Rattle.rows.specs.declared.Table.{Table}
 use Rattle.rows.specs.declared.Walk.{Walk}
 use Rattle.rows.specs.declared.Step.the-variants.{Successor, Begun, Done, Stop}

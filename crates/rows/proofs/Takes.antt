@@ -16,8 +16,8 @@ use Rattle.texts.proofs.Readings.{bad-not-good, good-same, then-good, then-bad,
 use Rattle.texts.proofs.Given.{exactly-takes, exactly-refused}
 use Rattle.rows.specs.Projects.{Row, Head, headed, link}
 use Rattle.rows.specs.Patterson.{head}
-use Rattle.rows.specs.Tables.{numbered, relationHead, requestHead}
-use Rattle.rows.specs.Walk.{headIn, rowIn}
+use Rattle.rows.specs.Tables.{numbered}
+use Rattle.rows.specs.Heads.{relationHead, requestHead, headIn, rowIn}
 use Rattle.rows.specs.declared.Table.{Table}
 use Rattle.rows.specs.declared.Table.the-variants.{Whole, Relations, Requests}
 

@@ -8,14 +8,13 @@ use Rattle.lists.specs.Lists.{_!_}
 use Rattle.joblist.specs.Limits.{mostTime, mostJobs}
 use Rattle.chains.specs.Paths.{Pair, pair, Precedes, Below}
 use Rattle.texts.specs.Tokens.{Token, tokens}
-use Rattle.texts.specs.Readings.{Read, bad, good, andThen, times}
+use Rattle.texts.specs.Readings.{Read, bad, good, andThen, one, times}
 use Rattle.texts.specs.declared.Got.{Got}
 use Rattle.texts.specs.declared.Got.the-variants.{Good, Bad}
-use Rattle.rows.specs.Projects.{Row, Head, headed, link, tagged, pairsFrom, durations, demandsOn}
+use Rattle.rows.specs.Projects.{Head, link, tagged, pairsFrom, durations, demandsOn}
 use Rattle.rows.specs.Patterson.{head, Opening}
-use Rattle.rows.specs.Tables.{relationHead, requestHead}
 use Rattle.rows.specs.declared.Table.{Table}
-use Rattle.rows.specs.declared.Table.the-variants.{Whole, Relations, Requests}
+use Rattle.rows.specs.Heads.{rowIn}
 use Rattle.rows.specs.declared.parts.HeadGot.{HeadGot}
 use Rattle.rows.specs.declared.parts.HeadGot.the-variants.{Line, NoLine}
 use Rattle.rows.specs.declared.parts.Opened.{Opened}
@@ -41,17 +40,6 @@ abbrev pub OpenSays : Read Opening → List ℕ → ℕ → Opened → Type 0
 OpenSays r s res (Ready n k cap at) =
     (o : Opening) × (r ≡ good o (tokens (drop at s))) × (o .jobs ≡ n) × (o .resources ≡ k) × (o .capacities ! res ≡ cap) × (n ≤ mostJobs) × (length (o .capacities) ≡ k)
 OpenSays r s res (Closed c) = r ≡ bad c
-
--- the head of row j of a table for n jobs: whole rows on k resources, precedence relations, or requests on k resources
-unfoldable pub headIn : Table → ℕ → ℕ → List Token → Read Head
-unfolding head relationHead requestHead
-headIn (Whole k) n j ts = head n k ts
-headIn Relations n j ts = relationHead n j ts
-headIn (Requests k) n j ts = requestHead k j ts
-
-unfoldable pub rowIn : Table → ℕ → ℕ → List Token → Read Row
-unfolding headIn headed
-rowIn table n j ts = headed n (headIn table n j ts)
 
 -- what rows say of one resource
 pub record Seen : Type 0 where

@@ -12,8 +12,9 @@ ghost use Rattle.texts.specs.Readings.{many};
 ghost use Rattle.texts.specs.Scan.{GotSays};
 ghost use Rattle.rows.specs.Projects.{link};
 ghost use Rattle.rows.specs.Patterson.{head, opening};
-ghost use Rattle.rows.specs.Tables.{numbered, relationHead, requestHead};
-ghost use Rattle.rows.specs.Walk.{PickSays, HeadSays, OpenSays, headIn};
+ghost use Rattle.rows.specs.Tables.{numbered};
+ghost use Rattle.rows.specs.Heads.{relationHead, requestHead, headIn};
+ghost use Rattle.rows.specs.Walk.{PickSays, HeadSays, OpenSays};
 
 // Duration, demand of the chosen resource, successor count, and the place behind them; or a refusal.
 pub enum HeadGot {

@@ -14,8 +14,8 @@ use Rattle.texts.proofs.Runs.{tokens-run, tokens-over}
 use Rattle.rows.specs.Projects.{Row, Project, link}
 use Rattle.rows.specs.Patterson.{head, row, project, patterson}
 use Rattle.rows.proofs.Whole.{opening-good, project-good}
-use Rattle.scribe.specs.Form.{decimal, line, numbers, jobLines, written}
-use Rattle.scribe.specs.Writable.{WritableRow, Writable}
+use Rattle.scribe.specs.Form.{decimal, lineOf, numbers, jobLines, written}
+use Rattle.scribe.proofs.Writable.{WritableRow, Writable}
 use Rattle.scribe.proofs.Decimals.{decimal-token, decimal-solid, decimal-some}
 
 -- ---- tokens
@@ -25,11 +25,11 @@ pub decimal-tokens : (v b : ℕ) (rest : List ℕ) → blank b ≡ true → toke
 decimal-tokens v b rest e = tokens-run (decimal v) b rest (decimal-some v) (decimal-solid v) e ∙ ap (λ (t : Token). t ∷ tokens rest) (decimal-token v)
 
 -- numbers on a line, then more
-pub line-tokens : (vs rest : List ℕ) → tokens (line vs ++ rest) ≡ map number vs ++ tokens rest
-unfolding line blank
+pub line-tokens : (vs rest : List ℕ) → tokens (lineOf vs ++ rest) ≡ map number vs ++ tokens rest
+unfolding lineOf blank
 line-tokens [] rest = tokens-over 10 rest refl
 line-tokens (v ∷ []) rest = rw (append-assoc (decimal v) (10 ∷ []) rest) (decimal-tokens v 10 rest refl)
-line-tokens (v ∷ w ∷ vs) rest = rw (append-assoc (decimal v) (32 ∷ line (w ∷ vs)) rest, decimal-tokens v 32 (line (w ∷ vs) ++ rest) refl, line-tokens (w ∷ vs) rest)
+line-tokens (v ∷ w ∷ vs) rest = rw (append-assoc (decimal v) (32 ∷ lineOf (w ∷ vs)) rest, decimal-tokens v 32 (lineOf (w ∷ vs) ++ rest) refl, line-tokens (w ∷ vs) rest)
 
 -- the tokens of all elements, one after the other
 abbrev flat : {A : Type 0} → (A → List Token) → List A → List Token
@@ -105,14 +105,14 @@ row-back n k j r ts w =
 -- ---- the whole text
 
 -- its parts
-pub written-is : (x : Project) → written x ≡ line (length (x .rows) ∷ length (x .capacities) ∷ []) ++ (line (x .capacities) ++ jobLines (x .rows))
-unfolding written line jobLines
-written-is x = append-assoc (line (length (x .rows) ∷ length (x .capacities) ∷ [])) (line (x .capacities)) (jobLines (x .rows))
+pub written-is : (x : Project) → written x ≡ lineOf (length (x .rows) ∷ length (x .capacities) ∷ []) ++ (lineOf (x .capacities) ++ jobLines (x .rows))
+unfolding written lineOf jobLines
+written-is x = append-assoc (lineOf (length (x .rows) ∷ length (x .capacities) ∷ [])) (lineOf (x .capacities)) (jobLines (x .rows))
 
 written-tokens : (x : Project) → tokens (written x) ≡ number (length (x .rows)) ∷ number (length (x .capacities)) ∷ (map number (x .capacities) ++ flat rowTokens (x .rows))
 written-tokens x =
     ap tokens (written-is x)
-    ∙ line-tokens (length (x .rows) ∷ length (x .capacities) ∷ []) (line (x .capacities) ++ jobLines (x .rows))
+    ∙ line-tokens (length (x .rows) ∷ length (x .capacities) ∷ []) (lineOf (x .capacities) ++ jobLines (x .rows))
     ∙ rw (line-tokens (x .capacities) (jobLines (x .rows)), jobs-tokens (x .rows))
 
 pub read-back : (x : Project) → Writable x → patterson (written x) ≡ good x []

@@ -11,10 +11,11 @@ use Rattle.joblist.specs.Limits.{mostJobs}
 use Rattle.chains.specs.Paths.{Pair}
 use Rattle.chains.specs.Listed.{paired}
 use Rattle.rows.specs.Projects.{Project, tagged, pairsFrom}
-use Rattle.scribe.specs.Form.{decimal, line, jobLines, written}
+use Rattle.texts.specs.Scan.{held}
+use Rattle.scribe.specs.Form.{decimal, lineOf, jobLines, written}
 use Rattle.scribe.specs.Made.{successorsOf, rowsFrom, made}
 use Rattle.scribe.specs.Says.{mostBytes, Put, Room}
-use Rattle.scribe.specs.Writing.{Given, Ran}
+use Rattle.scribe.specs.Writing.{Ready, Ran}
 use Rattle.scribe.proofs.Decimals.{decimal-32}
 use Rattle.scribe.proofs.Back.{written-is}
 use Rattle.lists.proofs.Every.{every-from}
@@ -29,14 +30,14 @@ use Rattle.scribe.proofs.Passing.{jobs-cons, jobs-none}
 
 -- numbers of 32 bits
 abbrev Words : List ℕ → Type 0
-Words vs = Every (λ v. v < 4294967296) vs
+Words vs = Every (λ v. v < held) vs
 
 -- ten digits and a byte behind them
-line-short : (vs : List ℕ) → Words vs → length (line vs) ≤ 1 + 11 * length vs
-unfolding line
+line-short : (vs : List ℕ) → Words vs → length (lineOf vs) ≤ 1 + 11 * length vs
+unfolding lineOf
 line-short [] h = omega arith
 line-short (v ∷ []) h = rw (length-append (decimal v) (10 ∷ [])) (omega (arith, decimal-32 v (h .0)))
-line-short (v ∷ w ∷ vs) h = let q = line-short (w ∷ vs) (h .1) in rw (length-append (decimal v) (32 ∷ line (w ∷ vs))) (omega (arith, decimal-32 v (h .0)))
+line-short (v ∷ w ∷ vs) h = let q = line-short (w ∷ vs) (h .1) in rw (length-append (decimal v) (32 ∷ lineOf (w ∷ vs))) (omega (arith, decimal-32 v (h .0)))
 
 every-suc : (n : ℕ) (xs : List ℕ) → n ≤ mostJobs → Every (λ s. s < n) xs → Words (map suc xs)
 every-suc n [] l h = tt
@@ -61,19 +62,19 @@ jobs-short n j (d ∷ ds) (q ∷ qs) ps h l e a b =
     let rest = jobs-short n (suc j) ds qs ps h l (omega arith) (a .1) (b .1) in
     let ss = successorsOf j ps in
     let own = line-short (d ∷ q ∷ length ss ∷ map suc ss) (a .0, (b .0, (omega (arith, of-few n j ps h), every-suc n ss l (of-below n j ps h)))) in
-    rw (jobs-cons j d q ds qs ps, length-append (line (d ∷ q ∷ length ss ∷ map suc ss)) (jobLines (rowsFrom (suc j) ds qs ps)), pairs-cons j d q ds qs ps)
+    rw (jobs-cons j d q ds qs ps, length-append (lineOf (d ∷ q ∷ length ss ∷ map suc ss)) (jobLines (rowsFrom (suc j) ds qs ps)), pairs-cons j d q ds qs ps)
     (omega (arith, rest, own, length-map ss suc))
 
 -- ---- the whole text
 
-one-line : (v : ℕ) → line (v ∷ []) ≡ decimal v ++ 10 ∷ []
-unfolding line
+one-line : (v : ℕ) → lineOf (v ∷ []) ≡ decimal v ++ 10 ∷ []
+unfolding lineOf
 one-line v = refl
 
-two-line : (v w : ℕ) (t : List ℕ) → line (v ∷ w ∷ []) ++ t ≡ (decimal v ++ 32 ∷ []) ++ ((decimal w ++ 10 ∷ []) ++ t)
+two-line : (v w : ℕ) (t : List ℕ) → lineOf (v ∷ w ∷ []) ++ t ≡ (decimal v ++ 32 ∷ []) ++ ((decimal w ++ 10 ∷ []) ++ t)
 two-line v w t = rw (line-step v (w ∷ []), one-line w) (append-assoc (decimal v ++ 32 ∷ []) (decimal w ++ 10 ∷ []) t)
 
-module _ (cap : ℕ) {durs dems js ss : List ℕ} (g : Given durs dems js ss) where
+module _ (cap : ℕ) {durs dems js ss : List ℕ} (g : Ready durs dems js ss) where
   same-lists : length durs ≡ length dems
   same-lists = sym (g .demands)
 
@@ -86,7 +87,7 @@ module _ (cap : ℕ) {durs dems js ss : List ℕ} (g : Given durs dems js ss) wh
             ∙ rw (rows-length 0 durs dems (paired js ss) same-lists, one-line cap) (two-line (length durs) 1 ((decimal cap ++ 10 ∷ []) ++ jobLines rs));
       }
 
-  written-short : cap < 4294967296 → ((k : ℕ) → durs ! k < 4294967296) → ((k : ℕ) → dems ! k < 4294967296) → length (written (made cap durs dems (paired js ss))) ≤ mostBytes
+  written-short : cap < held → ((k : ℕ) → durs ! k < held) → ((k : ℕ) → dems ! k < held) → length (written (made cap durs dems (paired js ss))) ≤ mostBytes
   written-short c a b =
       let n = length durs in
       let ps = paired js ss in
@@ -94,15 +95,15 @@ module _ (cap : ℕ) {durs dems js ss : List ℕ} (g : Given durs dems js ss) wh
       let u = rising-ups n js ss (g .rising) (sym (g .pairs)) in
       let few = rising-few n js ss (g .rising) (sym (g .pairs)) in
       let m = mul-le-mul (g .few) (g .few) in
-      let lines = jobs-short n 0 durs dems ps u (g .few) same-lists (every-from (λ v. v < 4294967296) durs (λ k l. a k)) (every-from (λ v. v < 4294967296) dems (λ k l. b k)) in
+      let lines = jobs-short n 0 durs dems ps u (g .few) same-lists (every-from (λ v. v < held) durs (λ k l. a k)) (every-from (λ v. v < held) dems (λ k l. b k)) in
       let count : length (pairsFrom 0 rs) ≡ length js = ap length (pairs-back n cap durs dems js ss (g .rising) (sym (g .pairs)) refl (g .demands)) ∙ paired-length js ss (g .pairs) in
       let jobs = rows-length 0 durs dems ps same-lists in
       let heads = line-short (length rs ∷ 1 ∷ []) (omega (arith, jobs, g .few), (omega arith, tt)) in
       let caps = line-short (cap ∷ []) (c, tt) in
-      rw (written-is (made cap durs dems ps), length-append (line (length rs ∷ 1 ∷ [])) (line (cap ∷ []) ++ jobLines rs), length-append (line (cap ∷ [])) (jobLines rs))
+      rw (written-is (made cap durs dems ps), length-append (lineOf (length rs ∷ 1 ∷ [])) (lineOf (cap ∷ []) ++ jobLines rs), length-append (lineOf (cap ∷ [])) (jobLines rs))
       (omega (arith, heads, caps, lines, count, few, m, g .few))
 
-  pub whole-room : {dry : Bool} {b : List ℕ} → cap < 4294967296 → ((k : ℕ) → durs ! k < 4294967296) → ((k : ℕ) → dems ! k < 4294967296)
+  pub whole-room : {dry : Bool} {b : List ℕ} → cap < held → ((k : ℕ) → durs ! k < held) → ((k : ℕ) → dems ! k < held)
       → (dry ≡ false → length (written (made cap durs dems (paired js ss))) ≤ length b) → Room dry 0 (written (made cap durs dems (paired js ss))) b
   whole-room c x y h = record { few = omega (arith, written-short c x y); room = λ e. omega (arith, h e) }
 

@@ -8,6 +8,7 @@ use lib.Dec.{ltb}
 use lib.ListN.{length, length-append}
 use borrow.Author.Tests.{ltb-true, ltb-false, lt-ltb, le-ltb, le-leb, ne-eqb}
 use Rattle.lists.specs.Lists.{Every}
+use Rattle.texts.specs.Scan.{held}
 use Rattle.texts.specs.Tokens.{blank, digit, number, more, tokenFrom, token}
 use Rattle.texts.proofs.Runs.{Solid, token-append}
 use Rattle.scribe.specs.Form.{decimalIn, decimal}
@@ -89,5 +90,5 @@ decimal-few (suc k) v h = go (ltb v 10) refl (λ l. decimal-few k (v / 10) l)
     go false e q = rw (decimal-more v (ltb-false v 10 e), length-append (decimal (v / 10)) ((48 + v % 10) ∷ [])) (omega (arith, q (omega arith)))
 
 -- of a number of 32 bits
-pub decimal-32 : (v : ℕ) → v < 4294967296 → length (decimal v) ≤ 10
+pub decimal-32 : (v : ℕ) → v < held → length (decimal v) ≤ 10
 decimal-32 v h = decimal-few 9 v (omega arith)

@@ -1,4 +1,5 @@
 pub mod Cases
+pub mod Writable
 pub mod Decimals
 pub mod Back
 pub mod Pairs

@@ -12,10 +12,10 @@ use lib.Seq.{slice, length-slice, drop-cons}
 use Rattle.lists.specs.Lists.{_!_}
 use Rattle.chains.specs.Paths.{Pair}
 use Rattle.chains.specs.Listed.{InOrder, paired, Rising}
-use Rattle.scribe.specs.Form.{line, jobLines}
+use Rattle.scribe.specs.Form.{lineOf, jobLines}
 use Rattle.scribe.specs.Made.{successorsOf, rowsFrom}
-use Rattle.scribe.specs.Says.{RunEnds, numbered, Stretch}
-use Rattle.scribe.specs.Writing.{Given}
+use Rattle.scribe.specs.Says.{RunEnds, fromOne, Stretch}
+use Rattle.scribe.specs.Writing.{Ready}
 use Rattle.scribe.proofs.Pairs.{rising-few}
 use Rattle.scribe.proofs.Steps.{stretch-of}
 
@@ -37,7 +37,7 @@ no-fall n js ss h a (suc m) l = let z : a + suc m ≡ suc (a + m) = omega arith 
     go (inl b) q = omega arith
     go (inr b) q = omega (arith, b .0)
 
-module _ {durs dems js ss : List ℕ} (g : Given durs dems js ss) {j i r : ℕ} (p : Passed js j i) (e : RunEnds js j i r) where
+module _ {durs dems js ss : List ℕ} (g : Ready durs dems js ss) {j i r : ℕ} (p : Passed js j i) (e : RunEnds js j i r) where
   -- behind the run there are higher jobs alone
   above : (k : ℕ) → r ≤ k → k < length js → j < js ! k
   above k h l =
@@ -67,8 +67,8 @@ module _ {durs dems js ss : List ℕ} (g : Given durs dems js ss) {j i r : ℕ} 
   run-is = stretch-of j js ss i r (sym (g .pairs)) (e .from) (λ k h l. p .lower k h) (e .same) above
 
 pub jobs-cons : (j d q : ℕ) (ds qs : List ℕ) (ps : List Pair)
-    → jobLines (rowsFrom j (d ∷ ds) (q ∷ qs) ps) ≡ line (d ∷ q ∷ length (successorsOf j ps) ∷ map suc (successorsOf j ps)) ++ jobLines (rowsFrom (suc j) ds qs ps)
-unfolding jobLines rowsFrom line successorsOf
+    → jobLines (rowsFrom j (d ∷ ds) (q ∷ qs) ps) ≡ lineOf (d ∷ q ∷ length (successorsOf j ps) ∷ map suc (successorsOf j ps)) ++ jobLines (rowsFrom (suc j) ds qs ps)
+unfolding jobLines rowsFrom lineOf successorsOf
 jobs-cons j d q ds qs ps = refl
 
 pub jobs-none : (j : ℕ) (qs : List ℕ) (ps : List Pair) → jobLines (rowsFrom j [] qs ps) ≡ []
@@ -76,9 +76,9 @@ unfolding jobLines rowsFrom
 jobs-none j qs ps = refl
 
 -- the lines from job j on: its own, then those from the next one on
-pub lines-step : {durs dems js ss : List ℕ} → Given durs dems js ss → {j i r : ℕ} → Passed js j i → RunEnds js j i r → j < length durs
+pub lines-step : {durs dems js ss : List ℕ} → Ready durs dems js ss → {j i r : ℕ} → Passed js j i → RunEnds js j i r → j < length durs
     → jobLines (rowsFrom j (drop j durs) (drop j dems) (paired js ss))
-    ≡ line (durs ! j ∷ dems ! j ∷ (r - i) ∷ numbered ss i r) ++ jobLines (rowsFrom (j + 1) (drop (j + 1) durs) (drop (j + 1) dems) (paired js ss))
+    ≡ lineOf (durs ! j ∷ dems ! j ∷ (r - i) ∷ fromOne ss i r) ++ jobLines (rowsFrom (j + 1) (drop (j + 1) durs) (drop (j + 1) dems) (paired js ss))
 lines-step {durs} {dems} {js} {ss} g {j} {i} {r} p e h =
     rw (add-one j, drop-cons durs j 0 h, drop-cons dems j 0 (omega (arith, g .demands)))
     (jobs-cons j (durs ! j) (dems ! j) (drop (suc j) durs) (drop (suc j) dems) (paired js ss)

@@ -17,7 +17,7 @@ use Rattle.rows.specs.Patterson.{patterson}
 use Rattle.texts.specs.Readings.{good}
 use Rattle.scribe.specs.Form.{written}
 use Rattle.scribe.specs.Made.{successorsOf, rowsFrom, made}
-use Rattle.scribe.specs.Writable.{WritableRow, Writable}
+use Rattle.scribe.proofs.Writable.{WritableRow, Writable}
 use Rattle.scribe.proofs.Back.{read-back}
 use Rattle.lists.proofs.Every.{every-map, Climbs, climb-few}
 use Rattle.scribe.proofs.Pairs.{Before, Ups, rising-ups, ups-range}

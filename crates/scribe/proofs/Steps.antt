@@ -11,9 +11,9 @@ use lib.Seq.{slice, slice-cons, drop-nil, length-take-le}
 use borrow.Author.Tests.{ltb-true, ltb-false, eq-eqb, ne-eqb}
 use Rattle.lists.specs.Lists.{_!_}
 use Rattle.chains.specs.Listed.{paired}
-use Rattle.scribe.specs.Form.{decimal, line}
+use Rattle.scribe.specs.Form.{decimal, lineOf}
 use Rattle.scribe.specs.Made.{successorsOf}
-use Rattle.scribe.specs.Says.{Marked, behind, numbered}
+use Rattle.scribe.specs.Says.{Marked, restOf, fromOne}
 use Rattle.scribe.proofs.Puts.{Parts}
 
 -- ---- a number
@@ -26,7 +26,7 @@ pub byte-same : {a b m : ℕ} (i to : ℕ) → Marked a b m → a ≡ i → b �
 byte-same i to h p q = h .byte ∙ rw (p, q)
 
 -- the same duration, demand and number of successors
-pub job-same : {d d' q q' c c' : ℕ} (ns : List ℕ) → d' ≡ d → q' ≡ q → c' ≡ c → line (d' ∷ q' ∷ c' ∷ ns) ≡ line (d ∷ q ∷ c ∷ ns)
+pub job-same : {d d' q q' c c' : ℕ} (ns : List ℕ) → d' ≡ d → q' ≡ q → c' ≡ c → lineOf (d' ∷ q' ∷ c' ∷ ns) ≡ lineOf (d ∷ q ∷ c ∷ ns)
 job-same ns x y z = rw (x, y, z)
 
 -- the byte behind a number, by the numbers that are left on the line
@@ -34,30 +34,30 @@ abbrev pub mark : List ℕ → ℕ
 mark [] = 10
 mark (v ∷ vs) = 32
 
-pub line-step : (v : ℕ) (vs : List ℕ) → line (v ∷ vs) ≡ (decimal v ++ mark vs ∷ []) ++ behind vs
-unfolding line
+pub line-step : (v : ℕ) (vs : List ℕ) → lineOf (v ∷ vs) ≡ (decimal v ++ mark vs ∷ []) ++ restOf vs
+unfolding lineOf
 line-step v [] = sym (append-nil (decimal v ++ 10 ∷ []))
-line-step v (w ∷ vs) = sym (append-assoc (decimal v) (32 ∷ []) (line (w ∷ vs)))
+line-step v (w ∷ vs) = sym (append-assoc (decimal v) (32 ∷ []) (lineOf (w ∷ vs)))
 
 -- ---- a successor
 
 module _ (ss : List ℕ) (i to : ℕ) where
-  pub numbered-none : to ≤ i → to ≤ length ss → numbered ss i to ≡ []
+  pub numbered-none : to ≤ i → to ≤ length ss → fromOne ss i to ≡ []
   numbered-none h k = let l : length (take to ss) ≤ i = omega (arith, length-take-le to ss k) in rw (drop-of-length-le (take to ss) l)
 
-  numbered-step : i < to → to ≤ length ss → numbered ss i to ≡ (ss ! i + 1) ∷ numbered ss (i + 1) to
+  numbered-step : i < to → to ≤ length ss → fromOne ss i to ≡ (ss ! i + 1) ∷ fromOne ss (i + 1) to
   numbered-step h k = rw (slice-cons i to ss 0 h k, add-one (ss ! i), add-one i)
 
-  mark-is : to ≤ length ss → mark (numbered ss i to) ≡ cond (ltb i to) 32 10
+  mark-is : to ≤ length ss → mark (fromOne ss i to) ≡ cond (ltb i to) 32 10
   mark-is k = go (ltb i to) refl
     where
-      go : (t : Bool) → ltb i to ≡ t → mark (numbered ss i to) ≡ cond t 32 10
+      go : (t : Bool) → ltb i to ≡ t → mark (fromOne ss i to) ≡ cond t 32 10
       go true e = rw (numbered-step (ltb-true i to e) k)
       go false e = rw (numbered-none (ltb-false i to e) k)
 
 pub successors-step : (ss : List ℕ) (i to : ℕ) → i < to → to ≤ length ss
-    → behind (numbered ss i to) ≡ (decimal (ss ! i + 1) ++ cond (ltb (i + 1) to) 32 10 ∷ []) ++ behind (numbered ss (i + 1) to)
-successors-step ss i to h k = rw (numbered-step ss i to h k, ← mark-is ss (i + 1) to k) (line-step (ss ! i + 1) (numbered ss (i + 1) to))
+    → restOf (fromOne ss i to) ≡ (decimal (ss ! i + 1) ++ cond (ltb (i + 1) to) 32 10 ∷ []) ++ restOf (fromOne ss (i + 1) to)
+successors-step ss i to h k = rw (numbered-step ss i to h k, ← mark-is ss (i + 1) to k) (line-step (ss ! i + 1) (fromOne ss (i + 1) to))
 
 -- ---- a job
 
@@ -85,13 +85,13 @@ stretch-of j (a ∷ js) (s ∷ ss) zero zero e o low same high =
 
 -- the line of a job: duration, demand, how many successors, and these
 pub job-parts : (d q : ℕ) (ss : List ℕ) (from to : ℕ) → to ≤ length ss
-    → Parts (decimal d ++ 32 ∷ []) (decimal q ++ 32 ∷ []) (decimal (to - from) ++ cond (ltb from to) 32 10 ∷ []) (behind (numbered ss from to)) (line (d ∷ q ∷ (to - from) ∷ numbered ss from to))
+    → Parts (decimal d ++ 32 ∷ []) (decimal q ++ 32 ∷ []) (decimal (to - from) ++ cond (ltb from to) 32 10 ∷ []) (restOf (fromOne ss from to)) (lineOf (d ∷ q ∷ (to - from) ∷ fromOne ss from to))
 job-parts d q ss from to k =
     record {
       joined =
-          line-step d (q ∷ (to - from) ∷ numbered ss from to)
+          line-step d (q ∷ (to - from) ∷ fromOne ss from to)
           ∙ ap (λ (t : List ℕ). (decimal d ++ 32 ∷ []) ++ t)
-          (line-step q ((to - from) ∷ numbered ss from to)
+          (line-step q ((to - from) ∷ fromOne ss from to)
           ∙ ap (λ (t : List ℕ). (decimal q ++ 32 ∷ []) ++ t)
-          (line-step (to - from) (numbered ss from to) ∙ ap (λ (m : ℕ). (decimal (to - from) ++ m ∷ []) ++ behind (numbered ss from to)) (mark-is ss from to k)));
+          (line-step (to - from) (fromOne ss from to) ∙ ap (λ (m : ℕ). (decimal (to - from) ++ m ∷ []) ++ restOf (fromOne ss from to)) (mark-is ss from to k)));
     }

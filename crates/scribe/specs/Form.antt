@@ -18,11 +18,11 @@ unfolding decimalIn
 decimal v = decimalIn (suc v) v
 
 -- numbers on a line: a space between two of them, a line feed behind the last
-unfoldable pub line : List ℕ → List ℕ
+unfoldable pub lineOf : List ℕ → List ℕ
 unfolding decimal
-line [] = 10 ∷ []
-line (v ∷ []) = decimal v ++ 10 ∷ []
-line (v ∷ w ∷ vs) = decimal v ++ 32 ∷ line (w ∷ vs)
+lineOf [] = 10 ∷ []
+lineOf (v ∷ []) = decimal v ++ 10 ∷ []
+lineOf (v ∷ w ∷ vs) = decimal v ++ 32 ∷ lineOf (w ∷ vs)
 
 -- the numbers of a job: duration, demands, how many successors, and these numbered from 1
 abbrev pub numbers : Row → List ℕ
@@ -30,11 +30,11 @@ numbers r = r .duration ∷ (r .demands ++ length (r .successors) ∷ map suc (r
 
 -- a line for each job
 unfoldable pub jobLines : List Row → List ℕ
-unfolding line
+unfolding lineOf
 jobLines [] = []
-jobLines (r ∷ rs) = line (numbers r) ++ jobLines rs
+jobLines (r ∷ rs) = lineOf (numbers r) ++ jobLines rs
 
 -- the two counts, the capacities, the jobs
 unfoldable pub written : Project → List ℕ
-unfolding line jobLines
-written x = line (length (x .rows) ∷ length (x .capacities) ∷ []) ++ line (x .capacities) ++ jobLines (x .rows)
+unfolding lineOf jobLines
+written x = lineOf (length (x .rows) ∷ length (x .capacities) ∷ []) ++ lineOf (x .capacities) ++ jobLines (x .rows)

@@ -9,11 +9,11 @@ use lib.ListN.{length, take, drop}
 use lib.Seq.{slice}
 use Rattle.lists.specs.Lists.{_!_}
 use Rattle.joblist.specs.Limits.{mostJobs}
-use Rattle.scribe.specs.Form.{line}
+use Rattle.scribe.specs.Form.{lineOf}
 
--- no text that we write has more bytes than this (proofs/Counts.antt)
+-- no text that we write has more bytes than this: eleven at most for a number and the byte behind it (proofs/Counts.antt)
 abbrev pub mostBytes : ℕ
-mostBytes = 1000000
+mostBytes = 100 + 34 * mostJobs + 11 * (mostJobs * mostJobs)
 
 -- the bytes t from the place `at` on, all others as in the buffer
 abbrev pub pasted : ℕ → List ℕ → List ℕ → List ℕ
@@ -41,13 +41,13 @@ pub record Marked (i to m : ℕ) : Type 0 where
   pub byte : m ≡ cond (ltb i to) 32 10
 
 -- what stands behind the byte behind a number: the rest of the line, by the numbers that are left on it
-abbrev pub behind : List ℕ → List ℕ
-behind [] = []
-behind (v ∷ vs) = line (v ∷ vs)
+abbrev pub restOf : List ℕ → List ℕ
+restOf [] = []
+restOf (v ∷ vs) = lineOf (v ∷ vs)
 
 -- the successors from one place of their list to another, numbered from 1
-abbrev pub numbered : List ℕ → ℕ → ℕ → List ℕ
-numbered ss from to = map suc (slice from to ss)
+abbrev pub fromOne : List ℕ → ℕ → ℕ → List ℕ
+fromOne ss from to = map suc (slice from to ss)
 
 -- a part of the list of successors: there are not too many to be counted, and each is a job's number
 pub record Stretch (ss : List ℕ) (from to : ℕ) : Type 0 where

@@ -13,7 +13,7 @@ use Rattle.scribe.specs.declared.Outcome.{Outcome}
 use Rattle.scribe.specs.declared.Outcome.the-variants.{Wrote, Short}
 
 -- what the lists are that a project is written from: their lengths, and the pairs in their order
-pub record Given (durs dems js ss : List ℕ) : Type 0 where
+pub record Ready (durs dems js ss : List ℕ) : Type 0 where
   pub demands : length dems ≡ length durs
   pub few : length durs ≤ mostJobs
   pub pairs : length ss ≡ length js

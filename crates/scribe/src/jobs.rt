@@ -4,10 +4,10 @@ ghost use mathlib.Core.List.{_∷_};
 ghost use Prim.Native.Nat.{_-_, _≤_};
 ghost use lib.ListN.{length};
 ghost use Rattle.chains.specs.Listed.{paired};
-ghost use Rattle.scribe.specs.Form.{line, jobLines};
+ghost use Rattle.scribe.specs.Form.{lineOf, jobLines};
 ghost use Rattle.scribe.specs.Made.{rowsFrom};
-ghost use Rattle.scribe.specs.Says.{Room, Put, RunEnds, Marked, behind, numbered, Stretch};
-ghost use Rattle.scribe.specs.Writing.{Given};
+ghost use Rattle.scribe.specs.Says.{Room, Put, RunEnds, Marked, restOf, fromOne, Stretch};
+ghost use Rattle.scribe.specs.Writing.{Ready};
 
 // The first place from i on whose job is not j.
 fn run_end(jobs: &[u32], j: u32, i: usize) -> usize
@@ -43,8 +43,8 @@ fn put_successors(
     at: usize,
     buffer: &mut [u8],
 ) -> usize
-    requires { ⌜ Stretch (now successors) from to × Room dry at (behind (numbered (now successors) from to)) (now buffer) ⌝ }
-    ensures { λ r. ⌜ Put dry at (behind (numbered (now (successors .entry)) from to)) (now (buffer .entry)) (now (buffer .exit)) r ⌝ }
+    requires { ⌜ Stretch (now successors) from to × Room dry at (restOf (fromOne (now successors) from to)) (now buffer) ⌝ }
+    ensures { λ r. ⌜ Put dry at (restOf (fromOne (now (successors .entry)) from to)) (now (buffer .entry)) (now (buffer .exit)) r ⌝ }
 {
     let mut i = from;
     let mut place = at;
@@ -66,8 +66,8 @@ fn put_job(
     at: usize,
     buffer: &mut [u8],
 ) -> usize
-    requires { ⌜ Stretch (now successors) from to × Room dry at (line (d ∷ q ∷ (to - from) ∷ numbered (now successors) from to)) (now buffer) ⌝ }
-    ensures { λ r. ⌜ Put dry at (line (d ∷ q ∷ (to - from) ∷ numbered (now (successors .entry)) from to)) (now (buffer .entry)) (now (buffer .exit)) r ⌝ }
+    requires { ⌜ Stretch (now successors) from to × Room dry at (lineOf (d ∷ q ∷ (to - from) ∷ fromOne (now successors) from to)) (now buffer) ⌝ }
+    ensures { λ r. ⌜ Put dry at (lineOf (d ∷ q ∷ (to - from) ∷ fromOne (now (successors .entry)) from to)) (now (buffer .entry)) (now (buffer .exit)) r ⌝ }
 {
     let a = put(dry, d, b' ', at, buffer);
     let b = put(dry, q, b' ', a, buffer);
@@ -85,7 +85,7 @@ pub fn put_jobs(
     at: usize,
     buffer: &mut [u8],
 ) -> usize
-    requires { ⌜ Given (now dur) (now dem) (now jobs) (now successors) × Room dry at (jobLines (rowsFrom 0 (now dur) (now dem) (paired (now jobs) (now successors)))) (now buffer) ⌝ }
+    requires { ⌜ Ready (now dur) (now dem) (now jobs) (now successors) × Room dry at (jobLines (rowsFrom 0 (now dur) (now dem) (paired (now jobs) (now successors)))) (now buffer) ⌝ }
     ensures { λ r. ⌜ Put dry at (jobLines (rowsFrom 0 (now (dur .entry)) (now (dem .entry)) (paired (now (jobs .entry)) (now (successors .entry))))) (now (buffer .entry)) (now (buffer .exit)) r ⌝ }
 {
     let mut j = 0;

@@ -11,7 +11,7 @@ ghost use lib.ListN.{length};
 ghost use Rattle.chains.specs.Listed.{paired};
 ghost use Rattle.scribe.specs.Form.{written};
 ghost use Rattle.scribe.specs.Made.{made};
-ghost use Rattle.scribe.specs.Writing.{Given, Ran, OutcomeSays};
+ghost use Rattle.scribe.specs.Writing.{Ready, Ran, OutcomeSays};
 
 // The number of bytes written; or the buffer is too short for them.
 pub enum Outcome {
@@ -28,7 +28,7 @@ pub fn write(
     successors: &[u32],
     buffer: &mut [u8],
 ) -> Outcome
-    requires { ⌜ Given (now dur) (now dem) (now jobs) (now successors) ⌝ }
+    requires { ⌜ Ready (now dur) (now dem) (now jobs) (now successors) ⌝ }
     ensures { λ r. ⌜ OutcomeSays (made cap (now (dur .entry)) (now (dem .entry)) (paired (now (jobs .entry)) (now (successors .entry)))) (now (buffer .entry)) (now (buffer .exit)) r ⌝ }
 {
     let bytes = put_project(true, cap, dur, dem, jobs, successors, buffer);
@@ -49,7 +49,7 @@ fn put_project(
     successors: &[u32],
     buffer: &mut [u8],
 ) -> usize
-    requires { ⌜ Given (now dur) (now dem) (now jobs) (now successors) ⌝ }
+    requires { ⌜ Ready (now dur) (now dem) (now jobs) (now successors) ⌝ }
     requires { ⌜ (dry ≡ false → length (written (made cap (now dur) (now dem) (paired (now jobs) (now successors)))) ≤ length (now buffer)) ⌝ }
     ensures { λ r. ⌜ Ran dry (made cap (now (dur .entry)) (now (dem .entry)) (paired (now (jobs .entry)) (now (successors .entry)))) (now (buffer .entry)) (now (buffer .exit)) r ⌝ }
 {

@@ -9,7 +9,7 @@ use lib.Dec.{eqb}
 use lib.ListN.{length}
 use borrow.Author.Tests.{eqb-true, eqb-false, eq-eqb, ne-eqb}
 use Rattle.texts.specs.Tokens.{Token, number, other}
-use Rattle.texts.specs.Readings.{Read, bad, good, one, exactly}
+use Rattle.texts.specs.Readings.{bad, good, one, exactly}
 use Rattle.texts.proofs.Readings.{bad-not-good}
 use Rattle.texts.proofs.Exactly.{NoNumber, NumberThat, OneRefused, one-refused, one-read}
 

@@ -3,7 +3,7 @@ use Prim.Native.Nat.{ℕ, zero, suc, _+_, _-_, _≤_, _<_}
 use native.Mathlib.Omega.{arith}
 use mathlib.Core.Path.{_≡_, refl, ap, subst}
 use mathlib.Core.Bool.{Bool, true, false, cond}
-use mathlib.Core.List.{List, [], _∷_, _++_, append-assoc, append-nil}
+use mathlib.Core.List.{List, [], _∷_, _++_, map, append-assoc, append-nil}
 use mathlib.Core.Logic.{_⊎_, inl, inr}
 use lib.Dec.{leb}
 use lib.ListN.{length}
@@ -74,6 +74,42 @@ module _ {A : Type 0} (f : List Token → Read A) (ys : List A) (m : ℕ) (ts : 
   pub times-done : ahead ys (times (λ k. f) 0 0 ts) ≡ good ys ts
   unfolding times
   times-done = rw (append-nil ys)
+
+-- ---- readings said otherwise
+
+-- a reading, said by a function of what was read
+abbrev pub said : {A B : Type 0} → (A → B) → Read A → Read B
+said g (bad c) = bad c
+said g (good a ts) = good (g a) ts
+
+pub said-then : {A B C : Type 0} (g : B → C) (r : Read A) (f : A → List Token → Read B) → said g (andThen r f) ≡ andThen r (λ a ts. said g (f a ts))
+said-then g (bad c) f = refl
+said-then g (good a ts) f = refl
+
+-- where each is the other said otherwise, so are several
+pub times-said : {A B : Type 0} (g : A → B) (f : ℕ → List Token → Read A) (h : ℕ → List Token → Read B) → ((j : ℕ) (ts : List Token) → h j ts ≡ said g (f j ts))
+    → (j m : ℕ) (ts : List Token) → times h j m ts ≡ said (map g) (times f j m ts)
+unfolding times
+times-said g f h e j zero ts = refl
+times-said {A} {B} g f h e j (suc m) ts = rw (e j ts) (go (f j ts) (λ rest. times-said g f h e (suc j) m rest))
+  where
+    behind : (a : A) (r : Read (List A)) → andThen (said (map g) r) (λ xs end. good (g a ∷ xs) end) ≡ said (map g) (andThen r (λ xs end. good (a ∷ xs) end))
+    behind a (bad c) = refl
+    behind a (good xs end) = refl
+
+    go : (r : Read A) → ((rest : List Token) → times h (suc j) m rest ≡ said (map g) (times f (suc j) m rest))
+        → andThen (said g r) (λ a rest. andThen (times h (suc j) m rest) (λ xs end. good (a ∷ xs) end))
+        ≡ said (map g) (andThen r (λ a rest. andThen (times f (suc j) m rest) (λ xs end. good (a ∷ xs) end)))
+    go (bad c) k = refl
+    go (good a rest) k = rw (k rest) (behind a (times f (suc j) m rest))
+
+pub said-good : {A B : Type 0} (g : A → B) (r : Read A) (b : B) (rest : List Token) → said g r ≡ good b rest → (a : A) × (r ≡ good a rest) × (b ≡ g a)
+said-good g (bad c) b rest e = bad-not-good (bad c) c b rest refl e
+said-good g (good a ts) b rest e = let u : ts ≡ rest = cc in (a, rw u, cc)
+
+pub said-bad : {A B : Type 0} (g : A → B) (r : Read A) (c : ℕ) → said g r ≡ bad c → r ≡ bad c
+said-bad g (bad d) c e = cc
+said-bad g (good a ts) c e = bad-not-good (good (g a) ts) c (g a) ts e refl
 
 -- ---- what readings take
 

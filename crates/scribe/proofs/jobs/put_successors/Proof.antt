@@ -5,14 +5,14 @@ use native.Mathlib.Omega.{arith}
 use mathlib.Core.Path.{_≡_, ap, _∙_}
 use lib.ListN.{length}
 use borrow.Author.Needs.{needs}
-use Rattle.scribe.specs.Says.{behind, numbered}
+use Rattle.scribe.specs.Says.{restOf, fromOne}
 use Rattle.scribe.proofs.Puts.{room-same, Going, going-start, going-room, going-step, going-end}
 use Rattle.scribe.proofs.Steps.{number-same, byte-same, numbered-none, successors-step}
 use Rattle.scribe.proofs.jobs.put_successors.Statement.{statement}
 use Rattle.scribe.proofs.jobs.put_successors.Tie as tie
 
 abbrev Inv-loop : tie.InvT-loop
-Inv-loop dry successors from to at buffer₀ i₀ place₀ buffer i place = (i ≤ to) × (length buffer ≡ length buffer₀) × Going dry at (behind (numbered successors from to)) buffer₀ buffer place (behind (numbered successors i to))
+Inv-loop dry successors from to at buffer₀ i₀ place₀ buffer i place = (i ≤ to) × (length buffer ≡ length buffer₀) × Going dry at (restOf (fromOne successors from to)) buffer₀ buffer place (restOf (fromOne successors i to))
 
 abbrev μ-loop : tie.MeasureT-loop
 μ-loop dry successors from to at buffer₀ i₀ place₀ buffer i place = to - i
@@ -58,7 +58,7 @@ same-length : tie.Need-same-length Inv-loop μ-loop
 same-length c = c .before .loop .inv .1
 
 returns : tie.Need-returns Inv-loop μ-loop
-returns c = going-end (ap behind (numbered-none _ _ _ (c .loop-test .left) (c .before .before .before .before .pre .0 .within))) (c .before .loop .inv .2)
+returns c = going-end (ap restOf (numbered-none _ _ _ (c .loop-test .left) (c .before .before .before .before .pre .0 .within))) (c .before .loop .inv .2)
 
 pub put-successors-spec : {M : Type 1} → statement M
 put-successors-spec =

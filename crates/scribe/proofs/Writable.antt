@@ -1,5 +1,4 @@
--- Which projects are within the limits of the Patterson layout (document 01, 'Library layouts'; document 02, Item 1): those that, once written, the
--- reader takes.
+-- Projects that the Patterson layout can say (document 01, 'Library layouts'): within its limits, with as many demands as capacities in each row.
 use Prim.Native.Nat.{ℕ, _≤_, _<_}
 use mathlib.Core.Path.{_≡_}
 use lib.ListN.{length}
