@@ -13,6 +13,7 @@ use Rattle.lists.proofs.Tests.{both-true, true-both}
 use Rattle.texts.specs.Tokens.{Token, tokens}
 use Rattle.texts.specs.Readings.{bad, good}
 use Rattle.texts.proofs.Readings.{one-takes, one-codes}
+use Rattle.texts.proofs.Exactly.{OneRefused, one-refused}
 use Rattle.headings.specs.Lines.{line, behind, counted}
 use Rattle.headings.specs.Headings.{headings, Mark, marks, inOrder}
 
@@ -60,3 +61,8 @@ module _ (top : ℕ) (s : List ℕ) where
   pub counted-takes : (v : ℕ) (rest : List Token) → counted top s ≡ good v rest → v ≤ top
   unfolding counted
   counted-takes v rest e = one-takes top 31 v (tokens (behind 58 (line s))) rest e .1
+
+  -- 30 where no number stands there, 31 where it is above the limit
+  pub counted-refused : (c : ℕ) → (counted top s ≡ bad c) ↔ OneRefused top 31 c (tokens (behind 58 (line s)))
+  unfolding counted
+  counted-refused c = one-refused top 31 c (tokens (behind 58 (line s)))

@@ -87,7 +87,7 @@ psplib-takes s x rest e = go (inOrder 0 (marks s)) e
     go true q = sections-take (λ k. section k (marks s)) x rest q
     go false q = bad-not-good (bad 35) 35 x rest refl q
 
-sections-codes : (part : ℕ → List ℕ) (c : ℕ) → sections part ≡ bad c → OfText c
+pub sections-codes : (part : ℕ → List ℕ) (c : ℕ) → sections part ≡ bad c → OfText c
 unfolding sections
 sections-codes part c =
     then-codes (counted mostJobs (part 0)) _ c (λ q. low-code (counted-codes mostJobs (part 0) c q)) (λ n u p.

@@ -1,6 +1,6 @@
--- When a text of the Patterson layout is refused, in facts: a successor, and the whole text. The parts between, numbers up to a limit and several
+-- When a text is refused, in facts: a successor, a row of PSPLIB's tables, and a whole text of the Patterson layout. The parts between, numbers up to a limit and several
 -- readings one after the other, have theirs in `texts: Exactly`.
-use Prim.Native.Nat.{ℕ, _-_, _≤_, _<_}
+use Prim.Native.Nat.{ℕ, _+_, _-_, _≤_, _<_}
 use native.Mathlib.Omega.{arith}
 use mathlib.Core.Path.{_≡_, refl}
 use mathlib.Core.Bool.{Bool, true, false, cond}
@@ -8,10 +8,13 @@ use mathlib.Core.List.{List, _∷_}
 use mathlib.Core.Logic.{_⊎_, inl, inr, _↔_}
 use lib.Dec.{eqb}
 use borrow.Author.Tests.{eqb-true, eq-eqb}
+use Rattle.joblist.specs.Limits.{mostTime, mostDemand}
 use Rattle.texts.specs.Tokens.{Token, number, tokens}
-use Rattle.texts.specs.Readings.{Read, bad, good, andThen, one, times, nothingMore}
+use Rattle.texts.specs.Readings.{Read, bad, good, andThen, one, exactly, times, many, nothingMore}
 use Rattle.texts.proofs.Readings.{bad-not-good}
-use Rattle.texts.proofs.Exactly.{NoNumber, NumberThat, OneRefused, one-refused, one-read, then-refused, over-refused}
+use Rattle.texts.proofs.Exactly.{NoNumber, NumberThat, OneRefused, one-refused, one-read, then-refused, First, first-refused, last-refused, over-refused}
+use Rattle.texts.proofs.Given.{ExactlyRefused, exactly-refused}
+use Rattle.rows.specs.Tables.{numbered, relation, Need, request}
 use Rattle.rows.specs.Projects.{Row, Project, link}
 use Rattle.rows.specs.Patterson.{row, Opening, opening, project, patterson}
 
@@ -51,6 +54,27 @@ module _ (n c : ℕ) (ts : List Token) where
 
   pub link-refused : (link n ts ≡ bad c) ↔ LinkRefused n c ts
   link-refused = (link-to, link-from)
+
+-- ---- the rows of PSPLIB's tables: 30 where the job's number or the 1 behind it is not that, then what stands behind them
+
+abbrev pub NumberedRefused : ℕ → ℕ → List Token → Type 0
+NumberedRefused j c ts = First c (exactly (j + 1) ts) (λ a rest. ExactlyRefused 1 c rest)
+
+module _ (c : ℕ) where
+  pub numbered-refused : (j : ℕ) (ts : List Token) → (numbered j ts ≡ bad c) ↔ NumberedRefused j c ts
+  unfolding numbered
+  numbered-refused j ts = first-refused (exactly (j + 1) ts) _ _ c (λ a rest. exactly-refused 1 c rest)
+
+  pub relation-refused : (n j : ℕ) (ts : List Token) → (relation n j ts ≡ bad c) ↔ First c (numbered j ts) (λ a t₁. First c (one n 31 t₁) (λ m t₂. times (λ i. link n) 0 m t₂ ≡ bad c))
+  unfolding relation
+  relation-refused n j ts = first-refused (numbered j ts) _ _ c (λ a t₁. first-refused (one n 31 t₁) _ _ c (λ m t₂. (λ e. e, λ e. e)))
+
+  pub request-refused : (k j : ℕ) (ts : List Token) → (request k j ts ≡ bad c) ↔ First c (numbered j ts) (λ a t₁. First c (one mostTime 31 t₁) (λ d t₂. many mostDemand k t₂ ≡ bad c))
+  unfolding request
+  request-refused k j ts =
+      first-refused (numbered j ts) _ _ c (λ a t₁.
+      first-refused (one mostTime 31 t₁) _ _ c (λ d t₂.
+      last-refused (many mostDemand k t₂) (λ qs t₃. record { duration = d; demands = qs }) (λ qs t₃. t₃) c))
 
 -- ---- the whole text: its opening, one of its rows, or text left over
 

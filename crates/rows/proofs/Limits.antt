@@ -1,4 +1,4 @@
--- What a text that was read says is within the limits; and the refusals that a text itself can meet are 30, 31 and 32.
+-- What a Patterson text that was read says is within the limits; and the refusals that such a text itself can meet are 30, 31 and 32.
 use Prim.Native.Nat.{ℕ, zero, suc, _+_, _≤_, _<_}
 use native.Mathlib.Omega.{arith}
 use mathlib.Core.Path.{_≡_, refl, sym, subst}
@@ -115,3 +115,12 @@ patterson-codes s c =
     then-codes (times (row (o .jobs) (o .resources)) 0 (o .jobs) u) _ c
     (times-codes (row (o .jobs) (o .resources)) OfText (λ j d v q. row-codes (Whole (o .resources)) (o .jobs) j d v q) 0 (o .jobs) c u)
     (λ rs v p' q. low-code (inl (over-codes (record { capacities = o .capacities; rows = rs }) v c q))))
+
+-- none beyond 32
+pub patterson-beyond : (s : List ℕ) (k : ℕ) → 32 < k → patterson s ≡ bad k → ⊥
+patterson-beyond s k h e = go (patterson-codes s k e)
+  where
+    go : OfText k → ⊥
+    go (inl z) = omega arith
+    go (inr (inl z)) = omega arith
+    go (inr (inr z)) = omega arith

@@ -69,6 +69,27 @@ then-refused {A} {B} r f c = (then-bad r f c, from r)
     from r (inl e) = rw e
     from r (inr (a, rest, e, q)) = rw e q
 
+-- the first of two readings that is refused: this one, or, behind it, another
+abbrev pub First : {A : Type 0} → ℕ → Read A → (A → List Token → Type 0) → Type 0
+First {A} c r Next = (r ≡ bad c) ⊎ ((a : A) × (rest : List Token) × (r ≡ good a rest) × Next a rest)
+
+pub first-refused : {A B : Type 0} (r : Read A) (f : A → List Token → Read B) (Next : A → List Token → Type 0) (c : ℕ)
+    → ((a : A) (rest : List Token) → (f a rest ≡ bad c) ↔ Next a rest) → (andThen r f ≡ bad c) ↔ First c r Next
+first-refused {A} r f Next c h = (λ e. to (then-refused r f c .0 e), λ q. then-refused r f c .1 (from q))
+  where
+    to : (r ≡ bad c) ⊎ ((a : A) × (rest : List Token) × (r ≡ good a rest) × (f a rest ≡ bad c)) → First c r Next
+    to (inl e) = inl e
+    to (inr (a, rest, e, q)) = inr (a, rest, e, h a rest .0 q)
+
+    from : First c r Next → (r ≡ bad c) ⊎ ((a : A) × (rest : List Token) × (r ≡ good a rest) × (f a rest ≡ bad c))
+    from (inl e) = inl e
+    from (inr (a, rest, e, q)) = inr (a, rest, e, h a rest .1 q)
+
+-- the last of them, behind which nothing is refused
+pub last-refused : {A B : Type 0} (r : Read A) (f : A → List Token → B) (end : A → List Token → List Token) (c : ℕ) → (andThen r (λ a rest. good (f a rest) (end a rest)) ≡ bad c) ↔ (r ≡ bad c)
+last-refused (bad d) f end c = (λ e. cc, λ e. cc)
+last-refused (good a rest) f end c = ((λ e. bad-not-good (good (f a rest) (end a rest)) c (f a rest) (end a rest) e refl), (λ e. bad-not-good (good a rest) c a rest e refl))
+
 -- text is left over
 pub over-refused : {A : Type 0} (a : A) (ts : List Token) (c : ℕ) → (nothingMore a ts ≡ bad c) ↔ ((c ≡ 30) × ((t : Token) × (rest : List Token) × (ts ≡ t ∷ rest)))
 over-refused {A} a ts c = (to ts, from ts)
