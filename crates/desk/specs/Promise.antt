@@ -18,5 +18,5 @@ pub use Rattle.scribe.specs.Made.{made}
 pub use Rattle.layouts.specs.Calls.{Lent, TextCall, TextAfter}
 pub use Rattle.layouts.specs.Tests.{Fits, Unfit, Refusal}
 pub use Rattle.layouts.specs.Table.{Filled, Taken, Answered}
-pub use Rattle.layouts.specs.Promise.{Written, Respects, Reads}
-pub use Rattle.layouts.specs.Write.{WriteCall, WriteAfter, textOf, WriteRefusal, WriteLeaves, WriteAnswered, SaysSame, textLeft, Writes}
+pub use Rattle.layouts.specs.Promise.{ListedIn, Respects, Reads}
+pub use Rattle.layouts.specs.Write.{WriteCall, WriteAfter, pairsIn, textOf, WriteRefusal, writeLeaves, WriteAnswered, SaysSame, textLeft, GivenBack, readAgain, TakenAgain, Writes}

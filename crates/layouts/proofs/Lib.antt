@@ -4,10 +4,12 @@ pub mod Answering
 pub mod Meaning
 pub mod One
 pub mod When
+pub mod Exactly
 pub mod Computed
 pub mod WriteTests
-pub mod WriteBack
+pub mod WriteWhen
 pub mod RoundTrip
+pub mod WriteBack
 pub mod Cases
 pub mod PsplibCases
 pub mod WriteCases

@@ -25,7 +25,7 @@ use Rattle.rows.specs.Projects.{Row, Project, pairsOf, durations, demandsOn, Wi
 use Rattle.layouts.specs.Calls.{Lent, TextCall, TextAfter, Order, durationOf}
 use Rattle.layouts.specs.Tests.{Refusal}
 use Rattle.layouts.specs.Table.{Filled, Taken, Leaves, Answered}
-use Rattle.layouts.specs.Promise.{windows, Written, Respects, Reads}
+use Rattle.layouts.specs.Promise.{windows, ListedIn, Respects, Reads}
 use Rattle.layouts.proofs.Tests.{Passed, refusal-none}
 
 -- a pair's place
@@ -108,16 +108,16 @@ module _ (x : Project) (resource horizon : ℕ) (L K : Lent) (limits : Within x)
   successors-at : (i : ℕ) → i < length (pairsOf x) → K .successors ! i ≡ map (λ (p : Pair). p .successor) (pairsOf x) ! i
   successors-at i b = ap (λ (l : List ℕ). l ! i) (f .successors) ∙ front-at (map (λ (p : Pair). p .successor) (pairsOf x)) _ i (omega (arith, length-map (pairsOf x) (λ (p : Pair). p .successor)))
 
-  written : (a b : ℕ) → Order x a b → Written K (length (pairsOf x)) a b
+  written : (a b : ℕ) → Order x a b → ListedIn K (length (pairsOf x)) a b
   written a b r = let q = pair-place (pairsOf x) a b r in (q .0, q .1, jobs-at (q .0) (q .1) ∙ q .2, successors-at (q .0) (q .1) ∙ q .3)
 
-  of-written : (a b : ℕ) → Written K (length (pairsOf x)) a b → Order x a b
+  of-written : (a b : ℕ) → ListedIn K (length (pairsOf x)) a b → Order x a b
   of-written a b (i, h, p, q) = place-pair (pairsOf x) a b i h (sym (jobs-at i h) ∙ p) (sym (successors-at i h) ∙ q)
 
-  pub filled-ordered : Below (length (K .dur)) (Written K (length (pairsOf x))) × (Cycle (Written K (length (pairsOf x))) → ⊥)
+  pub filled-ordered : Below (length (K .dur)) (ListedIn K (length (pairsOf x))) × (Cycle (ListedIn K (length (pairsOf x))) → ⊥)
   filled-ordered = (
     (λ a b r. rw dur-long (limits .range a b (of-written a b r))),
-    (λ c. passed .acyclic (cycle-map (Written K (length (pairsOf x))) (Order x) of-written c)),
+    (λ c. passed .acyclic (cycle-map (ListedIn K (length (pairsOf x))) (Order x) of-written c)),
   )
 
   module _ (s : List ℕ) (t : Respects K (length (pairsOf x)) horizon s) where
@@ -165,7 +165,7 @@ module _ (c : TextCall) (limits : (x : Project) (rest : List Token) → c .text 
         let t = read-taken c a r e in
         let y = t .0 in
         let n = refusal-none c (y .x) (y .rest) (y .text) (t .1) in
-        subst (λ (m : ℕ). Below (length (a .lent .dur)) (Written (a .lent) m) × (Cycle (Written (a .lent) m) → ⊥))
+        subst (λ (m : ℕ). Below (length (a .lent .dur)) (ListedIn (a .lent) m) × (Cycle (ListedIn (a .lent) m) → ⊥))
         (sym (ap (λ (z : Said). z .numbers ! 1) (y .says)))
         (filled-ordered (y .x) (c .resource) (c .horizon) (c .lent) (a .lent) (limits (y .x) (y .rest) (y .text)) (n .0) (n .1) (y .filled));
     kept = λ e s.

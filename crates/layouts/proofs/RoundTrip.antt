@@ -1,64 +1,61 @@
--- The round trip (document 02, Item 13), over the contracts of both calls: Item 1's reader, with any horizon that it takes, gives back the capacity, the
--- durations, the demands and the pairs that the writer was given; and it refuses such a text by its own arguments alone.
+-- The round trip (document 02, Item 13), over the answer tables of both calls: Item 1's reader, with any horizon that it takes, gives back the capacity, the
+-- durations, the demands and the pairs that the writer was given; and which horizons and lists it takes.
 use Prim.Native.Nat.{ℕ, _≤_, _<_}
 use native.Mathlib.Omega.{arith}
 use mathlib.Core.Path.{_≡_, sym, ap, _∙_}
-use mathlib.Core.List.{List, [], _∷_, _++_}
+use mathlib.Core.List.{[], _∷_, _++_}
 use mathlib.Core.Logic.{_↔_}
-use lib.ListN.{length, drop}
+use lib.ListN.{length, drop, length-map}
 use Rattle.answers.specs.Said.{Word, said}
-use Rattle.joblist.specs.Limits.{mostTime}
 use Rattle.chains.specs.Paths.{Precedes, Cycle}
 use Rattle.chains.proofs.Listed.{paired-length, paired-jobs, paired-successors}
+use Rattle.texts.specs.Readings.{good}
 use Rattle.texts.proofs.Readings.{good-one}
-use Rattle.rows.specs.Projects.{Project, pairsOf, durations, demandsOn}
+use Rattle.rows.specs.Projects.{Row, Project, pairsOf}
 use Rattle.rows.specs.Patterson.{patterson}
-use Rattle.layouts.specs.Calls.{Lent, TextCall, TextAfter}
-use Rattle.layouts.specs.Tests.{Fits, TooLong}
-use Rattle.layouts.specs.Promise.{Reads}
-use Rattle.layouts.specs.Write.{WriteCall, WriteAfter, pairsIn, textLeft, Writes, GivenBack}
+use Rattle.layouts.specs.Calls.{Lent, TextAfter}
+use Rattle.layouts.specs.Table.{Answered}
+use Rattle.layouts.specs.Write.{WriteCall, WriteAfter, pairsIn, SaysSame, textLeft, GivenBack, readAgain, TakenAgain}
+use Rattle.layouts.specs.WriteWhen.{WritePassed}
 use Rattle.layouts.proofs.Tests.{none-tested, refusal-of, refusal-none}
 use Rattle.layouts.proofs.Meaning.{read-taken}
 use Rattle.layouts.proofs.When.{read-exactly}
-use Rattle.layouts.proofs.WriteTests.{passed-none, written-exactly}
 
-module _ (c : WriteCall) (a : WriteAfter) (w : Writes c a) (wrote : a .says .word ≡ Word.written) (horizon : ℕ) (L : Lent) where
-  -- the text that was written, read for its one resource
-  abbrev call : TextCall
-  call = record { text = patterson (textLeft a); resource = 0; horizon = horizon; lent = L }
+module _ (c : WriteCall) (a : WriteAfter) (p : WritePassed c) (x : Project) (text : patterson (textLeft a) ≡ good x []) (same : SaysSame c x) (horizon : ℕ) (L : Lent) (b : TextAfter)
+    (r : Answered (readAgain a horizon L) b) where
+  count : length (pairsOf x) ≡ length (c .jobs)
+  count = ap length (same .pairs) ∙ paired-length (c .jobs) (c .successors) (p .even)
 
-  even : length (c .successors) ≡ length (c .jobs)
-  even = passed-none c .0 (written-exactly c a (w .answered) .0 wrote) .even
+  pub given-back : b .says .word ≡ Word.read → GivenBack c L b
+  given-back e =
+      let t = read-taken (readAgain a horizon L) b r e .0 in
+      let q : t .x ≡ x = good-one (patterson (textLeft a)) (t .x) x (t .rest) [] (t .text) text .0 in
+      let f = rw q at (t .filled) in
+      record {
+        says = t .says ∙ rw (q, same .capacity, count);
+        dur = f .dur ∙ same .durations;
+        dem = f .dem ∙ same .demands;
+        jobs = f .jobs ∙ rw (count, same .pairs, paired-jobs (c .jobs) (c .successors) (p .even));
+        successors = f .successors ∙ rw (count, same .pairs, paired-successors (c .jobs) (c .successors) (p .even));
+      }
 
-  module _ (b : TextAfter) (r : Reads call b) where
-    pub round-trip : b .says .word ≡ Word.read → GivenBack c L b
-    round-trip e =
-        let x = w .readable wrote in
-        let s = x .2 in
-        let t = read-taken call b (r .answered) e .0 in
-        let q : t .x ≡ x .0 = good-one (patterson (textLeft a)) (t .x) (x .0) (t .rest) [] (t .text) (x .1) .0 in
-        let pairs : pairsOf (t .x) ≡ pairsIn c = ap (λ (y : Project). pairsOf y) q ∙ s .pairs in
-        let count : length (pairsOf (t .x)) ≡ length (c .jobs) = ap length pairs ∙ paired-length (c .jobs) (c .successors) even in
-        record {
-          says = t .says ∙ rw (q, s .capacity) (ap (λ (m : ℕ). said Word.read (c .cap ∷ m ∷ [])) (ap (λ (y : Project). length (pairsOf y)) (sym q) ∙ count));
-          dur = t .filled .dur ∙ ap (λ (y : Project). durations (y .rows)) q ∙ s .durations;
-          dem = t .filled .dem ∙ ap (λ (y : Project). demandsOn 0 (y .rows)) q ∙ s .demands;
-          jobs = t .filled .jobs ∙ rw (count, pairs) (ap (λ (l : List ℕ). l ++ drop (length (c .jobs)) (L .jobs)) (paired-jobs (c .jobs) (c .successors) even));
-          successors = t .filled .successors ∙ rw (count, pairs) (ap (λ (l : List ℕ). l ++ drop (length (c .jobs)) (L .successors)) (paired-successors (c .jobs) (c .successors) even));
-        }
+  -- ---- when such a text is read
 
-    -- the project that the text says, and when it is read: the horizon is within its limit and no chain is longer, and the lists fit
-    abbrev said-by : Project
-    said-by = w .readable wrote .0
+  rows-are : length (x .rows) ≡ length (c .dur)
+  rows-are = sym (length-map (x .rows) (λ (y : Row). y .duration)) ∙ ap length (same .durations)
 
-    pub round-trip-exactly : (b .says .word ≡ Word.read) ↔ ((horizon ≤ mostTime) × Fits said-by L × (TooLong said-by horizon → ⊥))
-    round-trip-exactly = (
-      (λ e. let n = refusal-none call said-by [] (w .readable wrote .1) (read-exactly call b (r .answered) .0 e) in (n .0, n .1 .fits, n .1 .short)),
-      (λ q. read-exactly call b (r .answered) .1 (refusal-of call said-by [] (w .readable wrote .1) 0 (q .0) (none-tested said-by 0 horizon L (record { chosen = one; fits = q .1; acyclic = none; short = q .2 })))),
-    )
-      where
-        one : 0 < length (said-by .capacities)
-        one = omega (arith, ap length (w .readable wrote .2 .capacity))
+  pub taken-exactly : (b .says .word ≡ Word.read) ↔ TakenAgain c horizon L
+  taken-exactly = (
+    (λ e.
+        let n = refusal-none (readAgain a horizon L) x [] text (read-exactly (readAgain a horizon L) b r .0 e) in
+        (n .0, rw (← rows-are, ← count) (n .1 .fits), rw (← rows-are, ← same .pairs, ← same .durations) (n .1 .short))),
+    (λ q.
+        read-exactly (readAgain a horizon L) b r .1
+        (refusal-of (readAgain a horizon L) x [] text 0 (q .0) (none-tested x 0 horizon L (record { chosen = one; fits = rw (rows-are, count) (q .1); acyclic = none; short = rw (rows-are, same .pairs, same .durations) (q .2) })))),
+  )
+    where
+      one : 0 < length (x .capacities)
+      one = omega (arith, ap length (same .capacity))
 
-        none : Cycle (Precedes (pairsOf said-by)) → ⊥
-        none = rw (w .readable wrote .2 .pairs) (passed-none c .0 (written-exactly c a (w .answered) .0 wrote) .acyclic)
+      none : Cycle (Precedes (pairsOf x)) → ⊥
+      none = rw (same .pairs) (p .acyclic)

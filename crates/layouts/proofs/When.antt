@@ -1,5 +1,5 @@
 -- Each answer is given exactly when the table says so, in facts, of the contract alone: the words of an answer by the number of the first test that
--- fails, and each number by what specs/When.antt says of it. The text's own 30, 31 and 32 go on in `rows: Exactly` and `texts: Exactly`.
+-- fails, and each number by what specs/When.antt says of it. The text's own 30, 31, 32 and 35 go on in `rows: Exactly`, `psplib: Exactly` and `texts: Exactly`.
 use Prim.Native.Nat.{ℕ, zero, suc, _≤_, _<_}
 use native.Mathlib.Omega.{arith}
 use mathlib.Core.Path.{_≡_, refl, sym, ap, _∙_, subst}
@@ -69,10 +69,10 @@ module _ (c : TextCall) where
   by-test x k (inr (u, inr (v, inr (w, inr (y, p))))) = inl p
 
   -- the text's own numbers but 31
-  abbrev OfText : ℕ → Type 0
-  OfText k = (k ≡ 30) ⊎ ((k ≡ 32) ⊎ (k ≡ 35))
+  abbrev TextsOwn : ℕ → Type 0
+  TextsOwn k = (k ≡ 30) ⊎ ((k ≡ 32) ⊎ (k ≡ 35))
 
-  text-apart : (k : ℕ) → OfText k → OfProject k → ⊥
+  text-apart : (k : ℕ) → TextsOwn k → OfProject k → ⊥
   text-apart k (inl e) (inl p) = omega arith
   text-apart k (inr (inl e)) (inl p) = omega arith
   text-apart k (inr (inr e)) (inl p) = omega arith
@@ -80,13 +80,13 @@ module _ (c : TextCall) where
   text-apart k (inr (inl e)) (inr p) = omega (arith, p .0)
   text-apart k (inr (inr e)) (inr p) = p .1 e
 
-  not-31 : (k : ℕ) → OfText k → k ≡ 31 → ⊥
+  not-31 : (k : ℕ) → TextsOwn k → k ≡ 31 → ⊥
   not-31 k (inl e) z = omega arith
   not-31 k (inr (inl e)) z = omega arith
   not-31 k (inr (inr e)) z = omega arith
 
   -- 30, 32 and 35 are the text's alone
-  pub when-text : (k : ℕ) → OfText k → Refusal c k ↔ Meets c k
+  pub when-text : (k : ℕ) → TextsOwn k → Refusal c k ↔ Meets c k
   when-text k d = (λ r. to (parts k r), of-text k)
     where
       to : ((mostTime < c .horizon) × (k ≡ 31)) ⊎ (Meets c k ⊎ ((s : Says c) × Tested (s .x) (c .resource) (c .horizon) (c .lent) k)) → Meets c k

@@ -1,10 +1,9 @@
--- What is written is read back (document 02, Item 13): the text that the writer leaves says what it was given, and Item 1's reader, with any horizon that
--- it takes, gives back the same capacity, durations, demands and pairs. It can refuse such a text by its own arguments alone.
+-- From the answer table to the contract of the writer: the text that it leaves says what it was given, and a reader gives it back (document 02, Item 13).
 use Prim.Native.Nat.{ℕ, zero, suc, _≤_, _<_}
 use native.Mathlib.Omega.{arith}
 use mathlib.Core.Path.{_≡_, refl, sym, ap, _∙_}
 use mathlib.Core.List.{List, [], _∷_, _++_}
-use mathlib.Core.Logic.{inl, inr}
+use mathlib.Core.Logic.{inl, inr, _↔_}
 use lib.ListN.{length, drop}
 use lib.Seq.{take-append-seam}
 use Rattle.lists.proofs.Every.{every-from}
@@ -19,8 +18,13 @@ use Rattle.rows.specs.Patterson.{patterson}
 use Rattle.scribe.specs.Form.{written}
 use Rattle.scribe.specs.Made.{made}
 use Rattle.scribe.proofs.Rows.{made-back, pairs-back, durations-back, demands-back}
-use Rattle.layouts.specs.Write.{WriteCall, WriteAfter, pairsIn, textOf, columns, alone, PairsTested, WriteRefusal, WriteAnswered, SaysSame, textLeft, Writes}
-use Rattle.layouts.proofs.WriteTests.{by-lists, good-lists, behind-lists, WritePassed, passed-none, left-by, written-exactly}
+use Rattle.layouts.specs.Calls.{Lent, TextAfter}
+use Rattle.layouts.specs.Promise.{Reads}
+use Rattle.layouts.specs.Write.{WriteCall, WriteAfter, pairsIn, textOf, columns, alone, PairsTested, WriteRefusal, WriteAnswered, SaysSame, textLeft, readAgain, TakenAgain, Writes}
+use Rattle.layouts.specs.WriteWhen.{WritePassed}
+use Rattle.layouts.proofs.WriteTests.{by-lists, good-lists, behind-lists, left-by, written-exactly}
+use Rattle.layouts.proofs.WriteWhen.{write-none}
+use Rattle.layouts.proofs.RoundTrip.{given-back, taken-exactly}
 
 -- ---- the text that is left says the same
 
@@ -41,15 +45,31 @@ module _ (c : WriteCall) (p : WritePassed c) where
     pairs = pairs-back (length (c .dur)) (c .cap) (c .dur) (c .dem) (c .jobs) (c .successors) (p .rising) (sym (p .even)) refl (p .lists .sized .1 .0);
   }
 
+module _ (c : WriteCall) (a : WriteAfter) (r : WriteAnswered c a) (wrote : a .says .word ≡ Word.written) where
+  none : WriteRefusal c 0
+  none = written-exactly c a r .0 wrote
+
+  passed : WritePassed c
+  passed = write-none c .0 none
+
+  left-says : patterson (textLeft a) ≡ good (said-by c passed) []
+  left-says =
+      ap patterson (ap (λ (y : WriteAfter). textLeft y) (left-by c a r 0 none) ∙ take-append-seam (textOf c) (drop (length (textOf c)) (c .buffer)))
+      ∙ text-back c passed
+
 pub writes-of : (c : WriteCall) (a : WriteAfter) → WriteAnswered c a → Writes c a
 writes-of c a r = record {
   answered = r;
-  readable = λ e.
-      let none = written-exactly c a r .0 e in
-      let p = passed-none c .0 none in
-      let left : textLeft a ≡ textOf c = ap (λ (y : WriteAfter). textLeft y) (left-by c a r 0 none) ∙ take-append-seam (textOf c) (drop (length (textOf c)) (c .buffer)) in
-      (said-by c p, ap patterson left ∙ text-back c p, same-said c p);
+  readable = λ e. (said-by c (passed c a r e), left-says c a r e, same-said c (passed c a r e));
+  back = λ e horizon L b q. given-back c a (passed c a r e) (said-by c (passed c a r e)) (left-says c a r e) (same-said c (passed c a r e)) horizon L b (q .answered);
 }
+
+-- over both contracts: when the reader takes such a text
+pub round-trip-exactly : (c : WriteCall) (a : WriteAfter) → Writes c a → a .says .word ≡ Word.written → (horizon : ℕ) (L : Lent) (b : TextAfter) → Reads (readAgain a horizon L) b
+    → (b .says .word ≡ Word.read) ↔ TakenAgain c horizon L
+round-trip-exactly c a w e horizon L b q =
+    let x = w .readable e in
+    taken-exactly c a (passed c a (w .answered) e) (x .0) (x .1) (x .2) horizon L b (q .answered)
 
 -- ---- from what the parts say to the contract
 
@@ -92,6 +112,6 @@ module _ (c : WriteCall) where
           wrote bytes room d e =
               writes-of c _ (record {
                 number = 0;
-                refusal = passed-none c .1 (record { lists = lists-good; even = even; rising = rising; acyclic = acyclic; room = room });
+                refusal = write-none c .1 (record { lists = lists-good; even = even; rising = rising; acyclic = acyclic; room = room });
                 leaves = rw (d, e);
               })

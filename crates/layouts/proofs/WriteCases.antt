@@ -17,7 +17,7 @@ use Rattle.chains.proofs.Cycles.{judged-acyclic}
 use Rattle.chains.proofs.Listed.{paired-below}
 use Rattle.scribe.specs.Form.{written}
 use Rattle.scribe.specs.Made.{rowsFrom}
-use Rattle.layouts.specs.Write.{WriteCall, WriteAfter, columns, alone, PairsTested, WriteLeaves, Writes}
+use Rattle.layouts.specs.Write.{WriteCall, WriteAfter, columns, alone, PairsTested, writeLeaves, Writes}
 use Rattle.layouts.proofs.WriteTests.{write-answered-one, behind-lists, by-lists}
 
 -- two jobs on a capacity of 5, with such pairs and such a buffer
@@ -29,7 +29,7 @@ unfolding refusal
 two-good js ss buffer = good 2 (columns (two js ss buffer)) (alone (two js ss buffer)) refl
 
 -- what the tests of the pairs say is the answer
-by-pairs : (js ss buffer : List ℕ) (k : ℕ) → PairsTested (two js ss buffer) k → (a : WriteAfter) → Writes (two js ss buffer) a → a ≡ WriteLeaves (two js ss buffer) k
+by-pairs : (js ss buffer : List ℕ) (k : ℕ) → PairsTested (two js ss buffer) k → (a : WriteAfter) → Writes (two js ss buffer) a → a ≡ writeLeaves (two js ss buffer) k
 by-pairs js ss buffer k t a w =
     write-answered-one (two js ss buffer) a _ (w .answered) (record { number = k; refusal = behind-lists (two js ss buffer) k (two-good js ss buffer) t; leaves = refl })
 

@@ -1,5 +1,4 @@
--- The writer's tests in facts: a call meets one of them alone; two results are equal; and each number is given exactly when its fault is there and those
--- before it are not.
+-- The writer's tests in facts: a call meets one of them alone; two results are equal; and an answer is given exactly when the table says so.
 use Prim.Native.Nat.{ℕ, zero, suc, _≤_, _<_}
 use native.Mathlib.Omega.{arith}
 use mathlib.Core.Path.{_≡_, refl, sym, ap, _∙_, subst}
@@ -17,7 +16,7 @@ use Rattle.chains.specs.Paths.{Precedes, Cycle}
 use Rattle.chains.specs.Listed.{Rising, NotRising}
 use Rattle.chains.proofs.Listed.{rising-one}
 use Rattle.layouts.specs.Tests.{Unless, None}
-use Rattle.layouts.specs.Write.{WriteCall, WriteAfter, pairsIn, textOf, columns, alone, PairsTested, WriteRefusal, WriteLeaves, WriteAnswered, Writes}
+use Rattle.layouts.specs.Write.{WriteCall, WriteAfter, pairsIn, textOf, columns, alone, PairsTested, WriteRefusal, writeLeaves, WriteAnswered, Writes}
 use Rattle.layouts.proofs.Tests.{Alone, unless-alone, none-alone}
 
 -- ---- one number alone
@@ -69,7 +68,7 @@ module _ (c : WriteCall) where
 -- ---- two results are equal
 
 pub write-answered-one : (c : WriteCall) (a b : WriteAfter) → WriteAnswered c a → WriteAnswered c b → a ≡ b
-write-answered-one c a b p q = p .leaves ∙ ap (WriteLeaves c) (write-refusal-one c (p .number) (q .number) (p .refusal) (q .refusal)) ∙ sym (q .leaves)
+write-answered-one c a b p q = p .leaves ∙ ap (writeLeaves c) (write-refusal-one c (p .number) (q .number) (p .refusal) (q .refusal)) ∙ sym (q .leaves)
 
 pub writes-one : (c : WriteCall) (a b : WriteAfter) → Writes c a → Writes c b → a ≡ b
 writes-one c a b p q = write-answered-one c a b (p .answered) (q .answered)
@@ -84,13 +83,13 @@ write-results-one c r s A B p q =
 -- ---- each answer exactly when
 
 module _ (c : WriteCall) (a : WriteAfter) (r : WriteAnswered c a) where
-  pub left-by : (k : ℕ) → WriteRefusal c k → a ≡ WriteLeaves c k
-  left-by k t = r .leaves ∙ ap (WriteLeaves c) (write-refusal-one c (r .number) k (r .refusal) t)
+  pub left-by : (k : ℕ) → WriteRefusal c k → a ≡ writeLeaves c k
+  left-by k t = r .leaves ∙ ap (writeLeaves c) (write-refusal-one c (r .number) k (r .refusal) t)
 
   pub write-refused-exactly : (k : ℕ) → (a .says ≡ said Word.refused (suc k ∷ [])) ↔ WriteRefusal c (suc k)
   write-refused-exactly k = (to (r .number) (r .refusal) (r .leaves), λ t. ap (λ (y : WriteAfter). y .says) (left-by (suc k) t))
     where
-      to : (j : ℕ) → WriteRefusal c j → a ≡ WriteLeaves c j → a .says ≡ said Word.refused (suc k ∷ []) → WriteRefusal c (suc k)
+      to : (j : ℕ) → WriteRefusal c j → a ≡ writeLeaves c j → a .says ≡ said Word.refused (suc k ∷ []) → WriteRefusal c (suc k)
       to zero t l e = said-apart Word.written Word.refused _ _ (λ z. omega arith) (sym (ap (λ (y : WriteAfter). y .says) l) ∙ e)
       to (suc j) t l e =
           let q : suc j ≡ suc k = ap (λ (y : Said). y .numbers ! 0) (sym (ap (λ (y : WriteAfter). y .says) l) ∙ e) in
@@ -99,33 +98,6 @@ module _ (c : WriteCall) (a : WriteAfter) (r : WriteAnswered c a) where
   pub written-exactly : (a .says .word ≡ Word.written) ↔ WriteRefusal c 0
   written-exactly = (to (r .number) (r .refusal) (r .leaves), λ t. ap (λ (y : WriteAfter). y .says .word) (left-by 0 t))
     where
-      to : (j : ℕ) → WriteRefusal c j → a ≡ WriteLeaves c j → a .says .word ≡ Word.written → WriteRefusal c 0
+      to : (j : ℕ) → WriteRefusal c j → a ≡ writeLeaves c j → a .says .word ≡ Word.written → WriteRefusal c 0
       to zero t l e = t
       to (suc j) t l e = absurd (not-said Word.refused Word.written (λ z. omega arith) (sym (ap (λ (y : WriteAfter). y .says .word) l) ∙ e))
-
--- what the tests have let through, where none fails
-pub record WritePassed (c : WriteCall) : Type 0 where
-  pub lists : GoodList (length (c .dur)) (columns c) (alone c)
-  pub even : length (c .successors) ≡ length (c .jobs)
-  pub rising : Rising (length (c .dur)) (c .jobs) (c .successors)
-  pub acyclic : Cycle (Precedes (pairsIn c)) → ⊥
-  pub room : length (textOf c) ≤ length (c .buffer)
-
-pub passed-none : (c : WriteCall) → WriteRefusal c 0 ↔ WritePassed c
-passed-none c = (to, λ p. behind-lists c 0 (p .lists) (inr (p .even, inr (p .rising, inr (p .acyclic, inr (p .room, refl))))))
-  where
-    to : WriteRefusal c 0 → WritePassed c
-    to (inl t) = absurd (omega (arith, t .1))
-    to (inr (s, inl t)) = absurd (omega (arith, t .1))
-    to (inr (s, inr (f, inl t))) = absurd (omega (arith, t .1))
-    to (inr (s, inr (f, inr (w, inl t)))) = absurd (omega (arith, t .1))
-    to (inr (s, inr (f, inr (w, inr (e, inl t))))) = absurd (omega (arith, t .1))
-    to (inr (s, inr (f, inr (w, inr (e, inr (o, inl t)))))) = absurd (omega (arith, t .1))
-    to (inr (s, inr (f, inr (w, inr (e, inr (o, inr (y, inl t))))))) = absurd (omega (arith, t .1))
-    to (inr (s, inr (f, inr (w, inr (e, inr (o, inr (y, inr (m, t)))))))) = record {
-      lists = record { sized = s; few = f; within = w .0; beside = w .1 };
-      even = e;
-      rising = o;
-      acyclic = y;
-      room = m;
-    }

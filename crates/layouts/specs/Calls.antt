@@ -1,4 +1,4 @@
--- A call of a reader of project texts (document 02, Item 1), whatever the layout, and what it leaves. A call holds what its layout makes of the text: a
+-- A call of a reader of project texts (document 02, Items 1 and 13), whatever the layout, and what it leaves. A call holds what its layout makes of the text: a
 -- project, or the first refusal that the text meets.
 use Prim.Native.Nat.{ℕ}
 use mathlib.Core.List.{List}

@@ -5,3 +5,4 @@ pub mod Promise
 pub mod When
 pub mod Parts
 pub mod Write
+pub mod WriteWhen

@@ -1,4 +1,4 @@
--- The answer table of a reader (document 02, Item 1): what it says and leaves, by the number of the first test that fails.
+-- The answer table of a reader (document 02, Items 1 and 13): what it says and leaves, by the number of the first test that fails.
 use Prim.Native.Nat.{ℕ, zero, suc, _+_, _<_}
 use mathlib.Core.Path.{_≡_}
 use mathlib.Core.List.{List, [], _∷_, _++_, map}

@@ -1,4 +1,4 @@
--- The tests of a reader (document 02, Item 1), in facts and in their order: the horizon's limit, then what the text meets, then 37, 38, 33, 34.
+-- The tests of a reader (document 02, Items 1 and 13), in facts and in their order: the horizon's limit, then what the text meets, then 37, 38, 33, 34.
 use Prim.Native.Nat.{ℕ, _≤_, _<_}
 use mathlib.Core.Path.{_≡_}
 use mathlib.Core.Logic.{_⊎_}

@@ -5,17 +5,18 @@ use mathlib.Core.List.{List, [], _∷_, _++_}
 use lib.ListN.{length, drop, take}
 use Rattle.lists.specs.Lists.{_!_, Every}
 use Rattle.answers.specs.Said.{Word, Said, said}
-use Rattle.joblist.specs.Limits.{Column, mostJobs, twoLists, supply}
+use Rattle.joblist.specs.Limits.{Column, mostTime, mostJobs, twoLists, supply}
 use Rattle.joblist.specs.GoodList.{Sized, Within, Any, Above, Unequal}
-use Rattle.chains.specs.Paths.{Pair, Precedes, Cycle}
+use Rattle.chains.specs.Paths.{Pair, Precedes, Cycle, Longer, weight}
 use Rattle.chains.specs.Listed.{paired, Rising, NotRising}
 use Rattle.texts.specs.Readings.{good}
 use Rattle.rows.specs.Projects.{Project, pairsOf, durations, demandsOn}
 use Rattle.rows.specs.Patterson.{patterson}
 use Rattle.scribe.specs.Form.{written}
 use Rattle.scribe.specs.Made.{made}
-use Rattle.layouts.specs.Calls.{Lent, TextAfter}
-use Rattle.layouts.specs.Tests.{Unless, None}
+use Rattle.layouts.specs.Calls.{Lent, TextCall, TextAfter}
+use Rattle.layouts.specs.Tests.{Fitting, Unless, None}
+use Rattle.layouts.specs.Promise.{Reads}
 
 -- one resource's capacity, durations, demands, jobs and successors of the pairs, and the lent buffer
 pub record WriteCall : Type 0 where
@@ -63,15 +64,15 @@ WriteRefusal c =
     (PairsTested c)))
 
 -- by the number of the refusal: the bytes in front and how many they are said, those beyond as they were; or that number, and the buffer as it was
-abbrev pub WriteLeaves : WriteCall → ℕ → WriteAfter
-WriteLeaves c zero = record { says = said Word.written (length (textOf c) ∷ []); buffer = textOf c ++ drop (length (textOf c)) (c .buffer) }
-WriteLeaves c (suc k) = record { says = said Word.refused (suc k ∷ []); buffer = c .buffer }
+abbrev pub writeLeaves : WriteCall → ℕ → WriteAfter
+writeLeaves c zero = record { says = said Word.written (length (textOf c) ∷ []); buffer = textOf c ++ drop (length (textOf c)) (c .buffer) }
+writeLeaves c (suc k) = record { says = said Word.refused (suc k ∷ []); buffer = c .buffer }
 
 -- the answer table
 pub record WriteAnswered (c : WriteCall) (a : WriteAfter) : Type 0 where
   pub number : ℕ
   pub refusal : WriteRefusal c number
-  pub leaves : a ≡ WriteLeaves c number
+  pub leaves : a ≡ writeLeaves c number
 
 -- a project that says what the call was given
 pub record SaysSame (c : WriteCall) (x : Project) : Type 0 where
@@ -84,12 +85,6 @@ pub record SaysSame (c : WriteCall) (x : Project) : Type 0 where
 abbrev pub textLeft : WriteAfter → List ℕ
 textLeft a = take (a .says .numbers ! 0) (a .buffer)
 
--- the contract of the writer
-pub record Writes (c : WriteCall) (a : WriteAfter) : Type 0 where
-  pub answered : WriteAnswered c a
-  -- what is written is a text of the Patterson layout that says the same
-  pub readable : a .says .word ≡ Word.written → (x : Project) × (patterson (textLeft a) ≡ good x []) × SaysSame c x
-
 -- what a reader of such a text gives back, L being the lists that were lent: the same capacity, durations, demands and pairs
 pub record GivenBack (c : WriteCall) (L : Lent) (b : TextAfter) : Type 0 where
   pub says : b .says ≡ said Word.read (c .cap ∷ length (c .jobs) ∷ [])
@@ -97,3 +92,22 @@ pub record GivenBack (c : WriteCall) (L : Lent) (b : TextAfter) : Type 0 where
   pub dem : b .lent .dem ≡ c .dem
   pub jobs : b .lent .jobs ≡ c .jobs ++ drop (length (c .jobs)) (L .jobs)
   pub successors : b .lent .successors ≡ c .successors ++ drop (length (c .jobs)) (L .successors)
+
+-- a call of Item 1's reader on the text that is left, for its one resource
+abbrev pub readAgain : WriteAfter → ℕ → Lent → TextCall
+readAgain a horizon L = record { text = patterson (textLeft a); resource = 0; horizon = horizon; lent = L }
+
+-- when such a text is read: the horizon is within its limit and no shorter than the longest chain, and the lent lists fit
+abbrev pub TakenAgain : WriteCall → ℕ → Lent → Type 0
+TakenAgain c horizon L =
+    (horizon ≤ mostTime)
+    × Fitting (length (c .dur)) (length (c .jobs)) (length (L .est)) (length (L .lct)) (length (L .dur)) (length (L .dem)) (length (L .jobs)) (length (L .successors))
+    × (Longer (Precedes (pairsIn c)) (length (c .dur)) (weight (c .dur)) horizon → ⊥)
+
+-- the contract of the writer
+pub record Writes (c : WriteCall) (a : WriteAfter) : Type 0 where
+  pub answered : WriteAnswered c a
+  -- what is written is a text of the Patterson layout that says the same
+  pub readable : a .says .word ≡ Word.written → (x : Project) × (patterson (textLeft a) ≡ good x []) × SaysSame c x
+  -- and Item 1's reader, with any horizon that it takes, gives back the same
+  pub back : a .says .word ≡ Word.written → (horizon : ℕ) (L : Lent) (b : TextAfter) → Reads (readAgain a horizon L) b → b .says .word ≡ Word.read → GivenBack c L b

@@ -1,4 +1,4 @@
-// Rounds over the pairs of a text until no value changes. After m rounds every chain of m steps is met, so that there are no more rounds than the
+// Rounds over pairs until no value changes, here over those of a text (`listed` has those of lent lists). After m rounds every chain of m steps is met, so that there are no more rounds than the
 // longest chain has jobs, and one in which nothing changes; where there is a cycle, no more than there are jobs and one.
 use crate::Pull;
 use crate::next_pair;

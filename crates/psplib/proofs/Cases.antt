@@ -1,110 +1,175 @@
--- Small texts of the PSPLIB layout, computed from the definition: what they say, or the first refusal that they meet. A text stands above its bytes.
+-- Small texts of the PSPLIB layout, computed from the definition: what they say, or the first refusal that they meet. Each is the first text with one part
+-- changed; bytes stand in the line above them.
+use Prim.Native.Nat.{ℕ}
 use mathlib.Core.Path.{_≡_, refl}
-use mathlib.Core.List.{[], _∷_}
+use mathlib.Core.List.{List, [], _∷_, _++_}
 use Rattle.texts.specs.Readings.{bad, good}
+use Rattle.headings.specs.Headings.{jobsHeading, resourcesHeading, relationsHeading, requestsHeading, capacitiesHeading}
 use Rattle.psplib.specs.Psplib.{psplib}
 
--- two jobs on one resource, 0 before 1, with a line in front that is passed over: `x\njobs (incl. supersource/sink ): 2\n  - renewable : 1 R\nPRECEDENCE RELATIONS:\nn\n1 1 1 2\n2 1 0\nREQUESTS/DURATIONS:\nn\n--\n1 1 3 1\n2 1 4 2\nRESOURCEAVAILABILITIES:\nn\n5\n`
-pub two-jobs : psplib (120 ∷ 10 ∷ 106 ∷ 111 ∷ 98 ∷ 115 ∷ 32 ∷ 40 ∷ 105 ∷ 110 ∷ 99 ∷ 108 ∷ 46 ∷ 32 ∷ 115 ∷ 117 ∷ 112 ∷ 101 ∷ 114 ∷ 115 ∷ 111 ∷ 117 ∷ 114 ∷ 99 ∷ 101 ∷ 47 ∷ 115 ∷ 105 ∷ 110 ∷ 107 ∷ 32 ∷ 41 ∷ 58 ∷ 32 ∷ 50 ∷ 10 ∷ 32 ∷ 32 ∷ 45 ∷ 32 ∷ 114 ∷ 101 ∷ 110 ∷ 101 ∷ 119 ∷ 97 ∷ 98 ∷ 108 ∷ 101 ∷ 32 ∷ 58 ∷ 32 ∷ 49 ∷ 32 ∷ 82 ∷ 10 ∷ 80 ∷ 82 ∷ 69 ∷ 67 ∷ 69 ∷ 68 ∷ 69 ∷ 78 ∷ 67 ∷ 69 ∷ 32 ∷ 82 ∷ 69 ∷ 76 ∷ 65 ∷ 84 ∷ 73 ∷ 79 ∷ 78 ∷ 83 ∷ 58 ∷ 10 ∷ 110 ∷ 10 ∷ 49 ∷ 32 ∷ 49 ∷ 32 ∷ 49 ∷ 32 ∷ 50 ∷ 10 ∷ 50 ∷ 32 ∷ 49 ∷ 32 ∷ 48 ∷ 10 ∷ 82 ∷ 69 ∷ 81 ∷ 85 ∷ 69 ∷ 83 ∷ 84 ∷ 83 ∷ 47 ∷ 68 ∷ 85 ∷ 82 ∷ 65 ∷ 84 ∷ 73 ∷ 79 ∷ 78 ∷ 83 ∷ 58 ∷ 10 ∷ 110 ∷ 10 ∷ 45 ∷ 45 ∷ 10 ∷ 49 ∷ 32 ∷ 49 ∷ 32 ∷ 51 ∷ 32 ∷ 49 ∷ 10 ∷ 50 ∷ 32 ∷ 49 ∷ 32 ∷ 52 ∷ 32 ∷ 50 ∷ 10 ∷ 82 ∷ 69 ∷ 83 ∷ 79 ∷ 85 ∷ 82 ∷ 67 ∷ 69 ∷ 65 ∷ 86 ∷ 65 ∷ 73 ∷ 76 ∷ 65 ∷ 66 ∷ 73 ∷ 76 ∷ 73 ∷ 84 ∷ 73 ∷ 69 ∷ 83 ∷ 58 ∷ 10 ∷ 110 ∷ 10 ∷ 53 ∷ 10 ∷ []) ≡ good (record { capacities = 5 ∷ []; rows = record { duration = 3; demands = 1 ∷ []; successors = 1 ∷ [] } ∷ record { duration = 4; demands = 2 ∷ []; successors = [] } ∷ [] }) []
+-- lines with these bytes behind each
+abbrev lined : List ℕ → List (List ℕ) → List ℕ
+lined end [] = []
+lined end (l ∷ ls) = l ++ (end ++ lined end ls)
+
+abbrev feed : List ℕ
+feed = 10 ∷ []
+
+-- `2`
+abbrev two : List ℕ
+two = 50 ∷ []
+
+-- `n`, for a line of column names, or of hyphens
+abbrev names : List ℕ
+names = 110 ∷ []
+
+-- `1 1 1 2`
+abbrev first-links : List ℕ
+first-links = 49 ∷ 32 ∷ 49 ∷ 32 ∷ 49 ∷ 32 ∷ 50 ∷ []
+
+-- `2 1 0`
+abbrev second-links : List ℕ
+second-links = 50 ∷ 32 ∷ 49 ∷ 32 ∷ 48 ∷ []
+
+-- `1 1 3 1`
+abbrev first-needs : List ℕ
+first-needs = 49 ∷ 32 ∷ 49 ∷ 32 ∷ 51 ∷ 32 ∷ 49 ∷ []
+
+-- `2 1 4 2`
+abbrev second-needs : List ℕ
+second-needs = 50 ∷ 32 ∷ 49 ∷ 32 ∷ 52 ∷ 32 ∷ 50 ∷ []
+
+-- `5`
+abbrev five : List ℕ
+five = 53 ∷ []
+
+-- ` 2` behind the first heading, ` : 1 R` behind the second, which has two spaces in front
+abbrev jobs : List ℕ
+jobs = jobsHeading ++ 32 ∷ two
+
+abbrev resources : List ℕ
+resources = 32 ∷ 32 ∷ (resourcesHeading ++ 32 ∷ 58 ∷ 32 ∷ 49 ∷ 32 ∷ 82 ∷ [])
+
+-- a text by its lines: the two counts; the relations, the requests and the capacities, each with its heading
+abbrev relations : List ℕ → List ℕ → List (List ℕ)
+relations l m = relationsHeading ∷ names ∷ l ∷ m ∷ []
+
+abbrev requests : List ℕ → List ℕ → List (List ℕ)
+requests l m = requestsHeading ∷ names ∷ names ∷ l ∷ m ∷ []
+
+abbrev capacities : List ℕ → List (List ℕ)
+capacities l = capacitiesHeading ∷ names ∷ l ∷ []
+
+abbrev text : List (List ℕ) → List (List ℕ) → List (List ℕ) → List (List ℕ) → List ℕ
+text counts links needs caps = lined feed (names ∷ (counts ++ (links ++ (needs ++ caps))))
+
+abbrev counts : List (List ℕ)
+counts = jobs ∷ resources ∷ []
+
+-- two jobs on one resource, 0 before 1
+abbrev pub small : List ℕ
+small = text counts (relations first-links second-links) (requests first-needs second-needs) (capacities five)
+
+pub two-jobs : psplib small ≡ good (record { capacities = 5 ∷ []; rows = record { duration = 3; demands = 1 ∷ []; successors = 1 ∷ [] } ∷ record { duration = 4; demands = 2 ∷ []; successors = [] } ∷ [] }) []
 unfolding psplib
 two-jobs = refl
 
--- the same with lines ended by a carriage return and a line feed, and with text behind the rows: `x\njobs (incl. supersource/sink ): 2\r\n  - renewable : 1 R\r\nPRECEDENCE RELATIONS:\r\nn\r\n1 1 1 2\r\n2 1 0\r\nREQUESTS/DURATIONS:\r\nn\r\n--\r\n1 1 3 1\r\n2 1 4 2\r\nRESOURCEAVAILABILITIES:\r\nn\r\n5\r\ntail 7`
-pub return-and-feed : psplib (120 ∷ 10 ∷ 106 ∷ 111 ∷ 98 ∷ 115 ∷ 32 ∷ 40 ∷ 105 ∷ 110 ∷ 99 ∷ 108 ∷ 46 ∷ 32 ∷ 115 ∷ 117 ∷ 112 ∷ 101 ∷ 114 ∷ 115 ∷ 111 ∷ 117 ∷ 114 ∷ 99 ∷ 101 ∷ 47 ∷ 115 ∷ 105 ∷ 110 ∷ 107 ∷ 32 ∷ 41 ∷ 58 ∷ 32 ∷ 50 ∷ 13 ∷ 10 ∷ 32 ∷ 32 ∷ 45 ∷ 32 ∷ 114 ∷ 101 ∷ 110 ∷ 101 ∷ 119 ∷ 97 ∷ 98 ∷ 108 ∷ 101 ∷ 32 ∷ 58 ∷ 32 ∷ 49 ∷ 32 ∷ 82 ∷ 13 ∷ 10 ∷ 80 ∷ 82 ∷ 69 ∷ 67 ∷ 69 ∷ 68 ∷ 69 ∷ 78 ∷ 67 ∷ 69 ∷ 32 ∷ 82 ∷ 69 ∷ 76 ∷ 65 ∷ 84 ∷ 73 ∷ 79 ∷ 78 ∷ 83 ∷ 58 ∷ 13 ∷ 10 ∷ 110 ∷ 13 ∷ 10 ∷ 49 ∷ 32 ∷ 49 ∷ 32 ∷ 49 ∷ 32 ∷ 50 ∷ 13 ∷ 10 ∷ 50 ∷ 32 ∷ 49 ∷ 32 ∷ 48 ∷ 13 ∷ 10 ∷ 82 ∷ 69 ∷ 81 ∷ 85 ∷ 69 ∷ 83 ∷ 84 ∷ 83 ∷ 47 ∷ 68 ∷ 85 ∷ 82 ∷ 65 ∷ 84 ∷ 73 ∷ 79 ∷ 78 ∷ 83 ∷ 58 ∷ 13 ∷ 10 ∷ 110 ∷ 13 ∷ 10 ∷ 45 ∷ 45 ∷ 13 ∷ 10 ∷ 49 ∷ 32 ∷ 49 ∷ 32 ∷ 51 ∷ 32 ∷ 49 ∷ 13 ∷ 10 ∷ 50 ∷ 32 ∷ 49 ∷ 32 ∷ 52 ∷ 32 ∷ 50 ∷ 13 ∷ 10 ∷ 82 ∷ 69 ∷ 83 ∷ 79 ∷ 85 ∷ 82 ∷ 67 ∷ 69 ∷ 65 ∷ 86 ∷ 65 ∷ 73 ∷ 76 ∷ 65 ∷ 66 ∷ 73 ∷ 76 ∷ 73 ∷ 84 ∷ 73 ∷ 69 ∷ 83 ∷ 58 ∷ 13 ∷ 10 ∷ 110 ∷ 13 ∷ 10 ∷ 53 ∷ 13 ∷ 10 ∷ 116 ∷ 97 ∷ 105 ∷ 108 ∷ 32 ∷ 55 ∷ []) ≡ good (record { capacities = 5 ∷ []; rows = record { duration = 3; demands = 1 ∷ []; successors = 1 ∷ [] } ∷ record { duration = 4; demands = 2 ∷ []; successors = [] } ∷ [] }) []
+-- the same with lines ended by a carriage return and a line feed, and `7` behind the last
+pub return-and-feed : psplib (lined (13 ∷ 10 ∷ []) (names ∷ (counts ++ (relations first-links second-links ++ (requests first-needs second-needs ++ capacities five)))) ++ 55 ∷ []) ≡ good (record { capacities = 5 ∷ []; rows = record { duration = 3; demands = 1 ∷ []; successors = 1 ∷ [] } ∷ record { duration = 4; demands = 2 ∷ []; successors = [] } ∷ [] }) []
 unfolding psplib
 return-and-feed = refl
 
--- no text: ``
+-- no text
 pub nothing-at-all : psplib ([]) ≡ bad 35
 unfolding psplib
 nothing-at-all = refl
 
--- the last heading is missing: `x\njobs (incl. supersource/sink ): 2\n  - renewable : 1 R\nPRECEDENCE RELATIONS:\nn\n1 1 1 2\n2 1 0\nREQUESTS/DURATIONS:\nn\n--\n1 1 3 1\n2 1 4 2\nRESOURCES:\nn\n5\n`
-pub heading-missing : psplib (120 ∷ 10 ∷ 106 ∷ 111 ∷ 98 ∷ 115 ∷ 32 ∷ 40 ∷ 105 ∷ 110 ∷ 99 ∷ 108 ∷ 46 ∷ 32 ∷ 115 ∷ 117 ∷ 112 ∷ 101 ∷ 114 ∷ 115 ∷ 111 ∷ 117 ∷ 114 ∷ 99 ∷ 101 ∷ 47 ∷ 115 ∷ 105 ∷ 110 ∷ 107 ∷ 32 ∷ 41 ∷ 58 ∷ 32 ∷ 50 ∷ 10 ∷ 32 ∷ 32 ∷ 45 ∷ 32 ∷ 114 ∷ 101 ∷ 110 ∷ 101 ∷ 119 ∷ 97 ∷ 98 ∷ 108 ∷ 101 ∷ 32 ∷ 58 ∷ 32 ∷ 49 ∷ 32 ∷ 82 ∷ 10 ∷ 80 ∷ 82 ∷ 69 ∷ 67 ∷ 69 ∷ 68 ∷ 69 ∷ 78 ∷ 67 ∷ 69 ∷ 32 ∷ 82 ∷ 69 ∷ 76 ∷ 65 ∷ 84 ∷ 73 ∷ 79 ∷ 78 ∷ 83 ∷ 58 ∷ 10 ∷ 110 ∷ 10 ∷ 49 ∷ 32 ∷ 49 ∷ 32 ∷ 49 ∷ 32 ∷ 50 ∷ 10 ∷ 50 ∷ 32 ∷ 49 ∷ 32 ∷ 48 ∷ 10 ∷ 82 ∷ 69 ∷ 81 ∷ 85 ∷ 69 ∷ 83 ∷ 84 ∷ 83 ∷ 47 ∷ 68 ∷ 85 ∷ 82 ∷ 65 ∷ 84 ∷ 73 ∷ 79 ∷ 78 ∷ 83 ∷ 58 ∷ 10 ∷ 110 ∷ 10 ∷ 45 ∷ 45 ∷ 10 ∷ 49 ∷ 32 ∷ 49 ∷ 32 ∷ 51 ∷ 32 ∷ 49 ∷ 10 ∷ 50 ∷ 32 ∷ 49 ∷ 32 ∷ 52 ∷ 32 ∷ 50 ∷ 10 ∷ 82 ∷ 69 ∷ 83 ∷ 79 ∷ 85 ∷ 82 ∷ 67 ∷ 69 ∷ 83 ∷ 58 ∷ 10 ∷ 110 ∷ 10 ∷ 53 ∷ 10 ∷ []) ≡ bad 35
+-- the last heading is missing
+pub heading-missing : psplib (text counts (relations first-links second-links) (requests first-needs second-needs) (names ∷ names ∷ five ∷ [])) ≡ bad 35
 unfolding psplib
 heading-missing = refl
 
--- a heading twice, the second time behind the rows: `x\njobs (incl. supersource/sink ): 2\n  - renewable : 1 R\nPRECEDENCE RELATIONS:\nn\n1 1 1 2\n2 1 0\nREQUESTS/DURATIONS:\nn\n--\n1 1 3 1\n2 1 4 2\nRESOURCEAVAILABILITIES:\nn\n5\nRESOURCEAVAILABILITIES:`
-pub heading-twice : psplib (120 ∷ 10 ∷ 106 ∷ 111 ∷ 98 ∷ 115 ∷ 32 ∷ 40 ∷ 105 ∷ 110 ∷ 99 ∷ 108 ∷ 46 ∷ 32 ∷ 115 ∷ 117 ∷ 112 ∷ 101 ∷ 114 ∷ 115 ∷ 111 ∷ 117 ∷ 114 ∷ 99 ∷ 101 ∷ 47 ∷ 115 ∷ 105 ∷ 110 ∷ 107 ∷ 32 ∷ 41 ∷ 58 ∷ 32 ∷ 50 ∷ 10 ∷ 32 ∷ 32 ∷ 45 ∷ 32 ∷ 114 ∷ 101 ∷ 110 ∷ 101 ∷ 119 ∷ 97 ∷ 98 ∷ 108 ∷ 101 ∷ 32 ∷ 58 ∷ 32 ∷ 49 ∷ 32 ∷ 82 ∷ 10 ∷ 80 ∷ 82 ∷ 69 ∷ 67 ∷ 69 ∷ 68 ∷ 69 ∷ 78 ∷ 67 ∷ 69 ∷ 32 ∷ 82 ∷ 69 ∷ 76 ∷ 65 ∷ 84 ∷ 73 ∷ 79 ∷ 78 ∷ 83 ∷ 58 ∷ 10 ∷ 110 ∷ 10 ∷ 49 ∷ 32 ∷ 49 ∷ 32 ∷ 49 ∷ 32 ∷ 50 ∷ 10 ∷ 50 ∷ 32 ∷ 49 ∷ 32 ∷ 48 ∷ 10 ∷ 82 ∷ 69 ∷ 81 ∷ 85 ∷ 69 ∷ 83 ∷ 84 ∷ 83 ∷ 47 ∷ 68 ∷ 85 ∷ 82 ∷ 65 ∷ 84 ∷ 73 ∷ 79 ∷ 78 ∷ 83 ∷ 58 ∷ 10 ∷ 110 ∷ 10 ∷ 45 ∷ 45 ∷ 10 ∷ 49 ∷ 32 ∷ 49 ∷ 32 ∷ 51 ∷ 32 ∷ 49 ∷ 10 ∷ 50 ∷ 32 ∷ 49 ∷ 32 ∷ 52 ∷ 32 ∷ 50 ∷ 10 ∷ 82 ∷ 69 ∷ 83 ∷ 79 ∷ 85 ∷ 82 ∷ 67 ∷ 69 ∷ 65 ∷ 86 ∷ 65 ∷ 73 ∷ 76 ∷ 65 ∷ 66 ∷ 73 ∷ 76 ∷ 73 ∷ 84 ∷ 73 ∷ 69 ∷ 83 ∷ 58 ∷ 10 ∷ 110 ∷ 10 ∷ 53 ∷ 10 ∷ 82 ∷ 69 ∷ 83 ∷ 79 ∷ 85 ∷ 82 ∷ 67 ∷ 69 ∷ 65 ∷ 86 ∷ 65 ∷ 73 ∷ 76 ∷ 65 ∷ 66 ∷ 73 ∷ 76 ∷ 73 ∷ 84 ∷ 73 ∷ 69 ∷ 83 ∷ 58 ∷ []) ≡ bad 35
+-- a heading twice, the second time behind the rows
+pub heading-twice : psplib (small ++ capacitiesHeading) ≡ bad 35
 unfolding psplib
 heading-twice = refl
 
--- the headings of the relations and of the requests change places: `x\njobs (incl. supersource/sink ): 2\n  - renewable : 1 R\nREQUESTS/DURATIONS:\nn\n1 1 1 2\n2 1 0\nPRECEDENCE RELATIONS:\nn\n--\n1 1 3 1\n2 1 4 2\nRESOURCEAVAILABILITIES:\nn\n5\n`
-pub headings-swapped : psplib (120 ∷ 10 ∷ 106 ∷ 111 ∷ 98 ∷ 115 ∷ 32 ∷ 40 ∷ 105 ∷ 110 ∷ 99 ∷ 108 ∷ 46 ∷ 32 ∷ 115 ∷ 117 ∷ 112 ∷ 101 ∷ 114 ∷ 115 ∷ 111 ∷ 117 ∷ 114 ∷ 99 ∷ 101 ∷ 47 ∷ 115 ∷ 105 ∷ 110 ∷ 107 ∷ 32 ∷ 41 ∷ 58 ∷ 32 ∷ 50 ∷ 10 ∷ 32 ∷ 32 ∷ 45 ∷ 32 ∷ 114 ∷ 101 ∷ 110 ∷ 101 ∷ 119 ∷ 97 ∷ 98 ∷ 108 ∷ 101 ∷ 32 ∷ 58 ∷ 32 ∷ 49 ∷ 32 ∷ 82 ∷ 10 ∷ 82 ∷ 69 ∷ 81 ∷ 85 ∷ 69 ∷ 83 ∷ 84 ∷ 83 ∷ 47 ∷ 68 ∷ 85 ∷ 82 ∷ 65 ∷ 84 ∷ 73 ∷ 79 ∷ 78 ∷ 83 ∷ 58 ∷ 10 ∷ 110 ∷ 10 ∷ 49 ∷ 32 ∷ 49 ∷ 32 ∷ 49 ∷ 32 ∷ 50 ∷ 10 ∷ 50 ∷ 32 ∷ 49 ∷ 32 ∷ 48 ∷ 10 ∷ 80 ∷ 82 ∷ 69 ∷ 67 ∷ 69 ∷ 68 ∷ 69 ∷ 78 ∷ 67 ∷ 69 ∷ 32 ∷ 82 ∷ 69 ∷ 76 ∷ 65 ∷ 84 ∷ 73 ∷ 79 ∷ 78 ∷ 83 ∷ 58 ∷ 10 ∷ 110 ∷ 10 ∷ 45 ∷ 45 ∷ 10 ∷ 49 ∷ 32 ∷ 49 ∷ 32 ∷ 51 ∷ 32 ∷ 49 ∷ 10 ∷ 50 ∷ 32 ∷ 49 ∷ 32 ∷ 52 ∷ 32 ∷ 50 ∷ 10 ∷ 82 ∷ 69 ∷ 83 ∷ 79 ∷ 85 ∷ 82 ∷ 67 ∷ 69 ∷ 65 ∷ 86 ∷ 65 ∷ 73 ∷ 76 ∷ 65 ∷ 66 ∷ 73 ∷ 76 ∷ 73 ∷ 84 ∷ 73 ∷ 69 ∷ 83 ∷ 58 ∷ 10 ∷ 110 ∷ 10 ∷ 53 ∷ 10 ∷ []) ≡ bad 35
+-- the relations and the requests change places
+pub headings-swapped : psplib (text counts (requests first-needs second-needs) (relations first-links second-links) (capacities five)) ≡ bad 35
 unfolding psplib
 headings-swapped = refl
 
--- `- nonrenewable` is not `- renewable`: `x\njobs (incl. supersource/sink ): 2\n- nonrenewable : 1 R\nPRECEDENCE RELATIONS:\nn\n1 1 1 2\n2 1 0\nREQUESTS/DURATIONS:\nn\n--\n1 1 3 1\n2 1 4 2\nRESOURCEAVAILABILITIES:\nn\n5\n`
-pub not-renewable : psplib (120 ∷ 10 ∷ 106 ∷ 111 ∷ 98 ∷ 115 ∷ 32 ∷ 40 ∷ 105 ∷ 110 ∷ 99 ∷ 108 ∷ 46 ∷ 32 ∷ 115 ∷ 117 ∷ 112 ∷ 101 ∷ 114 ∷ 115 ∷ 111 ∷ 117 ∷ 114 ∷ 99 ∷ 101 ∷ 47 ∷ 115 ∷ 105 ∷ 110 ∷ 107 ∷ 32 ∷ 41 ∷ 58 ∷ 32 ∷ 50 ∷ 10 ∷ 45 ∷ 32 ∷ 110 ∷ 111 ∷ 110 ∷ 114 ∷ 101 ∷ 110 ∷ 101 ∷ 119 ∷ 97 ∷ 98 ∷ 108 ∷ 101 ∷ 32 ∷ 58 ∷ 32 ∷ 49 ∷ 32 ∷ 82 ∷ 10 ∷ 80 ∷ 82 ∷ 69 ∷ 67 ∷ 69 ∷ 68 ∷ 69 ∷ 78 ∷ 67 ∷ 69 ∷ 32 ∷ 82 ∷ 69 ∷ 76 ∷ 65 ∷ 84 ∷ 73 ∷ 79 ∷ 78 ∷ 83 ∷ 58 ∷ 10 ∷ 110 ∷ 10 ∷ 49 ∷ 32 ∷ 49 ∷ 32 ∷ 49 ∷ 32 ∷ 50 ∷ 10 ∷ 50 ∷ 32 ∷ 49 ∷ 32 ∷ 48 ∷ 10 ∷ 82 ∷ 69 ∷ 81 ∷ 85 ∷ 69 ∷ 83 ∷ 84 ∷ 83 ∷ 47 ∷ 68 ∷ 85 ∷ 82 ∷ 65 ∷ 84 ∷ 73 ∷ 79 ∷ 78 ∷ 83 ∷ 58 ∷ 10 ∷ 110 ∷ 10 ∷ 45 ∷ 45 ∷ 10 ∷ 49 ∷ 32 ∷ 49 ∷ 32 ∷ 51 ∷ 32 ∷ 49 ∷ 10 ∷ 50 ∷ 32 ∷ 49 ∷ 32 ∷ 52 ∷ 32 ∷ 50 ∷ 10 ∷ 82 ∷ 69 ∷ 83 ∷ 79 ∷ 85 ∷ 82 ∷ 67 ∷ 69 ∷ 65 ∷ 86 ∷ 65 ∷ 73 ∷ 76 ∷ 65 ∷ 66 ∷ 73 ∷ 76 ∷ 73 ∷ 84 ∷ 73 ∷ 69 ∷ 83 ∷ 58 ∷ 10 ∷ 110 ∷ 10 ∷ 53 ∷ 10 ∷ []) ≡ bad 35
+-- `- nonrenewable : 1`
+pub not-renewable : psplib (text (jobs ∷ (45 ∷ 32 ∷ 110 ∷ 111 ∷ 110 ∷ 114 ∷ 101 ∷ 110 ∷ 101 ∷ 119 ∷ 97 ∷ 98 ∷ 108 ∷ 101 ∷ 32 ∷ 58 ∷ 32 ∷ 49 ∷ []) ∷ []) (relations first-links second-links) (requests first-needs second-needs) (capacities five)) ≡ bad 35
 unfolding psplib
 not-renewable = refl
 
--- a tab in front of a heading: `x\njobs (incl. supersource/sink ): 2\n  - renewable : 1 R\n\tPRECEDENCE RELATIONS:\nn\n1 1 1 2\n2 1 0\nREQUESTS/DURATIONS:\nn\n--\n1 1 3 1\n2 1 4 2\nRESOURCEAVAILABILITIES:\nn\n5\n`
-pub tab-in-front : psplib (120 ∷ 10 ∷ 106 ∷ 111 ∷ 98 ∷ 115 ∷ 32 ∷ 40 ∷ 105 ∷ 110 ∷ 99 ∷ 108 ∷ 46 ∷ 32 ∷ 115 ∷ 117 ∷ 112 ∷ 101 ∷ 114 ∷ 115 ∷ 111 ∷ 117 ∷ 114 ∷ 99 ∷ 101 ∷ 47 ∷ 115 ∷ 105 ∷ 110 ∷ 107 ∷ 32 ∷ 41 ∷ 58 ∷ 32 ∷ 50 ∷ 10 ∷ 32 ∷ 32 ∷ 45 ∷ 32 ∷ 114 ∷ 101 ∷ 110 ∷ 101 ∷ 119 ∷ 97 ∷ 98 ∷ 108 ∷ 101 ∷ 32 ∷ 58 ∷ 32 ∷ 49 ∷ 32 ∷ 82 ∷ 10 ∷ 9 ∷ 80 ∷ 82 ∷ 69 ∷ 67 ∷ 69 ∷ 68 ∷ 69 ∷ 78 ∷ 67 ∷ 69 ∷ 32 ∷ 82 ∷ 69 ∷ 76 ∷ 65 ∷ 84 ∷ 73 ∷ 79 ∷ 78 ∷ 83 ∷ 58 ∷ 10 ∷ 110 ∷ 10 ∷ 49 ∷ 32 ∷ 49 ∷ 32 ∷ 49 ∷ 32 ∷ 50 ∷ 10 ∷ 50 ∷ 32 ∷ 49 ∷ 32 ∷ 48 ∷ 10 ∷ 82 ∷ 69 ∷ 81 ∷ 85 ∷ 69 ∷ 83 ∷ 84 ∷ 83 ∷ 47 ∷ 68 ∷ 85 ∷ 82 ∷ 65 ∷ 84 ∷ 73 ∷ 79 ∷ 78 ∷ 83 ∷ 58 ∷ 10 ∷ 110 ∷ 10 ∷ 45 ∷ 45 ∷ 10 ∷ 49 ∷ 32 ∷ 49 ∷ 32 ∷ 51 ∷ 32 ∷ 49 ∷ 10 ∷ 50 ∷ 32 ∷ 49 ∷ 32 ∷ 52 ∷ 32 ∷ 50 ∷ 10 ∷ 82 ∷ 69 ∷ 83 ∷ 79 ∷ 85 ∷ 82 ∷ 67 ∷ 69 ∷ 65 ∷ 86 ∷ 65 ∷ 73 ∷ 76 ∷ 65 ∷ 66 ∷ 73 ∷ 76 ∷ 73 ∷ 84 ∷ 73 ∷ 69 ∷ 83 ∷ 58 ∷ 10 ∷ 110 ∷ 10 ∷ 53 ∷ 10 ∷ []) ≡ bad 35
+-- a tab in front of a heading
+pub tab-in-front : psplib (text counts ((9 ∷ relationsHeading) ∷ names ∷ first-links ∷ second-links ∷ []) (requests first-needs second-needs) (capacities five)) ≡ bad 35
 unfolding psplib
 tab-in-front = refl
 
--- a letter in the resource count: `x\njobs (incl. supersource/sink ): 2\n- renewable : 1R\nPRECEDENCE RELATIONS:\nn\n1 1 1 2\n2 1 0\nREQUESTS/DURATIONS:\nn\n--\n1 1 3 1\n2 1 4 2\nRESOURCEAVAILABILITIES:\nn\n5\n`
-pub letter-in-a-count : psplib (120 ∷ 10 ∷ 106 ∷ 111 ∷ 98 ∷ 115 ∷ 32 ∷ 40 ∷ 105 ∷ 110 ∷ 99 ∷ 108 ∷ 46 ∷ 32 ∷ 115 ∷ 117 ∷ 112 ∷ 101 ∷ 114 ∷ 115 ∷ 111 ∷ 117 ∷ 114 ∷ 99 ∷ 101 ∷ 47 ∷ 115 ∷ 105 ∷ 110 ∷ 107 ∷ 32 ∷ 41 ∷ 58 ∷ 32 ∷ 50 ∷ 10 ∷ 45 ∷ 32 ∷ 114 ∷ 101 ∷ 110 ∷ 101 ∷ 119 ∷ 97 ∷ 98 ∷ 108 ∷ 101 ∷ 32 ∷ 58 ∷ 32 ∷ 49 ∷ 82 ∷ 10 ∷ 80 ∷ 82 ∷ 69 ∷ 67 ∷ 69 ∷ 68 ∷ 69 ∷ 78 ∷ 67 ∷ 69 ∷ 32 ∷ 82 ∷ 69 ∷ 76 ∷ 65 ∷ 84 ∷ 73 ∷ 79 ∷ 78 ∷ 83 ∷ 58 ∷ 10 ∷ 110 ∷ 10 ∷ 49 ∷ 32 ∷ 49 ∷ 32 ∷ 49 ∷ 32 ∷ 50 ∷ 10 ∷ 50 ∷ 32 ∷ 49 ∷ 32 ∷ 48 ∷ 10 ∷ 82 ∷ 69 ∷ 81 ∷ 85 ∷ 69 ∷ 83 ∷ 84 ∷ 83 ∷ 47 ∷ 68 ∷ 85 ∷ 82 ∷ 65 ∷ 84 ∷ 73 ∷ 79 ∷ 78 ∷ 83 ∷ 58 ∷ 10 ∷ 110 ∷ 10 ∷ 45 ∷ 45 ∷ 10 ∷ 49 ∷ 32 ∷ 49 ∷ 32 ∷ 51 ∷ 32 ∷ 49 ∷ 10 ∷ 50 ∷ 32 ∷ 49 ∷ 32 ∷ 52 ∷ 32 ∷ 50 ∷ 10 ∷ 82 ∷ 69 ∷ 83 ∷ 79 ∷ 85 ∷ 82 ∷ 67 ∷ 69 ∷ 65 ∷ 86 ∷ 65 ∷ 73 ∷ 76 ∷ 65 ∷ 66 ∷ 73 ∷ 76 ∷ 73 ∷ 84 ∷ 73 ∷ 69 ∷ 83 ∷ 58 ∷ 10 ∷ 110 ∷ 10 ∷ 53 ∷ 10 ∷ []) ≡ bad 30
+-- ` : 1R` behind the second heading
+pub letter-in-a-count : psplib (text (jobs ∷ (resourcesHeading ++ 32 ∷ 58 ∷ 32 ∷ 49 ∷ 82 ∷ []) ∷ []) (relations first-links second-links) (requests first-needs second-needs) (capacities five)) ≡ bad 30
 unfolding psplib
 letter-in-a-count = refl
 
--- the job count stands on the next line: `x\njobs (incl. supersource/sink ):\n2\n  - renewable : 1 R\nPRECEDENCE RELATIONS:\nn\n1 1 1 2\n2 1 0\nREQUESTS/DURATIONS:\nn\n--\n1 1 3 1\n2 1 4 2\nRESOURCEAVAILABILITIES:\nn\n5\n`
-pub count-on-the-next-line : psplib (120 ∷ 10 ∷ 106 ∷ 111 ∷ 98 ∷ 115 ∷ 32 ∷ 40 ∷ 105 ∷ 110 ∷ 99 ∷ 108 ∷ 46 ∷ 32 ∷ 115 ∷ 117 ∷ 112 ∷ 101 ∷ 114 ∷ 115 ∷ 111 ∷ 117 ∷ 114 ∷ 99 ∷ 101 ∷ 47 ∷ 115 ∷ 105 ∷ 110 ∷ 107 ∷ 32 ∷ 41 ∷ 58 ∷ 10 ∷ 50 ∷ 10 ∷ 32 ∷ 32 ∷ 45 ∷ 32 ∷ 114 ∷ 101 ∷ 110 ∷ 101 ∷ 119 ∷ 97 ∷ 98 ∷ 108 ∷ 101 ∷ 32 ∷ 58 ∷ 32 ∷ 49 ∷ 32 ∷ 82 ∷ 10 ∷ 80 ∷ 82 ∷ 69 ∷ 67 ∷ 69 ∷ 68 ∷ 69 ∷ 78 ∷ 67 ∷ 69 ∷ 32 ∷ 82 ∷ 69 ∷ 76 ∷ 65 ∷ 84 ∷ 73 ∷ 79 ∷ 78 ∷ 83 ∷ 58 ∷ 10 ∷ 110 ∷ 10 ∷ 49 ∷ 32 ∷ 49 ∷ 32 ∷ 49 ∷ 32 ∷ 50 ∷ 10 ∷ 50 ∷ 32 ∷ 49 ∷ 32 ∷ 48 ∷ 10 ∷ 82 ∷ 69 ∷ 81 ∷ 85 ∷ 69 ∷ 83 ∷ 84 ∷ 83 ∷ 47 ∷ 68 ∷ 85 ∷ 82 ∷ 65 ∷ 84 ∷ 73 ∷ 79 ∷ 78 ∷ 83 ∷ 58 ∷ 10 ∷ 110 ∷ 10 ∷ 45 ∷ 45 ∷ 10 ∷ 49 ∷ 32 ∷ 49 ∷ 32 ∷ 51 ∷ 32 ∷ 49 ∷ 10 ∷ 50 ∷ 32 ∷ 49 ∷ 32 ∷ 52 ∷ 32 ∷ 50 ∷ 10 ∷ 82 ∷ 69 ∷ 83 ∷ 79 ∷ 85 ∷ 82 ∷ 67 ∷ 69 ∷ 65 ∷ 86 ∷ 65 ∷ 73 ∷ 76 ∷ 65 ∷ 66 ∷ 73 ∷ 76 ∷ 73 ∷ 84 ∷ 73 ∷ 69 ∷ 83 ∷ 58 ∷ 10 ∷ 110 ∷ 10 ∷ 53 ∷ 10 ∷ []) ≡ bad 30
+-- the job count stands on the next line
+pub count-on-the-next-line : psplib (text (jobsHeading ∷ two ∷ resources ∷ []) (relations first-links second-links) (requests first-needs second-needs) (capacities five)) ≡ bad 30
 unfolding psplib
 count-on-the-next-line = refl
 
--- no colon behind the second heading: `x\njobs (incl. supersource/sink ): 2\n- renewable 1\nPRECEDENCE RELATIONS:\nn\n1 1 1 2\n2 1 0\nREQUESTS/DURATIONS:\nn\n--\n1 1 3 1\n2 1 4 2\nRESOURCEAVAILABILITIES:\nn\n5\n`
-pub no-colon : psplib (120 ∷ 10 ∷ 106 ∷ 111 ∷ 98 ∷ 115 ∷ 32 ∷ 40 ∷ 105 ∷ 110 ∷ 99 ∷ 108 ∷ 46 ∷ 32 ∷ 115 ∷ 117 ∷ 112 ∷ 101 ∷ 114 ∷ 115 ∷ 111 ∷ 117 ∷ 114 ∷ 99 ∷ 101 ∷ 47 ∷ 115 ∷ 105 ∷ 110 ∷ 107 ∷ 32 ∷ 41 ∷ 58 ∷ 32 ∷ 50 ∷ 10 ∷ 45 ∷ 32 ∷ 114 ∷ 101 ∷ 110 ∷ 101 ∷ 119 ∷ 97 ∷ 98 ∷ 108 ∷ 101 ∷ 32 ∷ 49 ∷ 10 ∷ 80 ∷ 82 ∷ 69 ∷ 67 ∷ 69 ∷ 68 ∷ 69 ∷ 78 ∷ 67 ∷ 69 ∷ 32 ∷ 82 ∷ 69 ∷ 76 ∷ 65 ∷ 84 ∷ 73 ∷ 79 ∷ 78 ∷ 83 ∷ 58 ∷ 10 ∷ 110 ∷ 10 ∷ 49 ∷ 32 ∷ 49 ∷ 32 ∷ 49 ∷ 32 ∷ 50 ∷ 10 ∷ 50 ∷ 32 ∷ 49 ∷ 32 ∷ 48 ∷ 10 ∷ 82 ∷ 69 ∷ 81 ∷ 85 ∷ 69 ∷ 83 ∷ 84 ∷ 83 ∷ 47 ∷ 68 ∷ 85 ∷ 82 ∷ 65 ∷ 84 ∷ 73 ∷ 79 ∷ 78 ∷ 83 ∷ 58 ∷ 10 ∷ 110 ∷ 10 ∷ 45 ∷ 45 ∷ 10 ∷ 49 ∷ 32 ∷ 49 ∷ 32 ∷ 51 ∷ 32 ∷ 49 ∷ 10 ∷ 50 ∷ 32 ∷ 49 ∷ 32 ∷ 52 ∷ 32 ∷ 50 ∷ 10 ∷ 82 ∷ 69 ∷ 83 ∷ 79 ∷ 85 ∷ 82 ∷ 67 ∷ 69 ∷ 65 ∷ 86 ∷ 65 ∷ 73 ∷ 76 ∷ 65 ∷ 66 ∷ 73 ∷ 76 ∷ 73 ∷ 84 ∷ 73 ∷ 69 ∷ 83 ∷ 58 ∷ 10 ∷ 110 ∷ 10 ∷ 53 ∷ 10 ∷ []) ≡ bad 30
+-- no colon behind the second heading: ` 1`
+pub no-colon : psplib (text (jobs ∷ (resourcesHeading ++ 32 ∷ 49 ∷ []) ∷ []) (relations first-links second-links) (requests first-needs second-needs) (capacities five)) ≡ bad 30
 unfolding psplib
 no-colon = refl
 
--- more resources than eight: `x\njobs (incl. supersource/sink ): 2\n- renewable : 9\nPRECEDENCE RELATIONS:\nn\n1 1 1 2\n2 1 0\nREQUESTS/DURATIONS:\nn\n--\n1 1 3 1\n2 1 4 2\nRESOURCEAVAILABILITIES:\nn\n5\n`
-pub many-resources : psplib (120 ∷ 10 ∷ 106 ∷ 111 ∷ 98 ∷ 115 ∷ 32 ∷ 40 ∷ 105 ∷ 110 ∷ 99 ∷ 108 ∷ 46 ∷ 32 ∷ 115 ∷ 117 ∷ 112 ∷ 101 ∷ 114 ∷ 115 ∷ 111 ∷ 117 ∷ 114 ∷ 99 ∷ 101 ∷ 47 ∷ 115 ∷ 105 ∷ 110 ∷ 107 ∷ 32 ∷ 41 ∷ 58 ∷ 32 ∷ 50 ∷ 10 ∷ 45 ∷ 32 ∷ 114 ∷ 101 ∷ 110 ∷ 101 ∷ 119 ∷ 97 ∷ 98 ∷ 108 ∷ 101 ∷ 32 ∷ 58 ∷ 32 ∷ 57 ∷ 10 ∷ 80 ∷ 82 ∷ 69 ∷ 67 ∷ 69 ∷ 68 ∷ 69 ∷ 78 ∷ 67 ∷ 69 ∷ 32 ∷ 82 ∷ 69 ∷ 76 ∷ 65 ∷ 84 ∷ 73 ∷ 79 ∷ 78 ∷ 83 ∷ 58 ∷ 10 ∷ 110 ∷ 10 ∷ 49 ∷ 32 ∷ 49 ∷ 32 ∷ 49 ∷ 32 ∷ 50 ∷ 10 ∷ 50 ∷ 32 ∷ 49 ∷ 32 ∷ 48 ∷ 10 ∷ 82 ∷ 69 ∷ 81 ∷ 85 ∷ 69 ∷ 83 ∷ 84 ∷ 83 ∷ 47 ∷ 68 ∷ 85 ∷ 82 ∷ 65 ∷ 84 ∷ 73 ∷ 79 ∷ 78 ∷ 83 ∷ 58 ∷ 10 ∷ 110 ∷ 10 ∷ 45 ∷ 45 ∷ 10 ∷ 49 ∷ 32 ∷ 49 ∷ 32 ∷ 51 ∷ 32 ∷ 49 ∷ 10 ∷ 50 ∷ 32 ∷ 49 ∷ 32 ∷ 52 ∷ 32 ∷ 50 ∷ 10 ∷ 82 ∷ 69 ∷ 83 ∷ 79 ∷ 85 ∷ 82 ∷ 67 ∷ 69 ∷ 65 ∷ 86 ∷ 65 ∷ 73 ∷ 76 ∷ 65 ∷ 66 ∷ 73 ∷ 76 ∷ 73 ∷ 84 ∷ 73 ∷ 69 ∷ 83 ∷ 58 ∷ 10 ∷ 110 ∷ 10 ∷ 53 ∷ 10 ∷ []) ≡ bad 31
+-- more resources than eight: ` : 9`
+pub many-resources : psplib (text (jobs ∷ (resourcesHeading ++ 32 ∷ 58 ∷ 32 ∷ 57 ∷ []) ∷ []) (relations first-links second-links) (requests first-needs second-needs) (capacities five)) ≡ bad 31
 unfolding psplib
 many-resources = refl
 
--- more jobs than the limit: `x\njobs (incl. supersource/sink ): 257\n  - renewable : 1 R\nPRECEDENCE RELATIONS:\nn\n1 1 1 2\n2 1 0\nREQUESTS/DURATIONS:\nn\n--\n1 1 3 1\n2 1 4 2\nRESOURCEAVAILABILITIES:\nn\n5\n`
-pub many-jobs : psplib (120 ∷ 10 ∷ 106 ∷ 111 ∷ 98 ∷ 115 ∷ 32 ∷ 40 ∷ 105 ∷ 110 ∷ 99 ∷ 108 ∷ 46 ∷ 32 ∷ 115 ∷ 117 ∷ 112 ∷ 101 ∷ 114 ∷ 115 ∷ 111 ∷ 117 ∷ 114 ∷ 99 ∷ 101 ∷ 47 ∷ 115 ∷ 105 ∷ 110 ∷ 107 ∷ 32 ∷ 41 ∷ 58 ∷ 32 ∷ 50 ∷ 53 ∷ 55 ∷ 10 ∷ 32 ∷ 32 ∷ 45 ∷ 32 ∷ 114 ∷ 101 ∷ 110 ∷ 101 ∷ 119 ∷ 97 ∷ 98 ∷ 108 ∷ 101 ∷ 32 ∷ 58 ∷ 32 ∷ 49 ∷ 32 ∷ 82 ∷ 10 ∷ 80 ∷ 82 ∷ 69 ∷ 67 ∷ 69 ∷ 68 ∷ 69 ∷ 78 ∷ 67 ∷ 69 ∷ 32 ∷ 82 ∷ 69 ∷ 76 ∷ 65 ∷ 84 ∷ 73 ∷ 79 ∷ 78 ∷ 83 ∷ 58 ∷ 10 ∷ 110 ∷ 10 ∷ 49 ∷ 32 ∷ 49 ∷ 32 ∷ 49 ∷ 32 ∷ 50 ∷ 10 ∷ 50 ∷ 32 ∷ 49 ∷ 32 ∷ 48 ∷ 10 ∷ 82 ∷ 69 ∷ 81 ∷ 85 ∷ 69 ∷ 83 ∷ 84 ∷ 83 ∷ 47 ∷ 68 ∷ 85 ∷ 82 ∷ 65 ∷ 84 ∷ 73 ∷ 79 ∷ 78 ∷ 83 ∷ 58 ∷ 10 ∷ 110 ∷ 10 ∷ 45 ∷ 45 ∷ 10 ∷ 49 ∷ 32 ∷ 49 ∷ 32 ∷ 51 ∷ 32 ∷ 49 ∷ 10 ∷ 50 ∷ 32 ∷ 49 ∷ 32 ∷ 52 ∷ 32 ∷ 50 ∷ 10 ∷ 82 ∷ 69 ∷ 83 ∷ 79 ∷ 85 ∷ 82 ∷ 67 ∷ 69 ∷ 65 ∷ 86 ∷ 65 ∷ 73 ∷ 76 ∷ 65 ∷ 66 ∷ 73 ∷ 76 ∷ 73 ∷ 84 ∷ 73 ∷ 69 ∷ 83 ∷ 58 ∷ 10 ∷ 110 ∷ 10 ∷ 53 ∷ 10 ∷ []) ≡ bad 31
+-- far too many jobs: `99999`
+pub many-jobs : psplib (text ((jobsHeading ++ 57 ∷ 57 ∷ 57 ∷ 57 ∷ 57 ∷ []) ∷ resources ∷ []) (relations first-links second-links) (requests first-needs second-needs) (capacities five)) ≡ bad 31
 unfolding psplib
 many-jobs = refl
 
--- job numbers from 0: `x\njobs (incl. supersource/sink ): 2\n  - renewable : 1 R\nPRECEDENCE RELATIONS:\nn\n0 1 1 2\n1 1 0\nREQUESTS/DURATIONS:\nn\n--\n1 1 3 1\n2 1 4 2\nRESOURCEAVAILABILITIES:\nn\n5\n`
-pub job-from-0 : psplib (120 ∷ 10 ∷ 106 ∷ 111 ∷ 98 ∷ 115 ∷ 32 ∷ 40 ∷ 105 ∷ 110 ∷ 99 ∷ 108 ∷ 46 ∷ 32 ∷ 115 ∷ 117 ∷ 112 ∷ 101 ∷ 114 ∷ 115 ∷ 111 ∷ 117 ∷ 114 ∷ 99 ∷ 101 ∷ 47 ∷ 115 ∷ 105 ∷ 110 ∷ 107 ∷ 32 ∷ 41 ∷ 58 ∷ 32 ∷ 50 ∷ 10 ∷ 32 ∷ 32 ∷ 45 ∷ 32 ∷ 114 ∷ 101 ∷ 110 ∷ 101 ∷ 119 ∷ 97 ∷ 98 ∷ 108 ∷ 101 ∷ 32 ∷ 58 ∷ 32 ∷ 49 ∷ 32 ∷ 82 ∷ 10 ∷ 80 ∷ 82 ∷ 69 ∷ 67 ∷ 69 ∷ 68 ∷ 69 ∷ 78 ∷ 67 ∷ 69 ∷ 32 ∷ 82 ∷ 69 ∷ 76 ∷ 65 ∷ 84 ∷ 73 ∷ 79 ∷ 78 ∷ 83 ∷ 58 ∷ 10 ∷ 110 ∷ 10 ∷ 48 ∷ 32 ∷ 49 ∷ 32 ∷ 49 ∷ 32 ∷ 50 ∷ 10 ∷ 49 ∷ 32 ∷ 49 ∷ 32 ∷ 48 ∷ 10 ∷ 82 ∷ 69 ∷ 81 ∷ 85 ∷ 69 ∷ 83 ∷ 84 ∷ 83 ∷ 47 ∷ 68 ∷ 85 ∷ 82 ∷ 65 ∷ 84 ∷ 73 ∷ 79 ∷ 78 ∷ 83 ∷ 58 ∷ 10 ∷ 110 ∷ 10 ∷ 45 ∷ 45 ∷ 10 ∷ 49 ∷ 32 ∷ 49 ∷ 32 ∷ 51 ∷ 32 ∷ 49 ∷ 10 ∷ 50 ∷ 32 ∷ 49 ∷ 32 ∷ 52 ∷ 32 ∷ 50 ∷ 10 ∷ 82 ∷ 69 ∷ 83 ∷ 79 ∷ 85 ∷ 82 ∷ 67 ∷ 69 ∷ 65 ∷ 86 ∷ 65 ∷ 73 ∷ 76 ∷ 65 ∷ 66 ∷ 73 ∷ 76 ∷ 73 ∷ 84 ∷ 73 ∷ 69 ∷ 83 ∷ 58 ∷ 10 ∷ 110 ∷ 10 ∷ 53 ∷ 10 ∷ []) ≡ bad 30
+-- job numbers from 0: `0 1 1 2`
+pub job-from-0 : psplib (text counts (relations (48 ∷ 32 ∷ 49 ∷ 32 ∷ 49 ∷ 32 ∷ 50 ∷ []) second-links) (requests first-needs second-needs) (capacities five)) ≡ bad 30
 unfolding psplib
 job-from-0 = refl
 
--- a mode count of 2: `x\njobs (incl. supersource/sink ): 2\n  - renewable : 1 R\nPRECEDENCE RELATIONS:\nn\n1 2 1 2\n2 1 0\nREQUESTS/DURATIONS:\nn\n--\n1 1 3 1\n2 1 4 2\nRESOURCEAVAILABILITIES:\nn\n5\n`
-pub two-modes : psplib (120 ∷ 10 ∷ 106 ∷ 111 ∷ 98 ∷ 115 ∷ 32 ∷ 40 ∷ 105 ∷ 110 ∷ 99 ∷ 108 ∷ 46 ∷ 32 ∷ 115 ∷ 117 ∷ 112 ∷ 101 ∷ 114 ∷ 115 ∷ 111 ∷ 117 ∷ 114 ∷ 99 ∷ 101 ∷ 47 ∷ 115 ∷ 105 ∷ 110 ∷ 107 ∷ 32 ∷ 41 ∷ 58 ∷ 32 ∷ 50 ∷ 10 ∷ 32 ∷ 32 ∷ 45 ∷ 32 ∷ 114 ∷ 101 ∷ 110 ∷ 101 ∷ 119 ∷ 97 ∷ 98 ∷ 108 ∷ 101 ∷ 32 ∷ 58 ∷ 32 ∷ 49 ∷ 32 ∷ 82 ∷ 10 ∷ 80 ∷ 82 ∷ 69 ∷ 67 ∷ 69 ∷ 68 ∷ 69 ∷ 78 ∷ 67 ∷ 69 ∷ 32 ∷ 82 ∷ 69 ∷ 76 ∷ 65 ∷ 84 ∷ 73 ∷ 79 ∷ 78 ∷ 83 ∷ 58 ∷ 10 ∷ 110 ∷ 10 ∷ 49 ∷ 32 ∷ 50 ∷ 32 ∷ 49 ∷ 32 ∷ 50 ∷ 10 ∷ 50 ∷ 32 ∷ 49 ∷ 32 ∷ 48 ∷ 10 ∷ 82 ∷ 69 ∷ 81 ∷ 85 ∷ 69 ∷ 83 ∷ 84 ∷ 83 ∷ 47 ∷ 68 ∷ 85 ∷ 82 ∷ 65 ∷ 84 ∷ 73 ∷ 79 ∷ 78 ∷ 83 ∷ 58 ∷ 10 ∷ 110 ∷ 10 ∷ 45 ∷ 45 ∷ 10 ∷ 49 ∷ 32 ∷ 49 ∷ 32 ∷ 51 ∷ 32 ∷ 49 ∷ 10 ∷ 50 ∷ 32 ∷ 49 ∷ 32 ∷ 52 ∷ 32 ∷ 50 ∷ 10 ∷ 82 ∷ 69 ∷ 83 ∷ 79 ∷ 85 ∷ 82 ∷ 67 ∷ 69 ∷ 65 ∷ 86 ∷ 65 ∷ 73 ∷ 76 ∷ 65 ∷ 66 ∷ 73 ∷ 76 ∷ 73 ∷ 84 ∷ 73 ∷ 69 ∷ 83 ∷ 58 ∷ 10 ∷ 110 ∷ 10 ∷ 53 ∷ 10 ∷ []) ≡ bad 30
+-- a mode count of 2: `1 2 1 2`
+pub two-modes : psplib (text counts (relations (49 ∷ 32 ∷ 50 ∷ 32 ∷ 49 ∷ 32 ∷ 50 ∷ []) second-links) (requests first-needs second-needs) (capacities five)) ≡ bad 30
 unfolding psplib
 two-modes = refl
 
--- more successors than jobs: `x\njobs (incl. supersource/sink ): 2\n  - renewable : 1 R\nPRECEDENCE RELATIONS:\nn\n1 1 3 2\n2 1 0\nREQUESTS/DURATIONS:\nn\n--\n1 1 3 1\n2 1 4 2\nRESOURCEAVAILABILITIES:\nn\n5\n`
-pub more-successors : psplib (120 ∷ 10 ∷ 106 ∷ 111 ∷ 98 ∷ 115 ∷ 32 ∷ 40 ∷ 105 ∷ 110 ∷ 99 ∷ 108 ∷ 46 ∷ 32 ∷ 115 ∷ 117 ∷ 112 ∷ 101 ∷ 114 ∷ 115 ∷ 111 ∷ 117 ∷ 114 ∷ 99 ∷ 101 ∷ 47 ∷ 115 ∷ 105 ∷ 110 ∷ 107 ∷ 32 ∷ 41 ∷ 58 ∷ 32 ∷ 50 ∷ 10 ∷ 32 ∷ 32 ∷ 45 ∷ 32 ∷ 114 ∷ 101 ∷ 110 ∷ 101 ∷ 119 ∷ 97 ∷ 98 ∷ 108 ∷ 101 ∷ 32 ∷ 58 ∷ 32 ∷ 49 ∷ 32 ∷ 82 ∷ 10 ∷ 80 ∷ 82 ∷ 69 ∷ 67 ∷ 69 ∷ 68 ∷ 69 ∷ 78 ∷ 67 ∷ 69 ∷ 32 ∷ 82 ∷ 69 ∷ 76 ∷ 65 ∷ 84 ∷ 73 ∷ 79 ∷ 78 ∷ 83 ∷ 58 ∷ 10 ∷ 110 ∷ 10 ∷ 49 ∷ 32 ∷ 49 ∷ 32 ∷ 51 ∷ 32 ∷ 50 ∷ 10 ∷ 50 ∷ 32 ∷ 49 ∷ 32 ∷ 48 ∷ 10 ∷ 82 ∷ 69 ∷ 81 ∷ 85 ∷ 69 ∷ 83 ∷ 84 ∷ 83 ∷ 47 ∷ 68 ∷ 85 ∷ 82 ∷ 65 ∷ 84 ∷ 73 ∷ 79 ∷ 78 ∷ 83 ∷ 58 ∷ 10 ∷ 110 ∷ 10 ∷ 45 ∷ 45 ∷ 10 ∷ 49 ∷ 32 ∷ 49 ∷ 32 ∷ 51 ∷ 32 ∷ 49 ∷ 10 ∷ 50 ∷ 32 ∷ 49 ∷ 32 ∷ 52 ∷ 32 ∷ 50 ∷ 10 ∷ 82 ∷ 69 ∷ 83 ∷ 79 ∷ 85 ∷ 82 ∷ 67 ∷ 69 ∷ 65 ∷ 86 ∷ 65 ∷ 73 ∷ 76 ∷ 65 ∷ 66 ∷ 73 ∷ 76 ∷ 73 ∷ 84 ∷ 73 ∷ 69 ∷ 83 ∷ 58 ∷ 10 ∷ 110 ∷ 10 ∷ 53 ∷ 10 ∷ []) ≡ bad 31
+-- more successors than jobs: `1 1 3 2`
+pub more-successors : psplib (text counts (relations (49 ∷ 32 ∷ 49 ∷ 32 ∷ 51 ∷ 32 ∷ 50 ∷ []) second-links) (requests first-needs second-needs) (capacities five)) ≡ bad 31
 unfolding psplib
 more-successors = refl
 
--- successor 3 of two jobs: `x\njobs (incl. supersource/sink ): 2\n  - renewable : 1 R\nPRECEDENCE RELATIONS:\nn\n1 1 1 3\n2 1 0\nREQUESTS/DURATIONS:\nn\n--\n1 1 3 1\n2 1 4 2\nRESOURCEAVAILABILITIES:\nn\n5\n`
-pub successor-three : psplib (120 ∷ 10 ∷ 106 ∷ 111 ∷ 98 ∷ 115 ∷ 32 ∷ 40 ∷ 105 ∷ 110 ∷ 99 ∷ 108 ∷ 46 ∷ 32 ∷ 115 ∷ 117 ∷ 112 ∷ 101 ∷ 114 ∷ 115 ∷ 111 ∷ 117 ∷ 114 ∷ 99 ∷ 101 ∷ 47 ∷ 115 ∷ 105 ∷ 110 ∷ 107 ∷ 32 ∷ 41 ∷ 58 ∷ 32 ∷ 50 ∷ 10 ∷ 32 ∷ 32 ∷ 45 ∷ 32 ∷ 114 ∷ 101 ∷ 110 ∷ 101 ∷ 119 ∷ 97 ∷ 98 ∷ 108 ∷ 101 ∷ 32 ∷ 58 ∷ 32 ∷ 49 ∷ 32 ∷ 82 ∷ 10 ∷ 80 ∷ 82 ∷ 69 ∷ 67 ∷ 69 ∷ 68 ∷ 69 ∷ 78 ∷ 67 ∷ 69 ∷ 32 ∷ 82 ∷ 69 ∷ 76 ∷ 65 ∷ 84 ∷ 73 ∷ 79 ∷ 78 ∷ 83 ∷ 58 ∷ 10 ∷ 110 ∷ 10 ∷ 49 ∷ 32 ∷ 49 ∷ 32 ∷ 49 ∷ 32 ∷ 51 ∷ 10 ∷ 50 ∷ 32 ∷ 49 ∷ 32 ∷ 48 ∷ 10 ∷ 82 ∷ 69 ∷ 81 ∷ 85 ∷ 69 ∷ 83 ∷ 84 ∷ 83 ∷ 47 ∷ 68 ∷ 85 ∷ 82 ∷ 65 ∷ 84 ∷ 73 ∷ 79 ∷ 78 ∷ 83 ∷ 58 ∷ 10 ∷ 110 ∷ 10 ∷ 45 ∷ 45 ∷ 10 ∷ 49 ∷ 32 ∷ 49 ∷ 32 ∷ 51 ∷ 32 ∷ 49 ∷ 10 ∷ 50 ∷ 32 ∷ 49 ∷ 32 ∷ 52 ∷ 32 ∷ 50 ∷ 10 ∷ 82 ∷ 69 ∷ 83 ∷ 79 ∷ 85 ∷ 82 ∷ 67 ∷ 69 ∷ 65 ∷ 86 ∷ 65 ∷ 73 ∷ 76 ∷ 65 ∷ 66 ∷ 73 ∷ 76 ∷ 73 ∷ 84 ∷ 73 ∷ 69 ∷ 83 ∷ 58 ∷ 10 ∷ 110 ∷ 10 ∷ 53 ∷ 10 ∷ []) ≡ bad 32
+-- successor 3 of two jobs: `1 1 1 3`
+pub successor-three : psplib (text counts (relations (49 ∷ 32 ∷ 49 ∷ 32 ∷ 49 ∷ 32 ∷ 51 ∷ []) second-links) (requests first-needs second-needs) (capacities five)) ≡ bad 32
 unfolding psplib
 successor-three = refl
 
--- mode 2 among the requests: `x\njobs (incl. supersource/sink ): 2\n  - renewable : 1 R\nPRECEDENCE RELATIONS:\nn\n1 1 1 2\n2 1 0\nREQUESTS/DURATIONS:\nn\n--\n1 2 3 1\n2 1 4 2\nRESOURCEAVAILABILITIES:\nn\n5\n`
-pub second-mode : psplib (120 ∷ 10 ∷ 106 ∷ 111 ∷ 98 ∷ 115 ∷ 32 ∷ 40 ∷ 105 ∷ 110 ∷ 99 ∷ 108 ∷ 46 ∷ 32 ∷ 115 ∷ 117 ∷ 112 ∷ 101 ∷ 114 ∷ 115 ∷ 111 ∷ 117 ∷ 114 ∷ 99 ∷ 101 ∷ 47 ∷ 115 ∷ 105 ∷ 110 ∷ 107 ∷ 32 ∷ 41 ∷ 58 ∷ 32 ∷ 50 ∷ 10 ∷ 32 ∷ 32 ∷ 45 ∷ 32 ∷ 114 ∷ 101 ∷ 110 ∷ 101 ∷ 119 ∷ 97 ∷ 98 ∷ 108 ∷ 101 ∷ 32 ∷ 58 ∷ 32 ∷ 49 ∷ 32 ∷ 82 ∷ 10 ∷ 80 ∷ 82 ∷ 69 ∷ 67 ∷ 69 ∷ 68 ∷ 69 ∷ 78 ∷ 67 ∷ 69 ∷ 32 ∷ 82 ∷ 69 ∷ 76 ∷ 65 ∷ 84 ∷ 73 ∷ 79 ∷ 78 ∷ 83 ∷ 58 ∷ 10 ∷ 110 ∷ 10 ∷ 49 ∷ 32 ∷ 49 ∷ 32 ∷ 49 ∷ 32 ∷ 50 ∷ 10 ∷ 50 ∷ 32 ∷ 49 ∷ 32 ∷ 48 ∷ 10 ∷ 82 ∷ 69 ∷ 81 ∷ 85 ∷ 69 ∷ 83 ∷ 84 ∷ 83 ∷ 47 ∷ 68 ∷ 85 ∷ 82 ∷ 65 ∷ 84 ∷ 73 ∷ 79 ∷ 78 ∷ 83 ∷ 58 ∷ 10 ∷ 110 ∷ 10 ∷ 45 ∷ 45 ∷ 10 ∷ 49 ∷ 32 ∷ 50 ∷ 32 ∷ 51 ∷ 32 ∷ 49 ∷ 10 ∷ 50 ∷ 32 ∷ 49 ∷ 32 ∷ 52 ∷ 32 ∷ 50 ∷ 10 ∷ 82 ∷ 69 ∷ 83 ∷ 79 ∷ 85 ∷ 82 ∷ 67 ∷ 69 ∷ 65 ∷ 86 ∷ 65 ∷ 73 ∷ 76 ∷ 65 ∷ 66 ∷ 73 ∷ 76 ∷ 73 ∷ 84 ∷ 73 ∷ 69 ∷ 83 ∷ 58 ∷ 10 ∷ 110 ∷ 10 ∷ 53 ∷ 10 ∷ []) ≡ bad 30
+-- mode 2 among the requests: `1 2 3 1`
+pub second-mode : psplib (text counts (relations first-links second-links) (requests (49 ∷ 32 ∷ 50 ∷ 32 ∷ 51 ∷ 32 ∷ 49 ∷ []) second-needs) (capacities five)) ≡ bad 30
 unfolding psplib
 second-mode = refl
 
--- without its line of hyphens the requests lack their first row: `x\njobs (incl. supersource/sink ): 2\n  - renewable : 1 R\nPRECEDENCE RELATIONS:\nn\n1 1 1 2\n2 1 0\nREQUESTS/DURATIONS:\nn\n1 1 3 1\n2 1 4 2\nRESOURCEAVAILABILITIES:\nn\n5\n`
-pub no-hyphens : psplib (120 ∷ 10 ∷ 106 ∷ 111 ∷ 98 ∷ 115 ∷ 32 ∷ 40 ∷ 105 ∷ 110 ∷ 99 ∷ 108 ∷ 46 ∷ 32 ∷ 115 ∷ 117 ∷ 112 ∷ 101 ∷ 114 ∷ 115 ∷ 111 ∷ 117 ∷ 114 ∷ 99 ∷ 101 ∷ 47 ∷ 115 ∷ 105 ∷ 110 ∷ 107 ∷ 32 ∷ 41 ∷ 58 ∷ 32 ∷ 50 ∷ 10 ∷ 32 ∷ 32 ∷ 45 ∷ 32 ∷ 114 ∷ 101 ∷ 110 ∷ 101 ∷ 119 ∷ 97 ∷ 98 ∷ 108 ∷ 101 ∷ 32 ∷ 58 ∷ 32 ∷ 49 ∷ 32 ∷ 82 ∷ 10 ∷ 80 ∷ 82 ∷ 69 ∷ 67 ∷ 69 ∷ 68 ∷ 69 ∷ 78 ∷ 67 ∷ 69 ∷ 32 ∷ 82 ∷ 69 ∷ 76 ∷ 65 ∷ 84 ∷ 73 ∷ 79 ∷ 78 ∷ 83 ∷ 58 ∷ 10 ∷ 110 ∷ 10 ∷ 49 ∷ 32 ∷ 49 ∷ 32 ∷ 49 ∷ 32 ∷ 50 ∷ 10 ∷ 50 ∷ 32 ∷ 49 ∷ 32 ∷ 48 ∷ 10 ∷ 82 ∷ 69 ∷ 81 ∷ 85 ∷ 69 ∷ 83 ∷ 84 ∷ 83 ∷ 47 ∷ 68 ∷ 85 ∷ 82 ∷ 65 ∷ 84 ∷ 73 ∷ 79 ∷ 78 ∷ 83 ∷ 58 ∷ 10 ∷ 110 ∷ 10 ∷ 49 ∷ 32 ∷ 49 ∷ 32 ∷ 51 ∷ 32 ∷ 49 ∷ 10 ∷ 50 ∷ 32 ∷ 49 ∷ 32 ∷ 52 ∷ 32 ∷ 50 ∷ 10 ∷ 82 ∷ 69 ∷ 83 ∷ 79 ∷ 85 ∷ 82 ∷ 67 ∷ 69 ∷ 65 ∷ 86 ∷ 65 ∷ 73 ∷ 76 ∷ 65 ∷ 66 ∷ 73 ∷ 76 ∷ 73 ∷ 84 ∷ 73 ∷ 69 ∷ 83 ∷ 58 ∷ 10 ∷ 110 ∷ 10 ∷ 53 ∷ 10 ∷ []) ≡ bad 30
+-- without its line of hyphens the table of requests lacks its first row
+pub no-hyphens : psplib (text counts (relations first-links second-links) (requestsHeading ∷ names ∷ first-needs ∷ second-needs ∷ []) (capacities five)) ≡ bad 30
 unfolding psplib
 no-hyphens = refl
 
--- a capacity above its limit: `x\njobs (incl. supersource/sink ): 2\n  - renewable : 1 R\nPRECEDENCE RELATIONS:\nn\n1 1 1 2\n2 1 0\nREQUESTS/DURATIONS:\nn\n--\n1 1 3 1\n2 1 4 2\nRESOURCEAVAILABILITIES:\nn\n10001\n`
-pub large-capacity : psplib (120 ∷ 10 ∷ 106 ∷ 111 ∷ 98 ∷ 115 ∷ 32 ∷ 40 ∷ 105 ∷ 110 ∷ 99 ∷ 108 ∷ 46 ∷ 32 ∷ 115 ∷ 117 ∷ 112 ∷ 101 ∷ 114 ∷ 115 ∷ 111 ∷ 117 ∷ 114 ∷ 99 ∷ 101 ∷ 47 ∷ 115 ∷ 105 ∷ 110 ∷ 107 ∷ 32 ∷ 41 ∷ 58 ∷ 32 ∷ 50 ∷ 10 ∷ 32 ∷ 32 ∷ 45 ∷ 32 ∷ 114 ∷ 101 ∷ 110 ∷ 101 ∷ 119 ∷ 97 ∷ 98 ∷ 108 ∷ 101 ∷ 32 ∷ 58 ∷ 32 ∷ 49 ∷ 32 ∷ 82 ∷ 10 ∷ 80 ∷ 82 ∷ 69 ∷ 67 ∷ 69 ∷ 68 ∷ 69 ∷ 78 ∷ 67 ∷ 69 ∷ 32 ∷ 82 ∷ 69 ∷ 76 ∷ 65 ∷ 84 ∷ 73 ∷ 79 ∷ 78 ∷ 83 ∷ 58 ∷ 10 ∷ 110 ∷ 10 ∷ 49 ∷ 32 ∷ 49 ∷ 32 ∷ 49 ∷ 32 ∷ 50 ∷ 10 ∷ 50 ∷ 32 ∷ 49 ∷ 32 ∷ 48 ∷ 10 ∷ 82 ∷ 69 ∷ 81 ∷ 85 ∷ 69 ∷ 83 ∷ 84 ∷ 83 ∷ 47 ∷ 68 ∷ 85 ∷ 82 ∷ 65 ∷ 84 ∷ 73 ∷ 79 ∷ 78 ∷ 83 ∷ 58 ∷ 10 ∷ 110 ∷ 10 ∷ 45 ∷ 45 ∷ 10 ∷ 49 ∷ 32 ∷ 49 ∷ 32 ∷ 51 ∷ 32 ∷ 49 ∷ 10 ∷ 50 ∷ 32 ∷ 49 ∷ 32 ∷ 52 ∷ 32 ∷ 50 ∷ 10 ∷ 82 ∷ 69 ∷ 83 ∷ 79 ∷ 85 ∷ 82 ∷ 67 ∷ 69 ∷ 65 ∷ 86 ∷ 65 ∷ 73 ∷ 76 ∷ 65 ∷ 66 ∷ 73 ∷ 76 ∷ 73 ∷ 84 ∷ 73 ∷ 69 ∷ 83 ∷ 58 ∷ 10 ∷ 110 ∷ 10 ∷ 49 ∷ 48 ∷ 48 ∷ 48 ∷ 49 ∷ 10 ∷ []) ≡ bad 31
+-- a capacity above its limit: `99999`
+pub large-capacity : psplib (text counts (relations first-links second-links) (requests first-needs second-needs) (capacities (57 ∷ 57 ∷ 57 ∷ 57 ∷ 57 ∷ []))) ≡ bad 31
 unfolding psplib
 large-capacity = refl
 
--- the relations are met before the requests: `x\njobs (incl. supersource/sink ): 2\n  - renewable : 1 R\nPRECEDENCE RELATIONS:\nn\n1 1 1 3\n2 1 0\nREQUESTS/DURATIONS:\nn\n--\n1 2 3 1\n2 1 4 2\nRESOURCEAVAILABILITIES:\nn\n5\n`
-pub relations-first : psplib (120 ∷ 10 ∷ 106 ∷ 111 ∷ 98 ∷ 115 ∷ 32 ∷ 40 ∷ 105 ∷ 110 ∷ 99 ∷ 108 ∷ 46 ∷ 32 ∷ 115 ∷ 117 ∷ 112 ∷ 101 ∷ 114 ∷ 115 ∷ 111 ∷ 117 ∷ 114 ∷ 99 ∷ 101 ∷ 47 ∷ 115 ∷ 105 ∷ 110 ∷ 107 ∷ 32 ∷ 41 ∷ 58 ∷ 32 ∷ 50 ∷ 10 ∷ 32 ∷ 32 ∷ 45 ∷ 32 ∷ 114 ∷ 101 ∷ 110 ∷ 101 ∷ 119 ∷ 97 ∷ 98 ∷ 108 ∷ 101 ∷ 32 ∷ 58 ∷ 32 ∷ 49 ∷ 32 ∷ 82 ∷ 10 ∷ 80 ∷ 82 ∷ 69 ∷ 67 ∷ 69 ∷ 68 ∷ 69 ∷ 78 ∷ 67 ∷ 69 ∷ 32 ∷ 82 ∷ 69 ∷ 76 ∷ 65 ∷ 84 ∷ 73 ∷ 79 ∷ 78 ∷ 83 ∷ 58 ∷ 10 ∷ 110 ∷ 10 ∷ 49 ∷ 32 ∷ 49 ∷ 32 ∷ 49 ∷ 32 ∷ 51 ∷ 10 ∷ 50 ∷ 32 ∷ 49 ∷ 32 ∷ 48 ∷ 10 ∷ 82 ∷ 69 ∷ 81 ∷ 85 ∷ 69 ∷ 83 ∷ 84 ∷ 83 ∷ 47 ∷ 68 ∷ 85 ∷ 82 ∷ 65 ∷ 84 ∷ 73 ∷ 79 ∷ 78 ∷ 83 ∷ 58 ∷ 10 ∷ 110 ∷ 10 ∷ 45 ∷ 45 ∷ 10 ∷ 49 ∷ 32 ∷ 50 ∷ 32 ∷ 51 ∷ 32 ∷ 49 ∷ 10 ∷ 50 ∷ 32 ∷ 49 ∷ 32 ∷ 52 ∷ 32 ∷ 50 ∷ 10 ∷ 82 ∷ 69 ∷ 83 ∷ 79 ∷ 85 ∷ 82 ∷ 67 ∷ 69 ∷ 65 ∷ 86 ∷ 65 ∷ 73 ∷ 76 ∷ 65 ∷ 66 ∷ 73 ∷ 76 ∷ 73 ∷ 84 ∷ 73 ∷ 69 ∷ 83 ∷ 58 ∷ 10 ∷ 110 ∷ 10 ∷ 53 ∷ 10 ∷ []) ≡ bad 32
+-- the relations are met before the requests: `1 1 1 3`, `1 2 3 1`
+pub relations-first : psplib (text counts (relations (49 ∷ 32 ∷ 49 ∷ 32 ∷ 49 ∷ 32 ∷ 51 ∷ []) second-links) (requests (49 ∷ 32 ∷ 50 ∷ 32 ∷ 51 ∷ 32 ∷ 49 ∷ []) second-needs) (capacities five)) ≡ bad 32
 unfolding psplib
 relations-first = refl

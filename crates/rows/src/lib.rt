@@ -1,4 +1,4 @@
-// The rows of a text (document 01, 'Library layouts'; refusals of document 02, Item 1): the counts of the Patterson layout, one step along the rows of
+// The rows of a text (document 01, 'Library layouts'; refusals of document 02, Items 1 and 13): the counts of the Patterson layout, one step along the rows of
 // a table in either layout, and all of its rows checked.
 mod parts;
 
