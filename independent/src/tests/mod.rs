@@ -30,12 +30,27 @@ mod writing;
 use crate::answers::Answer;
 use crate::joblist::{lists, Supply, Times};
 use crate::random::Random;
+use crate::reading::Lent;
 use crate::record::RECORD_WORDS;
 use crate::timetable::narrow;
 
 fn windows(times: &Times) -> Vec<(u32, u32)> {
     let pairs = times.est.iter().zip(&times.lct);
     pairs.map(|(&e, &l)| (e, l)).collect()
+}
+
+/// Lists for so many jobs and pairs, each word of them `word`.
+fn lent(jobs: usize, pairs: usize, word: u32) -> Lent {
+    let jobs = vec![word; jobs];
+    let pairs = vec![word; pairs];
+    Lent {
+        est: jobs.clone(),
+        lct: jobs.clone(),
+        dur: jobs.clone(),
+        dem: jobs,
+        jobs: pairs.clone(),
+        successors: pairs,
+    }
 }
 
 /// Few jobs in a short time, many of them crowded, a few too long for their

@@ -11,16 +11,7 @@ use crate::reading::{chains, longest, read, Layout, Lent, Request};
 use Layout::{Patterson, Psplib};
 
 fn lent(project: &Project) -> Lent {
-    let jobs = vec![0; project.jobs.len()];
-    let pairs = vec![0; project.pairs()];
-    Lent {
-        est: jobs.clone(),
-        lct: jobs.clone(),
-        dur: jobs.clone(),
-        dem: jobs,
-        jobs: pairs.clone(),
-        successors: pairs,
-    }
+    crate::tests::lent(project.jobs.len(), project.pairs(), 0)
 }
 
 /// Every resource is read as the project has it, windows by the rounds of

@@ -3,7 +3,8 @@
 
 use crate::answers::Answer;
 use crate::random::Random;
-use crate::reading::{read, Layout, Lent, Request};
+use crate::reading::{read, Layout, Request};
+use crate::tests::lent;
 use crate::writing::{write, Listing};
 
 const MARK: u8 = 200;
@@ -171,16 +172,7 @@ fn the_reader_gives_back_what_was_written() {
             horizon: 1_000_000,
             text: buffer[..length].to_vec(),
         };
-        let jobs = vec![7; written.dur.len()];
-        let pairs = vec![7; written.jobs.len()];
-        let mut lent = Lent {
-            est: jobs.clone(),
-            lct: jobs.clone(),
-            dur: jobs.clone(),
-            dem: jobs,
-            jobs: pairs.clone(),
-            successors: pairs,
-        };
+        let mut lent = lent(written.dur.len(), written.jobs.len(), 7);
         let answer = read(&request, &mut lent);
         assert_eq!(answer, Answer::Read(written.cap, written.jobs.len()));
         assert_eq!((lent.dur, lent.dem), (written.dur, written.dem));
