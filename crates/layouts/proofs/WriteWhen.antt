@@ -4,14 +4,14 @@ use native.Mathlib.Omega.{arith}
 use mathlib.Core.Path.{_≡_, refl}
 use mathlib.Core.Logic.{_⊎_, inl, inr, _↔_}
 use Rattle.layouts.specs.Write.{WriteCall, WriteRefusal}
-use Rattle.layouts.specs.WriteWhen.{Differ, TooMany, TooGreat, OutOfPlace, RoundAbout, NoPlace, WritePassed}
+use Rattle.layouts.specs.WriteWhen.{Uneven, TooMany, TooGreat, OutOfPlace, CyclicPairs, BufferShort, WritePassed}
 use Rattle.layouts.proofs.WriteTests.{behind-lists}
 
 module _ (c : WriteCall) where
-  pub write-1 : WriteRefusal c 1 ↔ Differ c
+  pub write-1 : WriteRefusal c 1 ↔ Uneven c
   write-1 = (to, from)
     where
-      to : WriteRefusal c 1 → Differ c
+      to : WriteRefusal c 1 → Uneven c
       to (inl t) = inl (t .0)
       to (inr (s, inl t)) = absurd (omega (arith, t .1))
       to (inr (s, inr (f, inl t))) = absurd (omega (arith, t .1))
@@ -21,7 +21,7 @@ module _ (c : WriteCall) where
       to (inr (s, inr (f, inr (w, inr (e, inr (o, inr (y, inl t))))))) = absurd (omega (arith, t .1))
       to (inr (s, inr (f, inr (w, inr (e, inr (o, inr (y, inr (m, t)))))))) = absurd (omega (arith, t))
 
-      from : Differ c → WriteRefusal c 1
+      from : Uneven c → WriteRefusal c 1
       from (inl q) = inl (q, refl)
       from (inr q) = behind-lists c 1 (q .0) (inl (q .1, refl))
 
@@ -64,10 +64,10 @@ module _ (c : WriteCall) where
       to (inr (s, inr (f, inr (w, inr (e, inr (o, inr (y, inl t))))))) = absurd (omega (arith, t .1))
       to (inr (s, inr (f, inr (w, inr (e, inr (o, inr (y, inr (m, t)))))))) = absurd (omega (arith, t))
 
-  pub write-33 : WriteRefusal c 33 ↔ RoundAbout c
+  pub write-33 : WriteRefusal c 33 ↔ CyclicPairs c
   write-33 = (to, λ q. behind-lists c 33 (q .lists) (inr (q .even, inr (q .rising, inl (q .cycle, refl)))))
     where
-      to : WriteRefusal c 33 → RoundAbout c
+      to : WriteRefusal c 33 → CyclicPairs c
       to (inl t) = absurd (omega (arith, t .1))
       to (inr (s, inl t)) = absurd (omega (arith, t .1))
       to (inr (s, inr (f, inl t))) = absurd (omega (arith, t .1))
@@ -77,10 +77,10 @@ module _ (c : WriteCall) where
       to (inr (s, inr (f, inr (w, inr (e, inr (o, inr (y, inl t))))))) = absurd (omega (arith, t .1))
       to (inr (s, inr (f, inr (w, inr (e, inr (o, inr (y, inr (m, t)))))))) = absurd (omega (arith, t))
 
-  pub write-36 : WriteRefusal c 36 ↔ NoPlace c
+  pub write-36 : WriteRefusal c 36 ↔ BufferShort c
   write-36 = (to, λ q. behind-lists c 36 (q .lists) (inr (q .even, inr (q .rising, inr (q .acyclic, inl (q .short, refl))))))
     where
-      to : WriteRefusal c 36 → NoPlace c
+      to : WriteRefusal c 36 → BufferShort c
       to (inl t) = absurd (omega (arith, t .1))
       to (inr (s, inl t)) = absurd (omega (arith, t .1))
       to (inr (s, inr (f, inl t))) = absurd (omega (arith, t .1))

@@ -20,8 +20,8 @@ abbrev pub Even : WriteCall → Type 0
 Even c = length (c .successors) ≡ length (c .jobs)
 
 -- 1: durations and demands differ in length; or the lists pass, and those of the pairs differ
-abbrev pub Differ : WriteCall → Type 0
-Differ c = Unequal (length (c .dur)) (columns c) ⊎ (ListsPass c × (Even c → ⊥))
+abbrev pub Uneven : WriteCall → Type 0
+Uneven c = Unequal (length (c .dur)) (columns c) ⊎ (ListsPass c × (Even c → ⊥))
 
 -- 2: more jobs than the limit
 abbrev pub TooMany : WriteCall → Type 0
@@ -38,14 +38,14 @@ pub record OutOfPlace (c : WriteCall) : Type 0 where
   pub fault : NotRising (length (c .dur)) (c .jobs) (c .successors)
 
 -- 33: a cycle
-pub record RoundAbout (c : WriteCall) : Type 0 where
+pub record CyclicPairs (c : WriteCall) : Type 0 where
   pub lists : ListsPass c
   pub even : Even c
   pub rising : Rising (length (c .dur)) (c .jobs) (c .successors)
   pub cycle : Cycle (Precedes (pairsIn c))
 
 -- 36: a buffer that is too short
-pub record NoPlace (c : WriteCall) : Type 0 where
+pub record BufferShort (c : WriteCall) : Type 0 where
   pub lists : ListsPass c
   pub even : Even c
   pub rising : Rising (length (c .dur)) (c .jobs) (c .successors)
