@@ -5,7 +5,9 @@ use native.Mathlib.Numerals.{add-one}
 use native.Mathlib.Decide.{ℕ-discrete, decLe}
 use mathlib.Core.Path.{_≡_, refl, sym}
 use mathlib.Core.Bool.{Bool, true, false}
-use Rattle.lists.specs.Tests.{both, either, where?, only, every}
+use lib.Dec.{leb}
+use borrow.Author.Tests.{le-leb, lt-leb, lt-ltb, le-ltb}
+use Rattle.lists.specs.Tests.{both, either, where?, between, only, every}
 
 pub both-true : (a b : Bool) → both a b ≡ true → (a ≡ true) × (b ≡ true)
 both-true true b h = (refl, h)
@@ -22,9 +24,30 @@ pub both-false : (a : Bool) → both a false ≡ false
 both-false true = refl
 both-false false = refl
 
+-- t from lo up to hi, before it, behind it
+module _ (lo hi t : ℕ) where
+  pub between-yes : lo ≤ t → t < hi → between lo hi t ≡ true
+  between-yes a b = rw (le-leb lo t a, lt-ltb t hi b)
+
+  pub between-before : t < lo → between lo hi t ≡ false
+  between-before a = rw (lt-leb lo t a)
+
+  pub between-behind : hi ≤ t → between lo hi t ≡ false
+  between-behind a = rw (le-ltb t hi a) (both-false (leb lo t))
+
+pub only-most : (a : Bool) (x : ℕ) → only a x ≤ x
+only-most true x = omega arith
+only-most false x = omega arith
+
 pub only-le : (a b : Bool) (x : ℕ) → (a ≡ true → b ≡ true) → only a x ≤ only b x
 only-le true b x h = rw (h refl) (omega arith)
 only-le false b x h = omega arith
+
+pub only-less : (a b : Bool) (x : ℕ) → only a x < only b x → (a ≡ false) × (b ≡ true)
+only-less true true x h = absurd (omega arith)
+only-less true false x h = absurd (omega arith)
+only-less false true x h = (refl, refl)
+only-less false false x h = absurd (omega arith)
 
 pub by-contra : (a b : ℕ) → (b < a → ⊥) → a ≤ b
 by-contra a b h = elim (decLe a b) [ yes k ↦ k | no k ↦ absurd (h (omega arith)) ]

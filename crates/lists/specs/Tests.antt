@@ -1,6 +1,7 @@
 -- Tests, and what is picked by them. A test is a Bool; the fact that it stands for is a type of its own.
 use Prim.Native.Nat.{ℕ, zero, suc}
 use mathlib.Core.Bool.{Bool, true, false}
+use lib.Dec.{leb, ltb}
 
 -- both tests pass
 abbrev pub both : Bool → Bool → Bool
@@ -16,6 +17,10 @@ either false b = b
 abbrev pub where? : Bool → Bool → Bool
 where? true b = b
 where? false b = true
+
+-- lo ≤ t < hi
+abbrev pub between : ℕ → ℕ → ℕ → Bool
+between lo hi t = both (leb lo t) (ltb t hi)
 
 -- x where the test passes, else 0
 abbrev pub only : Bool → ℕ → ℕ

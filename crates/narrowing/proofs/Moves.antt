@@ -17,6 +17,13 @@ pub side-number : (s : Side) → sideOf (number s) ≡ s
 side-number early = refl
 side-number late = refl
 
+pub side-early : (k : ℕ) → k ≡ 0 → sideOf k ≡ early
+side-early k h = rw h
+
+pub side-late : (k : ℕ) → (k ≡ 0 → ⊥) → sideOf k ≡ late
+side-late zero h = absurd (h refl)
+side-late (suc k) h = refl
+
 pub inside-refl : (n : ℕ) (W : Win) → Inside n W W
 inside-refl n W = record { early = λ k b. omega arith; late = λ k b. omega arith }
 

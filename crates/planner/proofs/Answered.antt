@@ -20,7 +20,7 @@ use Rattle.timetable.specs.Promise.{Narrows}
 use Rattle.timetable.proofs.Calls.{good-call, call-good}
 use Rattle.timetable.proofs.Meaning.{narrows}
 use Rattle.timetable.proofs.TooShort.{too-short-row}
-use Rattle.planner.specs.Work.{EndsAs, ran, Works}
+use Rattle.rounds.specs.Work.{EndsAs, ran, Works}
 
 -- what narrowing leaves, by the work's answer: the windows, and the log
 abbrev pub winBy : Call → Answer → Win → Win

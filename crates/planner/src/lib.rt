@@ -1,14 +1,12 @@
 // Narrowing (document 01, 'Answer table'; document 02, Item 3): the call, on copies of the windows. `rounds` does the work, the crate
 // `writer` puts its records down.
-mod rounds;
-
 use answers::Answer;
 ghost use mathlib.Core.Path.{_≡_};
 ghost use Rattle.narrowing.specs.Windows.{win};
 ghost use Rattle.answers.specs.Said.{says};
 ghost use Rattle.timetable.specs.Table.{call, leaves};
 ghost use Rattle.timetable.specs.Promise.{Narrows};
-ghost use Rattle.tabling.specs.Search.{Workable};
+ghost use Rattle.tabling.specs.Asked.{Workable};
 
 // Narrowing of a good list whose windows are long enough. The work is done on copies of the windows, and the caller's are written only where it settles.
 fn narrow_good(

@@ -9,7 +9,7 @@ use Rattle.narrowing.specs.Windows.{Win, Long}
 use Rattle.joblist.specs.Limits.{jobs, mostTime, mostDemand, fourLists, supply}
 use Rattle.joblist.specs.GoodList.{GoodList}
 use Rattle.timetable.specs.Table.{Call}
-use Rattle.tabling.specs.Search.{Workable}
+use Rattle.tabling.specs.Asked.{Workable}
 
 module _ {W : Win} {p r : List ℕ} {cap : ℕ} (g : GoodList (jobs W) (fourLists W p r) (supply cap)) where
   pub ends-sized : length (W .l) ≡ jobs W
@@ -39,3 +39,7 @@ module _ {W : Win} {p r : List ℕ} {cap : ℕ} (g : GoodList (jobs W) (fourList
 pub window-long : {c : Call} → Workable c → (k : ℕ) → k < length (c .p) → c .win .e ! k + c .p ! k ≤ c .win .l ! k
 unfolding Long
 window-long w k b = w .long k (omega (arith, durations-sized (w .good)))
+
+-- its earliest end, its latest end and the limit in order
+pub window-within : {c : Call} → Workable c → (k : ℕ) → k < length (c .p) → (c .win .e ! k + c .p ! k ≤ c .win .l ! k) × (c .win .l ! k ≤ mostTime)
+window-within w k b = (window-long w k b, end-most (w .good) k)

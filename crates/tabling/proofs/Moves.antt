@@ -1,11 +1,11 @@
--- What the search and a move give to those who call them: an answer is the time at which a rule applies, that time is small, windows moved
+-- What the defined search and a move give to those who look for them: the time found is one at which a rule applies, that time is small, windows moved
 -- within the limit are good, and those that a rule moved and did not close are long enough again.
 use Prim.Native.Nat.{ℕ, zero, suc, _+_, _≤_, _<_}
 use native.Mathlib.Omega.{arith}
 use mathlib.Core.Path.{_≡_, refl, subst}
 use mathlib.Core.Bool.{false}
 use mathlib.Core.List.{List}
-use mathlib.Core.Option.{Option, none, some}
+use mathlib.Core.Option.{none, some}
 use lib.ListN.{length-set}
 use Rattle.lists.specs.Lists.{_!_}
 use Rattle.lists.proofs.Lists.{set-any}
@@ -17,19 +17,7 @@ use Rattle.timetable.specs.Time.{Jobs, Applies, bound}
 use Rattle.timetable.specs.Search.{best, search}
 use Rattle.timetable.specs.Table.{Call, call, jobsOf, Good}
 use Rattle.timetable.proofs.Law.{searches}
-use Rattle.tabling.specs.declared.Found.{Found}
-use Rattle.tabling.specs.Found.{found}
-use Rattle.tabling.specs.Search.{Workable}
-
--- ---- answers
-
-pub found-some : (x : Option ℕ) (t : ℕ) → found x ≡ Found.At t → x ≡ some t
-found-some none t h = cc
-found-some (some u) t h = cc
-
-pub found-none : (x : Option ℕ) → found x ≡ Found.Nothing → x ≡ none
-found-none none h = refl
-found-none (some u) h = cc
+use Rattle.tabling.specs.Asked.{Workable}
 
 -- the number of a side from its number
 pub number-of-side : (k : ℕ) → k ≤ 1 → number (sideOf k) ≡ k

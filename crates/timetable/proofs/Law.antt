@@ -72,7 +72,7 @@ module _ (J : Jobs) (W : Win) (j : ℕ) where
   late-found h none d = λ t a. d t (record { from = omega (arith, a .from); to = omega (arith, a .to); has = a .crowded })
   late-found h (some t) d = record { from = omega (arith, d .0 .from); to = omega (arith, d .0 .to); crowded = d .0 .has }
 
-  best-is : (s : Side) → J .p ! j ≤ W .l ! j → Found (Applies J W j s) (bound s) (best J W j s)
+  pub best-is : (s : Side) → J .p ! j ≤ W .l ! j → Found (Applies J W j s) (bound s) (best J W j s)
   best-is early h = early-found (best J W j early) best-early
   best-is late h = late-found h (best J W j late) best-late
 

@@ -5,6 +5,8 @@ pub mod Exact
 pub mod Order
 pub mod Entries
 pub mod Lean
+pub mod Edges
+pub mod Loads
 pub mod Unmoved
 pub mod Reasons
 pub mod Meaning

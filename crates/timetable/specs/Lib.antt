@@ -1,5 +1,6 @@
 pub mod Time
 pub mod Search
+pub mod Edges
 pub mod Reason
 pub mod Table
 pub mod Reasons

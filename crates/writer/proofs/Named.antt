@@ -18,7 +18,7 @@ use Rattle.timetable.specs.Time.{Jobs, sure, load}
 use Rattle.timetable.specs.Search.{member, leanMember}
 use Rattle.timetable.specs.Table.{jobsOf}
 use Rattle.timetable.proofs.Lean.{members-load, lean-member}
-use Rattle.tabling.specs.Search.{asked, loadOf}
+use Rattle.tabling.specs.Asked.{asked, loadOf}
 
 module _ (J : Jobs) (W : Win) (j t : ℕ) where
   -- of a job of the list

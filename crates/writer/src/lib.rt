@@ -9,7 +9,7 @@ ghost use Rattle.joblist.specs.Limits.{mostTime};
 ghost use Rattle.journal.specs.Journal.{rewritten};
 ghost use Rattle.timetable.specs.Table.{Good};
 ghost use Rattle.narrowing.specs.Windows.{sideOf};
-ghost use Rattle.tabling.specs.Search.{asked};
+ghost use Rattle.tabling.specs.Asked.{asked};
 ghost use Rattle.writer.specs.Record.{membersOf, recordOf};
 
 // Whether job k is one of 01's members of a record of job j at time t: another job with a demand whose sure part holds t.

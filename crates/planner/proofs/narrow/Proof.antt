@@ -11,7 +11,7 @@ use Rattle.joblist.specs.Limits.{mostJobs}
 use Rattle.joblist.proofs.Copies.{saved-back}
 use Rattle.joblist.proofs.TooShort.{answer-too-short, answer-long}
 use Rattle.timetable.specs.Table.{Call, call, Good}
-use Rattle.tabling.specs.Search.{Workable}
+use Rattle.tabling.specs.Asked.{Workable}
 use Rattle.planner.proofs.Answered.{accepted, refused, clashed}
 use Rattle.planner.proofs.narrow.Statement.{statement}
 use Rattle.planner.proofs.narrow.Tie as tie

@@ -1,0 +1,149 @@
+use Rattle.narrowing.specs.Windows.{sideOf}
+use mathlib.Core.Path.{_≡_}
+use Prim.Native.Nat.{_+_, _≤_}
+use native.Mathlib.Omega.{arith}
+use Rattle.lists.specs.Lists.{_!_}
+use Rattle.narrowing.proofs.Moves.{side-early, side-late}
+use Rattle.tabling.proofs.Good.{window-within, duration-most}
+use Rattle.loads.proofs.Following.{follow-asks, followed-early, followed-late}
+use borrow.Author.Needs.{needs}
+use Rattle.loads.proofs.follow.Statement.{statement}
+use Rattle.loads.proofs.follow.Tie as tie
+
+was-later : (s : tie.Start) → (s .args .side ≡ 0 → ⊥) → s .args .lct .now ! s .args .job ≤ s .args .old
+was-later s h = rw (side-late _ h) at (s .pre .2)
+
+sub-if1 : tie.Need-sub-if1
+sub-if1 c = search needs
+
+build-requires : tie.Need-build-requires
+build-requires c κs = search needs
+
+same-length : tie.Need-same-length
+same-length c = search needs
+
+same-length-2 : tie.Need-same-length-2
+same-length-2 c = search needs
+
+returns : tie.Need-returns
+returns c = search needs
+
+mul-p : tie.Need-mul-p
+mul-p c = search needs
+
+shared-slice-read-p : tie.Need-shared-slice-read-p
+shared-slice-read-p c = search needs
+
+mul-r : tie.Need-mul-r
+mul-r c = search needs
+
+shared-slice-read-r : tie.Need-shared-slice-read-r
+shared-slice-read-r c = search needs
+
+mul-e : tie.Need-mul-e
+mul-e c = search needs
+
+shared-slice-read-e : tie.Need-shared-slice-read-e
+shared-slice-read-e c = search needs
+
+mul-l : tie.Need-mul-l
+mul-l c = search needs
+
+shared-slice-read-l : tie.Need-shared-slice-read-l
+shared-slice-read-l c = search needs
+
+sub-greater : tie.Need-sub-greater
+sub-greater c = omega (arith, window-within (c .before .before .before .before .before .before .before .before .before .before .before .before .before .pre .0) (c .before .before .before .before .before .before .before .before .before .before .before .before .before .args .job) (c .before .before .before .before .before .before .before .before .before .before .before .before .before .pre .1))
+
+add-greater : tie.Need-add-greater
+add-greater c = omega (arith, duration-most (c .before .before .before .before .before .before .before .before .before .before .before .before .before .pre .0 .good) (c .before .before .before .before .before .before .before .before .before .before .before .before .before .args .job), c .before .before .before .before .before .before .before .before .before .before .before .before .before .pre .3)
+
+greater-requires : tie.Need-greater-requires
+greater-requires c κs = search needs
+
+add-grow : tie.Need-add-grow
+add-grow c = omega (arith, window-within (c .before .before .before .before .before .before .before .before .before .before .before .before .before .before .before .before .pre .0) (c .before .before .before .before .before .before .before .before .before .before .before .before .before .before .before .before .args .job) (c .before .before .before .before .before .before .before .before .before .before .before .before .before .before .before .before .pre .1))
+
+grow-requires : tie.Need-grow-requires
+grow-requires c κs =
+    let s = c .before .before .before .before .before .before .before .before .before .before .before .before .before .before .before .before in
+    let a = s .args in
+    let G = follow-asks (s .pre .0) _ (s .pre .1) (sideOf (s .args .side)) (s .args .old) (s .pre .4) (a .est .now ! a .job + a .dur .now ! a .job) (omega (arith, c .before .before .before .before .before .before .before .before .if1 .left)) (omega (arith, window-within (s .pre .0) (a .job) (s .pre .1))) in
+    (G .points, G .room, G .near, G .low, G .small)
+
+same-length-3 : tie.Need-same-length-3
+same-length-3 c = search needs
+
+same-length-4 : tie.Need-same-length-4
+same-length-4 c = search needs
+
+returns-2 : tie.Need-returns-2
+returns-2 c =
+    let s = c .before .before .before .before .before .before .before .before .before .before .before .before .before .before .before .before .before .before .before .before .before in
+    let zero-side = side-early _ (c .before .before .before .before .before .before .before .before .if2 .taken) in
+    let m = c .before .before .before .before .before .before .before .greater .ensures in
+    followed-early (s .pre .0) _ (s .pre .1) (s .args .old) (rw zero-side at (s .pre .4)) (rw zero-side at (s .pre .2)) _ (m .0) (m .1) (m .2) (m .3) (c .before .before .before .before .grow .ensures)
+
+sub-lesser : tie.Need-sub-lesser
+sub-lesser c = omega (arith, window-within (c .before .before .before .before .before .before .before .before .before .before .before .before .before .pre .0) (c .before .before .before .before .before .before .before .before .before .before .before .before .before .args .job) (c .before .before .before .before .before .before .before .before .before .before .before .before .before .pre .1), was-later (c .before .before .before .before .before .before .before .before .before .before .before .before .before) (c .if2 .left))
+
+add-lesser : tie.Need-add-lesser
+add-lesser c = omega (arith, window-within (c .before .before .before .before .before .before .before .before .before .before .before .before .before .pre .0) (c .before .before .before .before .before .before .before .before .before .before .before .before .before .args .job) (c .before .before .before .before .before .before .before .before .before .before .before .before .before .pre .1))
+
+lesser-requires : tie.Need-lesser-requires
+lesser-requires c κs = search needs
+
+sub-grow : tie.Need-sub-grow
+sub-grow c = omega (arith, window-within (c .before .before .before .before .before .before .before .before .before .before .before .before .before .before .before .before .pre .0) (c .before .before .before .before .before .before .before .before .before .before .before .before .before .before .before .before .args .job) (c .before .before .before .before .before .before .before .before .before .before .before .before .before .before .before .before .pre .1))
+
+grow-requires-2 : tie.Need-grow-requires-2
+grow-requires-2 c κs =
+    let s = c .before .before .before .before .before .before .before .before .before .before .before .before .before .before .before .before in
+    let G = follow-asks (s .pre .0) _ (s .pre .1) (sideOf (s .args .side)) (s .args .old) (s .pre .4) (c .before .before .lesser .result) (omega (arith, c .before .before .before .before .before .before .before .before .if1 .left)) (omega (arith, window-within (s .pre .0) (s .args .job) (s .pre .1), c .before .before .lesser .ensures .1)) in
+    (G .points, G .room, G .near, G .low, G .small)
+
+same-length-5 : tie.Need-same-length-5
+same-length-5 c = search needs
+
+same-length-6 : tie.Need-same-length-6
+same-length-6 c = search needs
+
+returns-3 : tie.Need-returns-3
+returns-3 c =
+    let s = c .before .before .before .before .before .before .before .before .before .before .before .before .before .before .before .before .before .before .before .before .before in
+    let m = c .before .before .before .before .before .before .before .lesser .ensures in
+    followed-late (s .pre .0) _ (s .pre .1) (s .args .old) (rw (side-late _ (c .before .before .before .before .before .before .before .before .if2 .left)) at (s .pre .4)) (was-later s (c .before .before .before .before .before .before .before .before .if2 .left)) _ (m .0) (m .1) (m .2) (m .3) (c .before .before .before .before .grow2 .ensures)
+
+pub follow-spec : {M : Type 1} → statement M
+follow-spec =
+    tie.close
+    (tie.spec
+    sub-if1
+    build-requires
+    same-length
+    same-length-2
+    returns
+    mul-p
+    shared-slice-read-p
+    mul-r
+    shared-slice-read-r
+    mul-e
+    shared-slice-read-e
+    mul-l
+    shared-slice-read-l
+    sub-greater
+    add-greater
+    greater-requires
+    add-grow
+    grow-requires
+    same-length-3
+    same-length-4
+    returns-2
+    sub-lesser
+    add-lesser
+    lesser-requires
+    sub-grow
+    grow-requires-2
+    same-length-5
+    same-length-6
+    returns-3)

@@ -1,0 +1,112 @@
+-- A kept function, from nothing and raised.
+use Prim.Native.Nat.{ℕ, _≤_, _<_}
+use native.Mathlib.Omega.{arith}
+use native.Mathlib.Decide.{decLt}
+use mathlib.Core.Path.{_≡_, refl, sym, _∙_}
+use mathlib.Core.List.{List}
+use lib.ListN.{length, set, length-set}
+use lib.Seq.{getD-set-same, getD-set-other}
+use Rattle.lists.specs.Lists.{_!_}
+use Rattle.profile.specs.Steps.{far}
+use Rattle.profile.specs.Raises.{raised, Low}
+use Rattle.profile.specs.declared.kept.Kept.{Kept}
+use Rattle.profile.specs.Kept.{Keeps, Starts, Grows, LastOver, FirstOver}
+use Rattle.profile.proofs.Raised.{Raises, raised-before, raised-behind, level-low}
+
+-- functions that agree everywhere are kept alike
+pub keeps-same : {f : ℕ → ℕ} {ts ld : List ℕ} {k : Kept} → Keeps f ts ld k → (g : ℕ → ℕ) → ((t : ℕ) → f t ≡ g t) → Keeps g ts ld k
+keeps-same {f} K g h =
+    record { points = K .points; levels = λ i t b u v. K .levels i t b u v ∙ h t; peak = λ t. omega (arith, K .peak t, h t) }
+
+-- no level is above what the function is limited by
+pub keeps-low : {f : ℕ → ℕ} {ts ld : List ℕ} {k : Kept} → Keeps f ts ld k → (b : ℕ) → ((t : ℕ) → f t ≤ b) → Low ld (k .m) b
+keeps-low {f} K b h = level-low (K .points) f (K .levels) b h
+
+-- nothing to raise
+raised-none : (f : ℕ → ℕ) (lo hi r t : ℕ) → hi ≤ lo → f t ≡ raised f lo hi r t
+raised-none f lo hi r t h =
+    elim (decLt t hi) [ yes d ↦ sym (raised-before f lo hi r t (omega arith)) | no d ↦ sym (raised-behind f lo hi r t (omega arith)) ]
+
+pub grows-none : (ts ld : List ℕ) (k : Kept) (lo hi r : ℕ) → hi ≤ lo → Grows ts ld k lo hi r ts ld k
+grows-none ts ld k lo hi r h =
+    record { size = refl; few = omega arith; keeps = λ f K. keeps-same K (raised f lo hi r) (λ t. raised-none f lo hi r t h) }
+
+pub grows : (ts ld : List ℕ) (k : Kept) (lo hi r : ℕ) (us le : List ℕ) (n : Kept) (top : ℕ) → Raises ts ld (k .m) lo hi r us le (n .m) top
+    → k .peak ≤ n .peak → top ≤ n .peak → Grows ts ld k lo hi r us le n
+grows ts ld k lo hi r us le n top R a b =
+    record {
+      size = R .size;
+      few = R .few;
+      keeps = λ f K. record { points = R .points; levels = R .levels f (K .levels); peak = λ t. peak f K t };
+    }
+  where
+    peak : (f : ℕ → ℕ) → Keeps f ts ld k → (t : ℕ) → raised f lo hi r t ≤ n .peak
+    peak f K t =
+        elim (decLt t lo) [
+          | yes d ↦ omega (arith, raised-before f lo hi r t d, K .peak t)
+          | no d ↦
+              elim (decLt t hi) [
+                | yes e ↦ omega (arith, R .most (raised f lo hi r) (R .levels f (K .levels)) t (omega arith) e)
+                | no e ↦ omega (arith, raised-behind f lo hi r t (omega arith), K .peak t)
+              ]
+        ]
+
+-- from nothing
+module _ (ts ld : List ℕ) (h : 1 < length ts) (s : length ld ≡ length ts) where
+  abbrev us : List ℕ
+  us = set (set ts 0 0) 1 far
+
+  abbrev le : List ℕ
+  le = set ld 0 0
+
+  size-us : length us ≡ length ts
+  size-us = length-set (set ts 0 0) 1 far ∙ length-set ts 0 0
+
+  at-0 : us ! 0 ≡ 0
+  at-0 = getD-set-other (set ts 0 0) 1 0 far 0 (λ e. omega arith) ∙ getD-set-same ts 0 0 0 (omega arith)
+
+  at-1 : us ! 1 ≡ far
+  at-1 = getD-set-same (set ts 0 0) 1 far 0 (omega (arith, length-set ts 0 0))
+
+  level-0 : le ! 0 ≡ 0
+  level-0 = getD-set-same ld 0 0 0 (omega arith)
+
+  pub starts : Starts ts us le (record { m = 1; peak = 0 })
+  starts =
+      record {
+        size = size-us;
+        one = refl;
+        keeps = record {
+          points = record {
+            some = omega arith;
+            inside = omega (arith, size-us);
+            beside = omega (arith, size-us, length-set ld 0 0);
+            start = at-0;
+            end = at-1;
+            rises = λ i b. let e : i ≡ 0 = omega arith in rw e (omega (arith, at-0, at-1));
+          };
+          levels = λ i t b u v. let e : i ≡ 0 = omega arith in rw e level-0;
+          peak = λ t. omega arith;
+        };
+      }
+
+-- ---- searches
+
+module _ (ts ld : List ℕ) (k : Kept) (limit a b : ℕ) where
+  -- nothing is over the limit
+  pub last-low : a ≤ b → k .peak ≤ limit → LastOver ts ld k limit a b a
+  last-low h p f K =
+      record { from = omega arith; to = h; has = λ t e d. absurd (omega arith); none-behind = λ t u v o. omega (arith, K .peak t) }
+
+  pub first-low : a ≤ b → k .peak ≤ limit → FirstOver ts ld k limit a b b
+  first-low h p f K =
+      record { from = h; to = omega arith; has = λ d. absurd (omega arith); none-before = λ t u v o. omega (arith, K .peak t) }
+
+  -- there is nothing to look at
+  pub last-empty : a ≤ b → b ≤ a → LastOver ts ld k limit a b a
+  last-empty h e f K =
+      record { from = omega arith; to = h; has = λ t q d. absurd (omega arith); none-behind = λ t u v o. absurd (omega arith) }
+
+  pub first-empty : a ≤ b → b ≤ a → FirstOver ts ld k limit a b b
+  first-empty h e f K =
+      record { from = h; to = omega arith; has = λ d. absurd (omega arith); none-before = λ t u v o. absurd (omega arith) }

@@ -1,0 +1,53 @@
+use native.Mathlib.Omega.{arith}
+use Rattle.profile.proofs.Raised.{before-to, low-all, raises}
+use Rattle.profile.proofs.Keeping.{grows-none, grows}
+use borrow.Author.Needs.{needs}
+use Rattle.profile.proofs.kept.grow.Statement.{statement}
+use Rattle.profile.proofs.kept.grow.Tie as tie
+
+returns : tie.Need-returns
+returns c = grows-none _ _ _ _ _ _ (c .if1 .taken)
+
+cut-requires : tie.Need-cut-requires
+cut-requires c κs = search needs
+
+cut-requires-2 : tie.Need-cut-requires-2
+cut-requires-2 c κs =
+    let C = c .before .before .before .before .before .before .cut .ensures in
+    let p = c .before .before .before .before .before .before .before .before .before .before .before .before .pre in
+    (C .points, omega (arith, C .size, C .few, p .1), p .2)
+
+lift-requires : tie.Need-lift-requires
+lift-requires c κs =
+    let C = c .before .before .before .before .before .before .before .before .before .before .before .before .cut .ensures in
+    let D = c .before .before .before .before .before .cut2 .ensures in
+    let p = c .before .before .before .before .before .before .before .before .before .before .before .before .before .before .before .before .before .before .pre in
+    let z = before-to C (c .before .before .before .before .before .before .before .before .before .before .before .before .before .before .before .if1 .left) (p .2) D in
+    (omega arith, omega (arith, D .listed, D .points .inside, D .points .beside), low-all C (c .before .before .before .before .before .before .before .before .before .before .before .before .before .before .before .if1 .left) (p .2) D _ (p .3), p .4)
+
+greater-requires : tie.Need-greater-requires
+greater-requires c κs = search needs
+
+same-length : tie.Need-same-length
+same-length c = search needs
+
+same-length-2 : tie.Need-same-length-2
+same-length-2 c = search needs
+
+returns-2 : tie.Need-returns-2
+returns-2 c =
+    let R = raises (c .before .before .before .before .before .before .before .before .before .before .before .before .before .before .before .before .cut .ensures) (c .before .before .before .before .before .before .before .before .before .before .before .before .before .before .before .before .before .before .before .if1 .left) (c .before .before .before .before .before .before .before .before .before .before .before .before .before .before .before .before .before .before .before .before .before .before .pre .2) (c .before .before .before .before .before .before .before .before .before .cut2 .ensures) (c .before .before .before .lift .ensures) in
+    grows _ _ _ _ _ _ _ _ _ _ R (c .greater .ensures .0) (c .greater .ensures .1)
+
+pub grow-spec : {M : Type 1} → statement M
+grow-spec =
+    tie.close
+    (tie.spec
+    returns
+    cut-requires
+    cut-requires-2
+    lift-requires
+    greater-requires
+    same-length
+    same-length-2
+    returns-2)

@@ -1,0 +1,71 @@
+-- The kept load from turn to turn: after a move the windows before it are those with the bound put back, and no bound has been loosened.
+use Prim.Native.Nat.{ℕ, zero, suc, _≤_, _<_}
+use native.Mathlib.Omega.{arith}
+use mathlib.Core.Path.{_≡_, refl, sym, ap, subst, _∙_}
+use mathlib.Core.List.{List, [], _∷_}
+use lib.ListN.{set}
+use lib.Seq.{set-getD, getD-set-same}
+use Rattle.lists.specs.Lists.{_!_}
+use Rattle.narrowing.specs.Windows.{Win, win, Side, early, late, moved, sideOf, Respects}
+use Rattle.narrowing.proofs.Moves.{side-early, side-late}
+use Rattle.joblist.specs.Limits.{jobs, mostTime}
+use Rattle.timetable.specs.Time.{Applies, bound}
+use Rattle.timetable.specs.Table.{Call, call, jobsOf}
+use Rattle.tabling.specs.Asked.{asked, Workable}
+use Rattle.tabling.proofs.Good.{ends-sized, start-most, end-most}
+use Rattle.tabling.proofs.Moves.{best-applies}
+use Rattle.tabling.proofs.Steps.{good-cap}
+use Rattle.profile.specs.declared.kept.Kept.{Kept}
+use Rattle.loads.specs.Loads.{Loaded}
+use Rattle.rounds.specs.declared.Place.{Place}
+use Rattle.rounds.specs.Places.{boundAt}
+use Rattle.rounds.specs.Work.{Moves}
+
+-- the last of two stores is the one that stays
+set-set : (xs : List ℕ) (j a b : ℕ) → set (set xs j a) j b ≡ set xs j b
+set-set [] j a b = refl
+set-set (x ∷ xs) zero a b = refl
+set-set (x ∷ xs) (suc j) a b = ap (λ (ys : List ℕ). x ∷ ys) (set-set xs j a b)
+
+put-back : (W : Win) (j : ℕ) (s : Side) (b : ℕ) → moved (moved W j s b) j s (boundAt W j s) ≡ W
+put-back W j early b = ap (λ (e : List ℕ). win e (W .l)) (set-set (W .e) j b (W .e ! j) ∙ set-getD (W .e) j 0)
+put-back W j late b = ap (λ (l : List ℕ). win (W .e) l) (set-set (W .l) j b (W .l ! j) ∙ set-getD (W .l) j 0)
+
+-- a call's list is workable whatever its capacity and its log
+pub workable-free : {W : Win} {p r : List ℕ} {cap : ℕ} {log : List ℕ} → Workable (call W p r cap log) → Workable (asked (W .e) (W .l) p r 0)
+workable-free {W} {p} {r} {cap} w = record { good = good-cap (W .e) (W .l) p r cap (w .good); long = w .long }
+
+tightens : (W : Win) (p r : List ℕ) (cap : ℕ) (log : List ℕ) → Workable (call W p r cap log) → (j : ℕ) (s : Side) (t : ℕ) → j < jobs W
+    → Applies (jobsOf (call W p r cap log)) W j s (bound s t) → Respects (moved W j s (bound s t)) j s (boundAt W j s)
+tightens W p r cap log w j early t b a = omega (arith, getD-set-same (W .e) j (suc t) 0 b, a .from)
+tightens W p r cap log w j late t b a = omega (arith, getD-set-same (W .l) j t 0 (omega (arith, ends-sized (w .good))), a .to)
+
+bound-most : (W : Win) (p r : List ℕ) (cap : ℕ) (log : List ℕ) → Workable (call W p r cap log) → (j : ℕ) (s : Side) → boundAt W j s ≤ mostTime
+bound-most W p r cap log w j early = start-most (w .good) j
+bound-most W p r cap log w j late = end-most (w .good) j
+
+-- what following a move asks
+module _ (c : Call) (at : Place) (count t : ℕ) (W′ : Win) (log′ : List ℕ) (m : Moves c at count t W′ log′) (w : Workable c) (b : at .job < jobs (c .win)) where
+  abbrev old : ℕ
+  old = boundAt (c .win) (at .job) (sideOf (at .side))
+
+  pub kept-tight : Respects W′ (at .job) (sideOf (at .side)) old
+  kept-tight =
+      subst (λ (U : Win). Respects U (at .job) (sideOf (at .side)) old) (sym (m .windows))
+      (tightens (c .win) (c .p) (c .r) (c .cap) (c .log) w (at .job) (sideOf (at .side)) t b (best-applies c w (at .job) (sideOf (at .side)) b t (m .found)))
+
+  pub kept-small : old ≤ mostTime
+  kept-small = bound-most (c .win) (c .p) (c .r) (c .cap) (c .log) w (at .job) (sideOf (at .side))
+
+  pub kept-before : {ts ld : List ℕ} {k : Kept} → Loaded (c .win) (c .p) (c .r) ts ld k → Loaded (moved W′ (at .job) (sideOf (at .side)) old) (c .p) (c .r) ts ld k
+  kept-before {ts} {ld} {k} L =
+      subst (λ (U : Win). Loaded U (c .p) (c .r) ts ld k)
+      (sym (ap (λ (U : Win). moved U (at .job) (sideOf (at .side)) old) (m .windows) ∙ put-back (c .win) (at .job) (sideOf (at .side)) (bound (sideOf (at .side)) t))) L
+
+-- ---- the bound by the number of its side
+
+pub bound-early : (e l : List ℕ) (j side : ℕ) → side ≡ 0 → e ! j ≡ boundAt (win e l) j (sideOf side)
+bound-early e l j side h = rw (side-early side h)
+
+pub bound-late : (e l : List ℕ) (j side : ℕ) → (side ≡ 0 → ⊥) → l ! j ≡ boundAt (win e l) j (sideOf side)
+bound-late e l j side h = rw (side-late side h)
