@@ -3,23 +3,25 @@ use Prim.Native.Nat.{ℕ, zero, suc, _+_, _≤_, _<_}
 use native.Mathlib.Omega.{arith}
 use native.Mathlib.Numerals.{add-one}
 use native.Mathlib.Decide.{decLt, decLe}
-use mathlib.Core.Path.{_≡_, sym, _∙_}
+use mathlib.Core.Path.{_≡_, sym, ap, _∙_}
+use mathlib.Core.Bool.{Bool}
 use mathlib.Core.List.{List}
 use lib.ListN.{length}
 use Rattle.lists.specs.Lists.{_!_}
+use Rattle.lists.specs.Tests.{only}
 use Rattle.lists.proofs.Tests.{between-yes, between-before, between-behind}
 use Rattle.profile.specs.Steps.{far, Points, Levels, Piece}
 use Rattle.profile.specs.Raises.{raised, CutAt, Lifted, Low}
 use Rattle.profile.proofs.Pieces.{in-order}
 
 pub raised-in : (f : ℕ → ℕ) (lo hi r t : ℕ) → lo ≤ t → t < hi → raised f lo hi r t ≡ f t + r
-raised-in f lo hi r t a b = rw (between-yes lo hi t a b)
+raised-in f lo hi r t a b = ap (λ (q : Bool). f t + only q r) (between-yes lo hi t a b)
 
 pub raised-before : (f : ℕ → ℕ) (lo hi r t : ℕ) → t < lo → raised f lo hi r t ≡ f t
-raised-before f lo hi r t a = rw (between-before lo hi t a) (omega arith)
+raised-before f lo hi r t a = ap (λ (q : Bool). f t + only q r) (between-before lo hi t a) ∙ omega arith
 
 pub raised-behind : (f : ℕ → ℕ) (lo hi r t : ℕ) → hi ≤ t → raised f lo hi r t ≡ f t
-raised-behind f lo hi r t a = rw (between-behind lo hi t a) (omega arith)
+raised-behind f lo hi r t a = ap (λ (q : Bool). f t + only q r) (between-behind lo hi t a) ∙ omega arith
 
 -- every time before `far` lies in a piece
 pub piece-of : {ts ld : List ℕ} {m : ℕ} → Points ts ld m → (t : ℕ) → t < far → (q : ℕ) × Piece ts m t q

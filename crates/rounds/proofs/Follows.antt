@@ -7,7 +7,6 @@ use lib.ListN.{set}
 use lib.Seq.{set-getD, getD-set-same}
 use Rattle.lists.specs.Lists.{_!_}
 use Rattle.narrowing.specs.Windows.{Win, win, Side, early, late, moved, sideOf, Respects}
-use Rattle.narrowing.proofs.Moves.{side-early, side-late}
 use Rattle.joblist.specs.Limits.{jobs, mostTime}
 use Rattle.timetable.specs.Time.{Applies, bound}
 use Rattle.timetable.specs.Table.{Call, call, jobsOf}
@@ -17,9 +16,9 @@ use Rattle.tabling.proofs.Moves.{best-applies}
 use Rattle.tabling.proofs.Steps.{good-cap}
 use Rattle.profile.specs.declared.kept.Kept.{Kept}
 use Rattle.loads.specs.Loads.{Loaded}
-use Rattle.rounds.specs.declared.Place.{Place}
-use Rattle.rounds.specs.Places.{boundAt}
-use Rattle.rounds.specs.Work.{Moves}
+use Rattle.turns.specs.declared.Place.{Place}
+use Rattle.turns.specs.Places.{boundAt}
+use Rattle.turns.specs.Moves.{Moves}
 
 -- the last of two stores is the one that stays
 set-set : (xs : List ℕ) (j a b : ℕ) → set (set xs j a) j b ≡ set xs j b
@@ -61,11 +60,3 @@ module _ (c : Call) (at : Place) (count t : ℕ) (W′ : Win) (log′ : List ℕ
   kept-before {ts} {ld} {k} L =
       subst (λ (U : Win). Loaded U (c .p) (c .r) ts ld k)
       (sym (ap (λ (U : Win). moved U (at .job) (sideOf (at .side)) old) (m .windows) ∙ put-back (c .win) (at .job) (sideOf (at .side)) (bound (sideOf (at .side)) t))) L
-
--- ---- the bound by the number of its side
-
-pub bound-early : (e l : List ℕ) (j side : ℕ) → side ≡ 0 → e ! j ≡ boundAt (win e l) j (sideOf side)
-bound-early e l j side h = rw (side-early side h)
-
-pub bound-late : (e l : List ℕ) (j side : ℕ) → (side ≡ 0 → ⊥) → l ! j ≡ boundAt (win e l) j (sideOf side)
-bound-late e l j side h = rw (side-late side h)

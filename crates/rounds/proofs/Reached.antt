@@ -18,10 +18,11 @@ use Rattle.timetable.specs.Search.{best, search, leanMember, entry}
 use Rattle.timetable.specs.Table.{Call, call, jobsOf}
 use Rattle.tabling.specs.Asked.{Workable}
 use Rattle.tabling.proofs.Moves.{best-applies, workable-after}
-use Rattle.rounds.specs.declared.Place.{Place}
-use Rattle.rounds.specs.declared.Turn.{Turn}
-use Rattle.rounds.specs.Places.{place, firstPlace, onwardOf}
-use Rattle.rounds.specs.Work.{Moves, TurnSays, EndsAs, ran, Works}
+use Rattle.turns.specs.declared.Place.{Place}
+use Rattle.turns.specs.declared.Turn.{Turn}
+use Rattle.turns.specs.Places.{place, firstPlace, onwardOf}
+use Rattle.turns.specs.Moves.{Moves, TurnSays}
+use Rattle.rounds.specs.Work.{EndsAs, ran, Works}
 use Rattle.rounds.proofs.Going.{Going, going-start, going-rest, going-end, going-short, going-closed, going-on}
 use Rattle.timetable.proofs.Entries.{entry-length}
 use Rattle.rounds.proofs.Written.{entry-more}

@@ -1,118 +1,18 @@
 // The work (document 01, 'Order of work'): rounds over the jobs by rising number, for each job side 0 until it rests, then side 1.
 use answers::Answer;
-use profile::Kept;
-ghost use mathlib.Core.Path.{_≡_};
-ghost use Prim.Native.Nat.{_<_, _≤_};
-ghost use lib.ListN.{length};
-ghost use Rattle.narrowing.specs.Windows.{win, sideOf};
+use turns::Place;
+use turns::Turn;
+ghost use Rattle.narrowing.specs.Windows.{win};
 ghost use Rattle.timetable.specs.Table.{call};
 ghost use Rattle.tabling.specs.Asked.{Workable};
-ghost use Rattle.loads.specs.Loads.{Loaded};
-ghost use Rattle.rounds.specs.Places.{onwardOf, boundAt};
-ghost use Rattle.rounds.specs.Work.{TurnSays, Works};
-
-// The points that the kept load has room for: two for each job and one at 0 at first, and two more for each move until it is built anew.
-const POINTS: usize = 4 * joblist::MOST;
+ghost use Rattle.rounds.specs.Work.{Works};
 
 // The refusal where the work needs more records than the log has room for.
 const SHORT: u32 = 5;
 
-// A place of a round: a job, its side, and whether the round has moved a bound so far.
-pub struct Place {
-    pub job: usize,
-    pub side: u32,
-    pub changed: bool,
-}
-
-// What a turn at a place comes to: its side rests, it moved, the move closed the window, or there is no room for its record.
-pub enum Turn {
-    Rests,
-    Moved,
-    Closed,
-    Full,
-}
-
-// The place after one that rests: side 1 after side 0, the next job's side 0 after side 1. After the last one comes a new round, or the
-// place past all jobs where the round has changed nothing.
-fn onward(at: Place, n: usize) -> Place
-    requires { ⌜ at .job < n ⌝ }
-    ensures { λ r. ⌜ r ≡ onwardOf at n ⌝ }
-{
-    if at.side == 0 {
-        return Place {
-            job: at.job,
-            side: 1,
-            changed: at.changed,
-        };
-    }
-    let next = at.job + 1;
-    if next < n {
-        return Place {
-            job: next,
-            side: 0,
-            changed: at.changed,
-        };
-    }
-    if at.changed {
-        return Place {
-            job: 0,
-            side: 0,
-            changed: false,
-        };
-    }
-    Place {
-        job: n,
-        side: 0,
-        changed: false,
-    }
-}
-
-// One turn at a place, with so many records behind it: the side's move with its record, if a rule applies and there is room.
-fn take_turn(
-    est: &mut [u32],
-    lct: &mut [u32],
-    dur: &[u32],
-    dem: &[u32],
-    cap: u32,
-    log: &mut [u32],
-    at: Place,
-    count: usize,
-    ts: &[u32],
-    ld: &[u32],
-    kept: Kept,
-) -> Turn
-    requires { ⌜ Workable (call (win (now est) (now lct)) (now dur) (now dem) cap (now log)) × (at .job < length (now est)) × (at .side ≤ 1) × Loaded (win (now est) (now lct)) (now dur) (now dem) (now ts) (now ld) kept ⌝ }
-    ensures { λ r. ⌜ TurnSays (call (win (now (est .entry)) (now (lct .entry))) (now (dur .entry)) (now (dem .entry)) cap (now (log .entry))) at count (win (now (est .exit)) (now (lct .exit))) (now (log .exit)) r ⌝ }
-{
-    let job = at.job;
-    let side = at.side;
-    let found = searches::next_time(est, lct, dur, dem, cap, job, side, ts, ld, kept);
-    match found {
-        searches::Found::Nothing => Turn::Rests,
-        searches::Found::At(t) => {
-            if journal::room(log) <= count {
-                return Turn::Full;
-            }
-            writer::note(est, lct, dur, dem, cap, job, side, t, log, count);
-            tabling::shift(est, lct, job, side, t);
-            if joblist::closed(est, lct, dur, job) {
-                return Turn::Closed;
-            }
-            Turn::Moved
-        }
-    }
-}
-
-// The bound of a job's side.
-fn bound_at(est: &[u32], lct: &[u32], job: usize, side: u32) -> u32
-    requires { ⌜ (job < length (now est)) × (job < length (now lct)) ⌝ }
-    ensures { λ x. ⌜ x ≡ boundAt (win (now (est .entry)) (now (lct .entry))) job (sideOf side) ⌝ }
-{
-    if side == 0 {
-        return est[job];
-    }
-    lct[job]
-}
+// The points that the kept load has room for: twice what the windows of any list need. A move adds two at most, and nothing is taken away until the load is
+// built anew.
+const POINTS: usize = 4 * joblist::MOST;
 
 // The work of a good list whose windows are long enough: turns until a round has changed nothing, a move closes a window, or there is no room. The load of
 // all jobs is kept from move to move. What falls with each turn is the room left, then whether another round is to follow, then what is left of this one.
@@ -140,11 +40,11 @@ pub fn work(
     while at.job < n {
         let job = at.job;
         let side = at.side;
-        let old = bound_at(est, lct, job, side);
-        let turn = take_turn(est, lct, dur, dem, cap, log, at, count, &ts, &ld, kept);
+        let old = turns::bound_at(est, lct, job, side);
+        let turn = turns::take_turn(est, lct, dur, dem, cap, log, at, count, &ts, &ld, kept);
         match turn {
             Turn::Rests => {
-                at = onward(at, n);
+                at = turns::onward(at, n);
             }
             Turn::Moved => {
                 kept = loads::follow(est, lct, dur, dem, job, side, old, &mut ts, &mut ld, kept);

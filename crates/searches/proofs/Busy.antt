@@ -37,6 +37,19 @@ module _ (g : ℕ → ℕ) (cap r s f : ℕ) where
             ]
       ]
 
+-- the lesser and the greater of two numbers, as `profile` tells them
+abbrev IsLesser : ℕ → ℕ → ℕ → Type 0
+IsLesser s f mid = (mid ≤ s) × (mid ≤ f) × (s < f → mid ≡ s) × (f ≤ s → mid ≡ f)
+
+abbrev IsGreater : ℕ → ℕ → ℕ → Type 0
+IsGreater s f mid = (s ≤ mid) × (f ≤ mid) × (s < f → mid ≡ f) × (f ≤ s → mid ≡ s)
+
+pub mid-from : (e s f mid : ℕ) → e ≤ s → e ≤ f → IsLesser s f mid → e ≤ mid
+mid-from e s f mid es ef m = elim (decLt s f) [ yes d ↦ omega (arith, m .2 d) | no d ↦ omega (arith, m .3 (omega arith)) ]
+
+pub mid-to : (s f l mid : ℕ) → s ≤ l → f ≤ l → IsGreater s f mid → mid ≤ l
+mid-to s f l mid sl fl m = elim (decLt s f) [ yes d ↦ omega (arith, m .2 d) | no d ↦ omega (arith, m .3 (omega arith)) ]
+
 module _ (ts ld : List ℕ) (k : Kept) (cap r s f : ℕ) where
   -- ---- side 0: beside up to mid, in from there up to f
 
@@ -44,20 +57,15 @@ module _ (ts ld : List ℕ) (k : Kept) (cap r s f : ℕ) where
   last-all e h i g K C =
       record { from = i; to = omega arith; has = λ t q a. busy-always g cap r s f C h t; none-behind = λ t a b. absurd (omega arith) }
 
-  -- mid is the lesser of s and f
-  module _ (e mid : ℕ) (es : e ≤ s) (ef : e ≤ f) (ms : mid ≤ s) (mf : mid ≤ f) (lower : s < f → mid ≡ s) (upper : f ≤ s → mid ≡ f) where
+  module _ (e mid : ℕ) (es : e ≤ s) (ef : e ≤ f) (m : IsLesser s f mid) where
     in-from : (t : ℕ) → mid ≤ t → t < f → between s f t ≡ true
-    in-from t a b =
-        elim (decLt s f) [ yes d ↦ between-yes s f t (omega (arith, lower d)) b | no d ↦ absurd (omega (arith, upper (omega arith))) ]
-
-    pub mid-from : e ≤ mid
-    mid-from = elim (decLt s f) [ yes d ↦ omega (arith, lower d) | no d ↦ omega (arith, upper (omega arith)) ]
+    in-from t a b = elim (decLt s f) [ yes d ↦ between-yes s f t (omega (arith, m .2 d)) b | no d ↦ absurd (omega (arith, m .3 (omega arith))) ]
 
     pub last-own : (x : ℕ) → LastOver ts ld k cap mid f x → mid < x → LastBusy ts ld k cap r s f e f x
     last-own x L h g K C =
         let S = L g K in
         record {
-          from = omega (arith, mid-from);
+          from = omega (arith, mid-from e s f mid es ef m);
           to = S .to;
           has = λ t q a. busy-in g cap r s f t (in-from t (omega arith) (omega (arith, S .to))) (S .has t q (omega arith));
           none-behind = λ t a b o. S .none-behind t a b (in-busy g cap r s f t (in-from t (omega arith) b) o);
@@ -84,21 +92,16 @@ module _ (ts ld : List ℕ) (k : Kept) (cap r s f : ℕ) where
   first-all l h i g K C =
       record { from = omega arith; to = i; has = λ d. busy-always g cap r s f C h s; none-before = λ t a b. absurd (omega arith) }
 
-  -- mid is the greater of s and f
-  module _ (l mid : ℕ) (sl : s ≤ l) (fl : f ≤ l) (sm : s ≤ mid) (fm : f ≤ mid) (upper : s < f → mid ≡ f) (lower : f ≤ s → mid ≡ s) where
+  module _ (l mid : ℕ) (sl : s ≤ l) (fl : f ≤ l) (m : IsGreater s f mid) where
     in-to : (t : ℕ) → s ≤ t → t < mid → between s f t ≡ true
-    in-to t a b =
-        elim (decLt s f) [ yes d ↦ between-yes s f t a (omega (arith, upper d)) | no d ↦ absurd (omega (arith, lower (omega arith))) ]
-
-    pub mid-to : mid ≤ l
-    mid-to = elim (decLt s f) [ yes d ↦ omega (arith, upper d) | no d ↦ omega (arith, lower (omega arith)) ]
+    in-to t a b = elim (decLt s f) [ yes d ↦ between-yes s f t a (omega (arith, m .2 d)) | no d ↦ absurd (omega (arith, m .3 (omega arith))) ]
 
     pub first-own : (x : ℕ) → FirstOver ts ld k cap s mid x → x < mid → FirstBusy ts ld k cap r s f s l x
     first-own x L h g K C =
         let S = L g K in
         record {
           from = S .from;
-          to = omega (arith, mid-to);
+          to = omega (arith, mid-to s f l mid sl fl m);
           has = λ d. busy-in g cap r s f x (in-to x (S .from) h) (S .has h);
           none-before = λ t a b o. S .none-before t a b (in-busy g cap r s f t (in-to t a (omega arith)) o);
         }

@@ -1,3 +1,5 @@
+-- `loads::build` meets its contract. The loop's invariant: the lists keep the load of the jobs below k, in at most 2 k + 1 points (`Building`). What falls
+-- is the number of jobs left.
 use Prim.Native.Nat.{_-_}
 use native.Mathlib.Omega.{arith}
 use lib.ListN.{length}
@@ -18,8 +20,10 @@ start-requires c κs = (omega arith, c .before .before .before .before .before .
 
 loop-holds : tie.Need-loop-holds Inv-loop μ-loop
 loop-holds c =
-    let a = c .before .before .before .before .before .before .before .before .before .before .before .before .before .args in
-    building-start (a .est .now) (a .lct .now) (a .dur .now) (a .dem .now) (c .before .before .before .before .before .before .before .before .before .before .before .before .before .pre .0) (c .before .before .before .before .before .before .before .before .before .before .before .before .before .pre .1) (c .before .before .before .before .start .ensures)
+    let at-start = c .before .before .before .before in
+    let s = at-start .before .before .before .before .before .before .before .before .before in
+    let a = s .args in
+    building-start (a .est .now) (a .lct .now) (a .dur .now) (a .dem .now) (s .pre .0) (s .pre .1) (at-start .start .ensures)
 
 add-k : tie.Need-add-k Inv-loop μ-loop
 add-k c = search needs

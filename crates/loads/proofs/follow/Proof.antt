@@ -1,3 +1,6 @@
+-- `loads::follow` meets its contract: where there is no room the load is built anew, else the stretch by which the sure part has grown is raised, at its end
+-- after a move of side 0, at its beginning after one of side 1.
+use Rattle.joblist.specs.Limits.{mostTime}
 use Rattle.narrowing.specs.Windows.{sideOf}
 use mathlib.Core.Path.{_≡_}
 use Prim.Native.Nat.{_+_, _≤_}
@@ -9,6 +12,10 @@ use Rattle.loads.proofs.Following.{follow-asks, followed-early, followe
 use borrow.Author.Needs.{needs}
 use Rattle.loads.proofs.follow.Statement.{statement}
 use Rattle.loads.proofs.follow.Tie as tie
+
+-- the job's earliest end, its latest end and the limit, in order
+within : (s : tie.Start) → let a = s .args in ((a .est .now ! a .job + a .dur .now ! a .job ≤ a .lct .now ! a .job) × (a .lct .now ! a .job ≤ mostTime))
+within s = window-within (s .pre .0) (s .args .job) (s .pre .1)
 
 was-later : (s : tie.Start) → (s .args .side ≡ 0 → ⊥) → s .args .lct .now ! s .args .job ≤ s .args .old
 was-later s h = rw (side-late _ h) at (s .pre .2)
@@ -53,7 +60,7 @@ shared-slice-read-l : tie.Need-shared-slice-read-l
 shared-slice-read-l c = search needs
 
 sub-greater : tie.Need-sub-greater
-sub-greater c = omega (arith, window-within (c .before .before .before .before .before .before .before .before .before .before .before .before .before .pre .0) (c .before .before .before .before .before .before .before .before .before .before .before .before .before .args .job) (c .before .before .before .before .before .before .before .before .before .before .before .before .before .pre .1))
+sub-greater c = omega (arith, within (c .before .before .before .before .before .before .before .before .before .before .before .before .before))
 
 add-greater : tie.Need-add-greater
 add-greater c = omega (arith, duration-most (c .before .before .before .before .before .before .before .before .before .before .before .before .before .pre .0 .good) (c .before .before .before .before .before .before .before .before .before .before .before .before .before .args .job), c .before .before .before .before .before .before .before .before .before .before .before .before .before .pre .3)
@@ -62,13 +69,13 @@ greater-requires : tie.Need-greater-requires
 greater-requires c κs = search needs
 
 add-grow : tie.Need-add-grow
-add-grow c = omega (arith, window-within (c .before .before .before .before .before .before .before .before .before .before .before .before .before .before .before .before .pre .0) (c .before .before .before .before .before .before .before .before .before .before .before .before .before .before .before .before .args .job) (c .before .before .before .before .before .before .before .before .before .before .before .before .before .before .before .before .pre .1))
+add-grow c = omega (arith, within (c .before .before .before .before .before .before .before .before .before .before .before .before .before .before .before .before))
 
 grow-requires : tie.Need-grow-requires
 grow-requires c κs =
     let s = c .before .before .before .before .before .before .before .before .before .before .before .before .before .before .before .before in
     let a = s .args in
-    let G = follow-asks (s .pre .0) _ (s .pre .1) (sideOf (s .args .side)) (s .args .old) (s .pre .4) (a .est .now ! a .job + a .dur .now ! a .job) (omega (arith, c .before .before .before .before .before .before .before .before .if1 .left)) (omega (arith, window-within (s .pre .0) (a .job) (s .pre .1))) in
+    let G = follow-asks (s .pre .0) _ (s .pre .1) (sideOf (s .args .side)) (s .args .old) (s .pre .4) (a .est .now ! a .job + a .dur .now ! a .job) (omega (arith, c .before .before .before .before .before .before .before .before .if1 .left)) (omega (arith, within s)) in
     (G .points, G .room, G .near, G .low, G .small)
 
 same-length-3 : tie.Need-same-length-3
@@ -85,21 +92,21 @@ returns-2 c =
     followed-early (s .pre .0) _ (s .pre .1) (s .args .old) (rw zero-side at (s .pre .4)) (rw zero-side at (s .pre .2)) _ (m .0) (m .1) (m .2) (m .3) (c .before .before .before .before .grow .ensures)
 
 sub-lesser : tie.Need-sub-lesser
-sub-lesser c = omega (arith, window-within (c .before .before .before .before .before .before .before .before .before .before .before .before .before .pre .0) (c .before .before .before .before .before .before .before .before .before .before .before .before .before .args .job) (c .before .before .before .before .before .before .before .before .before .before .before .before .before .pre .1), was-later (c .before .before .before .before .before .before .before .before .before .before .before .before .before) (c .if2 .left))
+sub-lesser c = omega (arith, within (c .before .before .before .before .before .before .before .before .before .before .before .before .before), was-later (c .before .before .before .before .before .before .before .before .before .before .before .before .before) (c .if2 .left))
 
 add-lesser : tie.Need-add-lesser
-add-lesser c = omega (arith, window-within (c .before .before .before .before .before .before .before .before .before .before .before .before .before .pre .0) (c .before .before .before .before .before .before .before .before .before .before .before .before .before .args .job) (c .before .before .before .before .before .before .before .before .before .before .before .before .before .pre .1))
+add-lesser c = omega (arith, within (c .before .before .before .before .before .before .before .before .before .before .before .before .before))
 
 lesser-requires : tie.Need-lesser-requires
 lesser-requires c κs = search needs
 
 sub-grow : tie.Need-sub-grow
-sub-grow c = omega (arith, window-within (c .before .before .before .before .before .before .before .before .before .before .before .before .before .before .before .before .pre .0) (c .before .before .before .before .before .before .before .before .before .before .before .before .before .before .before .before .args .job) (c .before .before .before .before .before .before .before .before .before .before .before .before .before .before .before .before .pre .1))
+sub-grow c = omega (arith, within (c .before .before .before .before .before .before .before .before .before .before .before .before .before .before .before .before))
 
 grow-requires-2 : tie.Need-grow-requires-2
 grow-requires-2 c κs =
     let s = c .before .before .before .before .before .before .before .before .before .before .before .before .before .before .before .before in
-    let G = follow-asks (s .pre .0) _ (s .pre .1) (sideOf (s .args .side)) (s .args .old) (s .pre .4) (c .before .before .lesser .result) (omega (arith, c .before .before .before .before .before .before .before .before .if1 .left)) (omega (arith, window-within (s .pre .0) (s .args .job) (s .pre .1), c .before .before .lesser .ensures .1)) in
+    let G = follow-asks (s .pre .0) _ (s .pre .1) (sideOf (s .args .side)) (s .args .old) (s .pre .4) (c .before .before .lesser .result) (omega (arith, c .before .before .before .before .before .before .before .before .if1 .left)) (omega (arith, within s, c .before .before .lesser .ensures .1)) in
     (G .points, G .room, G .near, G .low, G .small)
 
 same-length-5 : tie.Need-same-length-5

@@ -11,7 +11,7 @@ use Rattle.journal.specs.Journal.{roomOf}
 use Rattle.timetable.specs.Table.{Call, call}
 use Rattle.tabling.proofs.Good.{durations-sized, ends-sized}
 use Rattle.loads.specs.Loads.{Loaded}
-use Rattle.rounds.specs.declared.Place.{Place}
+use Rattle.turns.specs.declared.Place.{Place}
 use Rattle.rounds.proofs.Going.{weight, weight-move, weight-rest}
 use Rattle.rounds.proofs.Reached.{Reached, moves-room, moves-few, reached-start, reached-end, reached-rest, reached-full, reached-closed, reached-moved}
 use Rattle.rounds.proofs.Follows.{workable-free, kept-tight, kept-small, kept-before}

@@ -1,9 +1,18 @@
+-- `searches::next_time` meets its contract: without a demand or a duration nothing is crowded; else the last, or the first, crowded time of the stretch is the
+-- one that the definition finds.
+use Prim.Native.Nat.{_+_, _≤_}
+use Rattle.lists.specs.Lists.{_!_}
+use Rattle.joblist.specs.Limits.{mostTime}
 use native.Mathlib.Omega.{arith}
 use Rattle.tabling.proofs.Good.{window-within}
 use Rattle.searches.proofs.Answers.{rests, early-rests, early-moves, late-rests, late-moves}
 use borrow.Author.Needs.{needs}
 use Rattle.searches.proofs.next_time.Statement.{statement}
 use Rattle.searches.proofs.next_time.Tie as tie
+
+-- the job's earliest end, its latest end and the limit, in order
+within : (s : tie.Start) → let a = s .args in ((a .est .now ! a .job + a .dur .now ! a .job ≤ a .lct .now ! a .job) × (a .lct .now ! a .job ≤ mostTime))
+within s = window-within (s .pre .0) (s .args .job) (s .pre .1)
 
 mul-r : tie.Need-mul-r
 mul-r c = search needs
@@ -40,14 +49,14 @@ shared-slice-read-l : tie.Need-shared-slice-read-l
 shared-slice-read-l c = search needs
 
 sub-early : tie.Need-sub-early
-sub-early c = omega (arith, window-within (c .before .before .before .before .before .before .before .before .before .before .before .before .before .pre .0) (c .before .before .before .before .before .before .before .before .before .before .before .before .before .args .job) (c .before .before .before .before .before .before .before .before .before .before .before .before .before .pre .1))
+sub-early c = omega (arith, within (c .before .before .before .before .before .before .before .before .before .before .before .before .before))
 
 add-early : tie.Need-add-early
-add-early c = omega (arith, window-within (c .before .before .before .before .before .before .before .before .before .before .before .before .before .pre .0) (c .before .before .before .before .before .before .before .before .before .before .before .before .before .args .job) (c .before .before .before .before .before .before .before .before .before .before .before .before .before .pre .1))
+add-early c = omega (arith, within (c .before .before .before .before .before .before .before .before .before .before .before .before .before))
 
 early-requires : tie.Need-early-requires
 early-requires c κs =
-    let w = window-within (c .before .before .before .before .before .before .before .before .before .before .before .before .before .pre .0) (c .before .before .before .before .before .before .before .before .before .before .before .before .before .args .job) (c .before .before .before .before .before .before .before .before .before .before .before .before .before .pre .1) in
+    let w = within (c .before .before .before .before .before .before .before .before .before .before .before .before .before) in
     (c .before .before .before .before .before .before .before .before .before .before .before .before .before .pre .2 .keeps .points, omega arith, omega arith, omega arith)
 
 sub-t27 : tie.Need-sub-t27
@@ -64,14 +73,14 @@ returns-4 c =
     early-rests _ _ _ _ _ _ (p .0) (p .1) (c .before .before .before .before .before .if2 .left) (c .before .before .before .before .before .before .if1 .left) _ (p .2) _ (c .before .before .if3 .taken) (c .before .early .ensures) (c .if4 .left)
 
 sub-late : tie.Need-sub-late
-sub-late c = omega (arith, window-within (c .before .before .before .before .before .before .before .before .before .before .before .before .before .pre .0) (c .before .before .before .before .before .before .before .before .before .before .before .before .before .args .job) (c .before .before .before .before .before .before .before .before .before .before .before .before .before .pre .1))
+sub-late c = omega (arith, within (c .before .before .before .before .before .before .before .before .before .before .before .before .before))
 
 add-late : tie.Need-add-late
-add-late c = omega (arith, window-within (c .before .before .before .before .before .before .before .before .before .before .before .before .before .pre .0) (c .before .before .before .before .before .before .before .before .before .before .before .before .before .args .job) (c .before .before .before .before .before .before .before .before .before .before .before .before .before .pre .1))
+add-late c = omega (arith, within (c .before .before .before .before .before .before .before .before .before .before .before .before .before))
 
 late-requires : tie.Need-late-requires
 late-requires c κs =
-    let w = window-within (c .before .before .before .before .before .before .before .before .before .before .before .before .before .pre .0) (c .before .before .before .before .before .before .before .before .before .before .before .before .before .args .job) (c .before .before .before .before .before .before .before .before .before .before .before .before .before .pre .1) in
+    let w = within (c .before .before .before .before .before .before .before .before .before .before .before .before .before) in
     (c .before .before .before .before .before .before .before .before .before .before .before .before .before .pre .2 .keeps .points, omega arith, omega arith, omega arith)
 
 returns-5 : tie.Need-returns-5

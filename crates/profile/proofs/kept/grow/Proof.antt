@@ -1,3 +1,4 @@
+-- `profile::kept::grow` meets its contract: two points cut and the levels between them lifted raise each function that is kept.
 use native.Mathlib.Omega.{arith}
 use Rattle.profile.proofs.Raised.{before-to, low-all, raises}
 use Rattle.profile.proofs.Keeping.{grows-none, grows}
@@ -19,11 +20,14 @@ cut-requires-2 c κs =
 
 lift-requires : tie.Need-lift-requires
 lift-requires c κs =
-    let C = c .before .before .before .before .before .before .before .before .before .before .before .before .cut .ensures in
-    let D = c .before .before .before .before .before .cut2 .ensures in
-    let p = c .before .before .before .before .before .before .before .before .before .before .before .before .before .before .before .before .before .before .pre in
-    let z = before-to C (c .before .before .before .before .before .before .before .before .before .before .before .before .before .before .before .if1 .left) (p .2) D in
-    (omega arith, omega (arith, D .listed, D .points .inside, D .points .beside), low-all C (c .before .before .before .before .before .before .before .before .before .before .before .before .before .before .before .if1 .left) (p .2) D _ (p .3), p .4)
+    let at-to = c .before .before .before .before .before in
+    let at-from = at-to .before .before .before .before .before .before .before in
+    let apart = at-from .before .before .before in
+    let C = at-from .cut .ensures in
+    let D = at-to .cut2 .ensures in
+    let h = apart .if1 .left in
+    let p = apart .before .before .before .pre in
+    (omega (arith, before-to C h (p .2) D), omega (arith, D .listed, D .points .inside, D .points .beside), low-all C h (p .2) D _ (p .3), p .4)
 
 greater-requires : tie.Need-greater-requires
 greater-requires c κs = search needs
@@ -36,7 +40,11 @@ same-length-2 c = search needs
 
 returns-2 : tie.Need-returns-2
 returns-2 c =
-    let R = raises (c .before .before .before .before .before .before .before .before .before .before .before .before .before .before .before .before .cut .ensures) (c .before .before .before .before .before .before .before .before .before .before .before .before .before .before .before .before .before .before .before .if1 .left) (c .before .before .before .before .before .before .before .before .before .before .before .before .before .before .before .before .before .before .before .before .before .before .pre .2) (c .before .before .before .before .before .before .before .before .before .cut2 .ensures) (c .before .before .before .lift .ensures) in
+    let at-lift = c .before .before .before in
+    let at-to = at-lift .before .before .before .before .before .before in
+    let at-from = at-to .before .before .before .before .before .before .before in
+    let apart = at-from .before .before .before in
+    let R = raises (at-from .cut .ensures) (apart .if1 .left) (apart .before .before .before .pre .2) (at-to .cut2 .ensures) (at-lift .lift .ensures) in
     grows _ _ _ _ _ _ _ _ _ _ R (c .greater .ensures .0) (c .greater .ensures .1)
 
 pub grow-spec : {M : Type 1} → statement M

@@ -1,3 +1,4 @@
+-- `profile::kept::start` meets its contract: one point at 0 with level 0 keeps the function that is 0 everywhere.
 use Rattle.profile.proofs.Keeping.{starts}
 use borrow.Author.Needs.{needs}
 use Rattle.profile.proofs.kept.start.Statement.{statement}

@@ -1,3 +1,5 @@
+-- `profile::searches::first_over` meets its contract. The loop's invariant: piece i lies in the stretch, and every function kept is clear of the limit
+-- before it (`Up`). What falls is the number of pieces left.
 use Prim.Native.Nat.{_-_}
 use native.Mathlib.Omega.{arith}
 use borrow.Author.Needs.{needs}

@@ -1,3 +1,5 @@
+-- `profile::searches::last_over` meets its contract. The loop's invariant: piece i lies in the stretch, and every function kept is clear of the limit behind
+-- it (`Down`). What falls is i.
 use native.Mathlib.Omega.{arith}
 use borrow.Author.Needs.{needs}
 use Rattle.profile.proofs.Keeping.{last-low, last-empty}

@@ -4,7 +4,7 @@ use mathlib.Core.Bool.{Bool, true, false}
 use lib.Dec.{ltb, eqb}
 use Rattle.lists.specs.Lists.{_!_}
 use Rattle.narrowing.specs.Windows.{Win, Side, early, late}
-use Rattle.rounds.specs.declared.Place.{Place}
+use Rattle.turns.specs.declared.Place.{Place}
 
 abbrev pub place : ℕ → ℕ → Bool → Place
 place job side changed = record { job = job; side = side; changed = changed }

@@ -15,8 +15,8 @@ use Rattle.tabling.specs.Asked.{asked, Workable}
 use Rattle.tabling.proofs.Moves.{best-applies, time-small}
 use Rattle.searches.proofs.Answers.{found-some}
 use Rattle.writer.specs.Record.{recordOf}
-use Rattle.rounds.specs.declared.Place.{Place}
-use Rattle.rounds.specs.Work.{timeAt, Moves}
+use Rattle.turns.specs.declared.Place.{Place}
+use Rattle.turns.specs.Moves.{timeAt, Moves}
 
 module _ (e l p r : List ℕ) (cap : ℕ) (log : List ℕ) (at : Place) (t : ℕ) (x : Found) where
   abbrev here : Call

@@ -1,7 +1,8 @@
-use Rattle.rounds.proofs.Follows.{bound-early, bound-late}
+-- `turns::bound_at` meets its contract: the earliest start for side 0, else the latest end.
+use Rattle.turns.proofs.Bounds.{bound-early, bound-late}
 use borrow.Author.Needs.{needs}
-use Rattle.rounds.proofs.bound_at.Statement.{statement}
-use Rattle.rounds.proofs.bound_at.Tie as tie
+use Rattle.turns.proofs.bound_at.Statement.{statement}
+use Rattle.turns.proofs.bound_at.Tie as tie
 
 mul-result : tie.Need-mul-result
 mul-result c = search needs
