@@ -1,5 +1,6 @@
 -- Document 01's 'Runs on the record', cases 1 to 12, case 9 as Item 3 of document 02 has it; with capacity 0 and outside answers (numbers from 20:
--- 000's Example 1.27, 004's 4.1 and 4.2, a tie of latest ends), windows that are too short (from 30) and members that can be spared (Item 7, from 50).
+-- 000's Example 1.27, 004's 4.1 and 4.2, a tie of latest ends), windows that are too short (from 30), members that can be spared (Item 7, from 50) and
+-- the ends of sure parts (Item 5, from 60: the last time of one, the first of one, and the new ends after a move of side 0 and of side 1).
 -- Of narrowing: capacity, jobs as e, l, p, r, the log's room in records; then the answer, each job's e and l, and the words of the counted records. Every
 -- word of a log is 9 before. Of the overload check: the jobs, and the pair or none.
 use Prim.Native.Nat.{ℕ, _*_}
@@ -111,4 +112,8 @@ runs =
     settles 53 6 (job 0 4 1 3 ∷ job 0 1 1 3 ∷ job 0 1 1 1 ∷ job 0 1 1 2 ∷ []) 1 1 (span 1 4 ∷ span 0 1 ∷ span 0 1 ∷ span 0 1 ∷ []) (line 0 0 0 2 10) ∷
     settles 54 4 first 1 1 (span 1 4 ∷ span 0 1 ∷ span 0 1 ∷ span 0 1 ∷ []) (line 0 0 0 2 12) ∷
     settles 55 5 late 1 1 (span 0 3 ∷ span 3 4 ∷ span 3 4 ∷ span 3 4 ∷ []) (line 0 1 3 2 12) ∷
+    clashes 60 1 (job 0 3 3 1 ∷ job 0 2 2 1 ∷ []) 2 1 0 (line 0 0 1 1 2) ∷
+    settles 61 1 (job 0 5 2 1 ∷ job 4 5 1 1 ∷ []) 2 1 (span 0 4 ∷ span 4 5 ∷ []) (line 0 1 4 1 2) ∷
+    settles 62 1 (job 0 5 3 1 ∷ job 0 1 1 1 ∷ job 2 9 2 1 ∷ []) 2 2 (span 1 5 ∷ span 0 1 ∷ span 4 9 ∷ []) (line 0 0 0 1 2 ++ line 2 0 3 1 1) ∷
+    settles 63 1 (job 0 5 3 1 ∷ job 4 5 1 1 ∷ job 0 2 1 1 ∷ []) 3 3 (span 1 4 ∷ span 4 5 ∷ span 0 1 ∷ []) (line 0 1 4 1 2 ++ (line 2 1 1 1 1 ++ line 0 0 0 1 4)) ∷
     []
