@@ -11,24 +11,24 @@ use Rattle.narrowing.specs.Windows.{win}
 use Rattle.joblist.specs.Limits.{mostTime}
 use Rattle.tabling.specs.Asked.{asked, Workable}
 use Rattle.tabling.proofs.Good.{durations-sized, window-within, demand-most}
-use Rattle.profile.specs.declared.kept.Kept.{Kept}
-use Rattle.profile.specs.Steps.{far, Points}
+use Rattle.profile.specs.declared.kept.Outline.{Outline}
+use Rattle.profile.specs.Steps.{behindAll, Points}
 use Rattle.profile.specs.Raises.{mostLevel, Low}
-use Rattle.profile.specs.Kept.{Keeps, Starts, Grows}
+use Rattle.profile.specs.Keeps.{Keeps, Starts, Grows}
 use Rattle.profile.proofs.Keeping.{keeps-same, keeps-low}
 use Rattle.loads.specs.Loads.{wholeBelow, Spacious, LoadedAs}
 use Rattle.loads.proofs.Whole.{whole-more, whole-none, whole-most}
 
 -- what `grow` asks of the lists
-pub record Growable (ts ld : List ℕ) (k : Kept) (hi r : ℕ) : Type 0 where
+pub record Growable (ts ld : List ℕ) (k : Outline) (hi r : ℕ) : Type 0 where
   pub points : Points ts ld (k .m)
   pub room : k .m + 2 < length ts
-  pub near : hi < far
+  pub near : hi < behindAll
   pub low : Low ld (k .m) mostLevel
   pub small : r ≤ mostLevel
 
 -- the lists keep the load of the jobs below k of a workable list
-pub record Building (e l p r before ts ld : List ℕ) (x : Kept) (k : ℕ) : Type 0 where
+pub record Building (e l p r before ts ld : List ℕ) (x : Outline) (k : ℕ) : Type 0 where
   pub workable : Workable (asked e l p r 0)
   pub room : Spacious before
   pub size : length ts ≡ length before
@@ -36,7 +36,7 @@ pub record Building (e l p r before ts ld : List ℕ) (x : Kept) (k : ℕ) : Typ
   pub few : x .m ≤ 2 * k + 1
   pub keeps : Keeps (wholeBelow p r (win e l) k) ts ld x
 
-pub building-start : (e l p r : List ℕ) {before ts ld : List ℕ} {x : Kept} → Workable (asked e l p r 0) → Spacious before → Starts before ts ld x → Building e l p r ts ts ld x 0
+pub building-start : (e l p r : List ℕ) {before ts ld : List ℕ} {x : Outline} → Workable (asked e l p r 0) → Spacious before → Starts before ts ld x → Building e l p r ts ts ld x 0
 building-start e l p r w g S =
     record {
       workable = w;
@@ -47,13 +47,13 @@ building-start e l p r w g S =
       keeps = keeps-same (S .keeps) (wholeBelow p r (win e l) 0) (λ t. sym (whole-none p r (win e l) t));
     }
 
-pub building-end : {e l p r before ts ld : List ℕ} {x : Kept} {k : ℕ} → Building e l p r before ts ld x k → (first : List ℕ) → length before ≡ length first → length e ≤ k
+pub building-end : {e l p r before ts ld : List ℕ} {x : Outline} {k : ℕ} → Building e l p r before ts ld x k → (first : List ℕ) → length before ≡ length first → length e ≤ k
     → LoadedAs first (win e l) p r ts ld x
 building-end {e} {l} {p} {r} {before} {ts} {ld} {x} {k} B first z h =
     let q : k ≡ length e = omega (arith, B .upto) in
     record { size = B .size ∙ z; loaded = record { keeps = rw q at (B .keeps); room = omega (arith, B .size, B .room) } }
 
-module _ {e l p r before ts ld : List ℕ} {x : Kept} {k : ℕ} (B : Building e l p r before ts ld x k) (h : k < length e) where
+module _ {e l p r before ts ld : List ℕ} {x : Outline} {k : ℕ} (B : Building e l p r before ts ld x k) (h : k < length e) where
   -- a job that draws nothing adds nothing
   pub building-pass : r ! k ≤ 0 → Building e l p r before ts ld x (k + 1)
   building-pass z =
@@ -81,7 +81,7 @@ module _ {e l p r before ts ld : List ℕ} {x : Kept} {k : ℕ} (B : Building e 
         small = omega (arith, demand-most (B .workable .good) k);
       }
 
-  pub building-step : {us le : List ℕ} {y : Kept} → Grows ts ld x (l ! k - p ! k) (e ! k + p ! k) (r ! k) us le y → Building e l p r before us le y (k + 1)
+  pub building-step : {us le : List ℕ} {y : Outline} → Grows ts ld x (l ! k - p ! k) (e ! k + p ! k) (r ! k) us le y → Building e l p r before us le y (k + 1)
   building-step G =
       record {
         workable = B .workable;

@@ -17,9 +17,9 @@ use Rattle.timetable.specs.Table.{jobsOf}
 use Rattle.timetable.proofs.Loads.{load-moved}
 use Rattle.tabling.specs.Asked.{asked, Workable}
 use Rattle.tabling.proofs.Good.{durations-sized, ends-sized, demand-most}
-use Rattle.profile.specs.declared.kept.Kept.{Kept}
+use Rattle.profile.specs.declared.kept.Outline.{Outline}
 use Rattle.profile.specs.Raises.{raised, mostLevel}
-use Rattle.profile.specs.Kept.{Grows}
+use Rattle.profile.specs.Keeps.{Grows}
 use Rattle.profile.proofs.Keeping.{keeps-same, keeps-low}
 use Rattle.loads.specs.Loads.{whole, Loaded, LoadedAs}
 use Rattle.loads.proofs.Whole.{whole-most, load-whole}
@@ -102,7 +102,7 @@ module _ {e l p r : List ℕ} (w : Workable (asked e l p r 0)) (j : ℕ) (d : j 
   moved-size early a = length-set e j a
   moved-size late a = refl
 
-  module _ (s : Side) (a : ℕ) {ts ld : List ℕ} {x : Kept} (L : Loaded (moved (win e l) j s a) p r ts ld x) where
+  module _ (s : Side) (a : ℕ) {ts ld : List ℕ} {x : Outline} (L : Loaded (moved (win e l) j s a) p r ts ld x) where
     pub follow-asks : (hi : ℕ) → x .m + 2 < length ts → hi ≤ mostTime → Growable ts ld x hi (r ! j)
     follow-asks hi g h =
         record {
@@ -114,7 +114,7 @@ module _ {e l p r : List ℕ} (w : Workable (asked e l p r 0)) (j : ℕ) (d : j 
           small = omega (arith, demand-most (w .good) j);
         }
 
-    followed : {lo hi : ℕ} {us le : List ℕ} {y : Kept} → Grows ts ld x lo hi (r ! j) us le y
+    followed : {lo hi : ℕ} {us le : List ℕ} {y : Outline} → Grows ts ld x lo hi (r ! j) us le y
         → ((t : ℕ) → raised (whole p r (moved (win e l) j s a)) lo hi (r ! j) t ≡ whole p r (win e l) t) → LoadedAs ts (win e l) p r us le y
     followed G h =
         record {
@@ -122,7 +122,7 @@ module _ {e l p r : List ℕ} (w : Workable (asked e l p r 0)) (j : ℕ) (d : j 
           loaded = record { keeps = keeps-same (G .keeps (whole p r (moved (win e l) j s a)) (L .keeps)) (whole p r (win e l)) h; room = omega (arith, G .size, L .room) };
         }
 
-  module _ (a : ℕ) {ts ld us le : List ℕ} {x y : Kept} where
+  module _ (a : ℕ) {ts ld us le : List ℕ} {x y : Outline} where
     pub followed-early : Loaded (moved (win e l) j early a) p r ts ld x → a ≤ e ! j → (lo : ℕ) → l ! j - p ! j ≤ lo → a + p ! j ≤ lo
         → (l ! j - p ! j < a + p ! j → lo ≡ a + p ! j) → (a + p ! j ≤ l ! j - p ! j → lo ≡ l ! j - p ! j)
         → Grows ts ld x lo (e ! j + p ! j) (r ! j) us le y → LoadedAs ts (win e l) p r us le y

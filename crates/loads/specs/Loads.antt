@@ -9,8 +9,8 @@ use Rattle.lists.specs.Sums.{total}
 use Rattle.narrowing.specs.Windows.{Win}
 use Rattle.joblist.specs.Limits.{mostJobs, jobs}
 use Rattle.timetable.specs.Time.{sure}
-use Rattle.profile.specs.declared.kept.Kept.{Kept}
-use Rattle.profile.specs.Kept.{Keeps}
+use Rattle.profile.specs.declared.kept.Outline.{Outline}
+use Rattle.profile.specs.Keeps.{Keeps}
 
 -- the demands of the jobs below m whose sure part holds t
 unfoldable pub wholeBelow : List ℕ → List ℕ → Win → ℕ → ℕ → ℕ
@@ -21,16 +21,16 @@ wholeBelow p r W m t = total (λ k. only (sure p W k t) (r ! k)) m
 abbrev pub whole : List ℕ → List ℕ → Win → ℕ → ℕ
 whole p r W = wholeBelow p r W (jobs W)
 
--- a list long enough for the points of any jobs: two for each, one at 0, and `far`
+-- a list long enough for the points of any jobs: two for each, one at 0, and `behindAll`
 abbrev pub Spacious : List ℕ → Type 0
 Spacious ts = 2 * mostJobs + 1 < length ts
 
 -- the lists keep the load of the windows W, and are long enough
-pub record Loaded (W : Win) (p r ts ld : List ℕ) (k : Kept) : Type 0 where
+pub record Loaded (W : Win) (p r ts ld : List ℕ) (k : Outline) : Type 0 where
   pub keeps : Keeps (whole p r W) ts ld k
   pub room : Spacious ts
 
 -- and as long as they were
-pub record LoadedAs (before : List ℕ) (W : Win) (p r ts ld : List ℕ) (k : Kept) : Type 0 where
+pub record LoadedAs (before : List ℕ) (W : Win) (p r ts ld : List ℕ) (k : Outline) : Type 0 where
   pub size : length ts ≡ length before
   pub loaded : Loaded W p r ts ld k

@@ -1,6 +1,6 @@
 // The load of all jobs kept as a profile (02, Item 5): built from the windows, and raised where a move has made a sure part longer. Its points are where
 // a sure part begins or ends, or has done so before a move.
-use profile::Kept;
+use profile::Outline;
 ghost use mathlib.Core.Path.{_≡_};
 ghost use Prim.Native.Nat.{_<_, _≤_};
 ghost use lib.ListN.{length};
@@ -17,7 +17,7 @@ pub fn build(
     dem: &[u32],
     ts: &mut [u32],
     ld: &mut [u32],
-) -> Kept
+) -> Outline
     requires { ⌜ Workable (asked (now est) (now lct) (now dur) (now dem) 0) × Spacious (now ts) × (length (now ld) ≡ length (now ts)) ⌝ }
     ensures { λ x. ⌜ LoadedAs (now (ts .entry)) (win (now (est .entry)) (now (lct .entry))) (now (dur .entry)) (now (dem .entry)) (now (ts .exit)) (now (ld .exit)) x ⌝ }
 {
@@ -47,8 +47,8 @@ pub fn follow(
     old: u32,
     ts: &mut [u32],
     ld: &mut [u32],
-    kept: Kept,
-) -> Kept
+    kept: Outline,
+) -> Outline
     requires { ⌜ Workable (asked (now est) (now lct) (now dur) (now dem) 0) × (job < length (now dur)) × Respects (win (now est) (now lct)) job (sideOf side) old × (old ≤ mostTime) × Loaded (moved (win (now est) (now lct)) job (sideOf side) old) (now dur) (now dem) (now ts) (now ld) kept ⌝ }
     ensures { λ x. ⌜ LoadedAs (now (ts .entry)) (win (now (est .entry)) (now (lct .entry))) (now (dur .entry)) (now (dem .entry)) (now (ts .exit)) (now (ld .exit)) x ⌝ }
 {

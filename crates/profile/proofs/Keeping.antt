@@ -7,19 +7,19 @@ use mathlib.Core.List.{List}
 use lib.ListN.{length, set, length-set}
 use lib.Seq.{getD-set-same, getD-set-other}
 use Rattle.lists.specs.Lists.{_!_}
-use Rattle.profile.specs.Steps.{far}
+use Rattle.profile.specs.Steps.{behindAll}
 use Rattle.profile.specs.Raises.{raised, Low}
-use Rattle.profile.specs.declared.kept.Kept.{Kept}
-use Rattle.profile.specs.Kept.{Keeps, Starts, Grows, LastOver, FirstOver}
+use Rattle.profile.specs.declared.kept.Outline.{Outline}
+use Rattle.profile.specs.Keeps.{Keeps, Starts, Grows, LastOver, FirstOver}
 use Rattle.profile.proofs.Raised.{Raises, raised-before, raised-behind, level-low}
 
 -- functions that agree everywhere are kept alike
-pub keeps-same : {f : ℕ → ℕ} {ts ld : List ℕ} {k : Kept} → Keeps f ts ld k → (g : ℕ → ℕ) → ((t : ℕ) → f t ≡ g t) → Keeps g ts ld k
+pub keeps-same : {f : ℕ → ℕ} {ts ld : List ℕ} {k : Outline} → Keeps f ts ld k → (g : ℕ → ℕ) → ((t : ℕ) → f t ≡ g t) → Keeps g ts ld k
 keeps-same {f} K g h =
     record { points = K .points; levels = λ i t b u v. K .levels i t b u v ∙ h t; peak = λ t. omega (arith, K .peak t, h t) }
 
 -- no level is above what the function is limited by
-pub keeps-low : {f : ℕ → ℕ} {ts ld : List ℕ} {k : Kept} → Keeps f ts ld k → (b : ℕ) → ((t : ℕ) → f t ≤ b) → Low ld (k .m) b
+pub keeps-low : {f : ℕ → ℕ} {ts ld : List ℕ} {k : Outline} → Keeps f ts ld k → (b : ℕ) → ((t : ℕ) → f t ≤ b) → Low ld (k .m) b
 keeps-low {f} K b h = level-low (K .points) f (K .levels) b h
 
 -- nothing to raise
@@ -27,11 +27,11 @@ raised-none : (f : ℕ → ℕ) (lo hi r t : ℕ) → hi ≤ lo → f t ≡ rais
 raised-none f lo hi r t h =
     elim (decLt t hi) [ yes d ↦ sym (raised-before f lo hi r t (omega arith)) | no d ↦ sym (raised-behind f lo hi r t (omega arith)) ]
 
-pub grows-none : (ts ld : List ℕ) (k : Kept) (lo hi r : ℕ) → hi ≤ lo → Grows ts ld k lo hi r ts ld k
+pub grows-none : (ts ld : List ℕ) (k : Outline) (lo hi r : ℕ) → hi ≤ lo → Grows ts ld k lo hi r ts ld k
 grows-none ts ld k lo hi r h =
     record { size = refl; few = omega arith; keeps = λ f K. keeps-same K (raised f lo hi r) (λ t. raised-none f lo hi r t h) }
 
-pub grows : (ts ld : List ℕ) (k : Kept) (lo hi r : ℕ) (us le : List ℕ) (n : Kept) (top : ℕ) → Raises ts ld (k .m) lo hi r us le (n .m) top
+pub grows : (ts ld : List ℕ) (k : Outline) (lo hi r : ℕ) (us le : List ℕ) (n : Outline) (top : ℕ) → Raises ts ld (k .m) lo hi r us le (n .m) top
     → k .peak ≤ n .peak → top ≤ n .peak → Grows ts ld k lo hi r us le n
 grows ts ld k lo hi r us le n top R a b =
     record {
@@ -54,19 +54,19 @@ grows ts ld k lo hi r us le n top R a b =
 -- from nothing
 module _ (ts ld : List ℕ) (h : 1 < length ts) (s : length ld ≡ length ts) where
   abbrev us : List ℕ
-  us = set (set ts 0 0) 1 far
+  us = set (set ts 0 0) 1 behindAll
 
   abbrev le : List ℕ
   le = set ld 0 0
 
   size-us : length us ≡ length ts
-  size-us = length-set (set ts 0 0) 1 far ∙ length-set ts 0 0
+  size-us = length-set (set ts 0 0) 1 behindAll ∙ length-set ts 0 0
 
   at-0 : us ! 0 ≡ 0
-  at-0 = getD-set-other (set ts 0 0) 1 0 far 0 (λ e. omega arith) ∙ getD-set-same ts 0 0 0 (omega arith)
+  at-0 = getD-set-other (set ts 0 0) 1 0 behindAll 0 (λ e. omega arith) ∙ getD-set-same ts 0 0 0 (omega arith)
 
-  at-1 : us ! 1 ≡ far
-  at-1 = getD-set-same (set ts 0 0) 1 far 0 (omega (arith, length-set ts 0 0))
+  at-1 : us ! 1 ≡ behindAll
+  at-1 = getD-set-same (set ts 0 0) 1 behindAll 0 (omega (arith, length-set ts 0 0))
 
   level-0 : le ! 0 ≡ 0
   level-0 = getD-set-same ld 0 0 0 (omega arith)
@@ -92,7 +92,7 @@ module _ (ts ld : List ℕ) (h : 1 < length ts) (s : length ld ≡ length ts) wh
 
 -- ---- searches
 
-module _ (ts ld : List ℕ) (k : Kept) (limit a b : ℕ) where
+module _ (ts ld : List ℕ) (k : Outline) (limit a b : ℕ) where
   -- nothing is over the limit
   pub last-low : a ≤ b → k .peak ≤ limit → LastOver ts ld k limit a b a
   last-low h p f K =

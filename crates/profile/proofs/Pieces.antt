@@ -5,7 +5,7 @@ use native.Mathlib.Decide.{decLe}
 use mathlib.Core.Path.{_≡_}
 use mathlib.Core.List.{List}
 use Rattle.lists.specs.Lists.{_!_}
-use Rattle.profile.specs.Steps.{far, Points, Piece}
+use Rattle.profile.specs.Steps.{behindAll, Points, Piece}
 
 -- a later point lies no earlier
 pub ordered : {ts ld : List ℕ} {m : ℕ} → Points ts ld m → (i d : ℕ) → i + d ≤ m → ts ! i ≤ ts ! (i + d)
@@ -24,7 +24,7 @@ pub record Halving (ts : List ℕ) (m x base size : ℕ) : Type 0 where
   pub from : ts ! base ≤ x
   pub to : x < ts ! (base + size)
 
-pub halving-start : {ts ld : List ℕ} {m x : ℕ} → Points ts ld m → x < far → Halving ts m x 0 m
+pub halving-start : {ts ld : List ℕ} {m x : ℕ} → Points ts ld m → x < behindAll → Halving ts m x 0 m
 halving-start {ts} {ld} {m} P h =
     record { some = P .some; within = omega arith; from = omega (arith, P .start); to = let e : 0 + m ≡ m = omega arith in rw e (omega (arith, P .end)) }
 

@@ -10,7 +10,7 @@ use lib.ListN.{length}
 use Rattle.lists.specs.Lists.{_!_}
 use Rattle.lists.specs.Tests.{only}
 use Rattle.lists.proofs.Tests.{between-yes, between-before, between-behind}
-use Rattle.profile.specs.Steps.{far, Points, Levels, Piece}
+use Rattle.profile.specs.Steps.{behindAll, Points, Levels, Piece}
 use Rattle.profile.specs.Raises.{raised, CutAt, Lifted, Low}
 use Rattle.profile.proofs.Pieces.{in-order}
 
@@ -23,8 +23,8 @@ raised-before f lo hi r t a = ap (λ (q : Bool). f t + only q r) (between-before
 pub raised-behind : (f : ℕ → ℕ) (lo hi r t : ℕ) → hi ≤ t → raised f lo hi r t ≡ f t
 raised-behind f lo hi r t a = ap (λ (q : Bool). f t + only q r) (between-behind lo hi t a) ∙ omega arith
 
--- every time before `far` lies in a piece
-pub piece-of : {ts ld : List ℕ} {m : ℕ} → Points ts ld m → (t : ℕ) → t < far → (q : ℕ) × Piece ts m t q
+-- every time before `behindAll` lies in a piece
+pub piece-of : {ts ld : List ℕ} {m : ℕ} → Points ts ld m → (t : ℕ) → t < behindAll → (q : ℕ) × Piece ts m t q
 piece-of {ts} {ld} {m} P t h = go m (omega arith) (omega (arith, P .end))
   where
     go : (n : ℕ) → n ≤ m → t < ts ! n → (q : ℕ) × Piece ts m t q
@@ -48,7 +48,7 @@ pub record Raises (ts ld : List ℕ) (m lo hi r : ℕ) (us le : List ℕ) (n top
   pub levels : (f : ℕ → ℕ) → Levels ts ld m f → Levels us le n (raised f lo hi r)
   pub most : (f : ℕ → ℕ) → Levels us le n f → (t : ℕ) → lo ≤ t → t < hi → f t ≤ top
 
-module _ {ts ld us le vs lf : List ℕ} {m lo hi n₁ i n₂ k : ℕ} (C : CutAt ts ld m lo us le n₁ i) (h : lo < hi) (far-hi : hi < far)
+module _ {ts ld us le vs lf : List ℕ} {m lo hi n₁ i n₂ k : ℕ} (C : CutAt ts ld m lo us le n₁ i) (h : lo < hi) (far-hi : hi < behindAll)
     (D : CutAt us le n₁ hi vs lf n₂ k)
   where
     -- the first point is still there, before the second

@@ -6,7 +6,7 @@ use mathlib.Core.Path.{_≡_}
 use mathlib.Core.List.{List}
 use Rattle.lists.specs.Lists.{_!_}
 use Rattle.lists.specs.Searches.{Last, First}
-use Rattle.profile.specs.Steps.{far, Points, Levels, Piece}
+use Rattle.profile.specs.Steps.{behindAll, Points, Levels, Piece}
 
 module _ (ts ld : List ℕ) (m limit a b : ℕ) where
   -- every function kept is clear of the limit from x up to y
@@ -31,7 +31,7 @@ module _ (ts ld : List ℕ) (m limit a b : ℕ) where
   pub record At (i : ℕ) : Type 0 where
     pub points : Points ts ld m
     pub apart : a < b
-    pub near : b ≤ far
+    pub near : b ≤ behindAll
     pub listed : i < m
     pub before : ts ! i < b
     pub ahead : a < ts ! (i + 1)
@@ -41,7 +41,7 @@ module _ (ts ld : List ℕ) (m limit a b : ℕ) where
     pub at : At i
     pub clear : Clear (ts ! (i + 1)) b
 
-  pub down-start : Points ts ld m → a < b → b ≤ far → (i : ℕ) → Piece ts m (b - 1) i → Down i
+  pub down-start : Points ts ld m → a < b → b ≤ behindAll → (i : ℕ) → Piece ts m (b - 1) i → Down i
   down-start P h g i p =
       record {
         at = record { points = P; apart = h; near = g; listed = p .listed; before = omega (arith, p .from); ahead = omega (arith, p .to) };
@@ -107,7 +107,7 @@ module _ (ts ld : List ℕ) (m limit a b : ℕ) where
     pub at : At i
     pub clear : Clear a (ts ! i)
 
-  pub up-start : Points ts ld m → a < b → b ≤ far → (i : ℕ) → Piece ts m a i → Up i
+  pub up-start : Points ts ld m → a < b → b ≤ behindAll → (i : ℕ) → Piece ts m a i → Up i
   up-start P h g i p =
       record {
         at = record { points = P; apart = h; near = g; listed = p .listed; before = omega (arith, p .from); ahead = p .to };

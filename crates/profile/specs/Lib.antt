@@ -1,3 +1,3 @@
 pub mod Steps
 pub mod Raises
-pub mod Kept
+pub mod Keeps

@@ -13,7 +13,7 @@ abbrev pub raised : (ℕ → ℕ) → ℕ → ℕ → ℕ → ℕ → ℕ
 raised f lo hi r t = f t + only (between lo hi t) r
 
 -- ys is xs with v put in at place i: what stood there and behind it, below m, stands one place further
-pub record Opened (xs : List ℕ) (i m v : ℕ) (ys : List ℕ) : Type 0 where
+pub record PutIn (xs : List ℕ) (i m v : ℕ) (ys : List ℕ) : Type 0 where
   pub size : length ys ≡ length xs
   pub before : (q : ℕ) → q < i → ys ! q ≡ xs ! q
   pub here : ys ! i ≡ v

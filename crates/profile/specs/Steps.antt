@@ -1,4 +1,4 @@
--- A step function of time, kept in two lists: points that rise from 0 on, with `far` behind the last one, and beside each point the level of the
+-- A step function of time, kept in two lists: points that rise from 0 on, with `behindAll` behind the last one, and beside each point the level of the
 -- function from it up to the next.
 use Prim.Native.Nat.{ℕ, _+_, _≤_, _<_}
 use mathlib.Core.Path.{_≡_}
@@ -7,8 +7,8 @@ use lib.ListN.{length}
 use Rattle.lists.specs.Lists.{_!_}
 
 -- behind every time in use
-abbrev pub far : ℕ
-far = 2147483647
+abbrev pub behindAll : ℕ
+behindAll = 2147483647
 
 -- m points in ts, and room for their levels in ld
 pub record Points (ts ld : List ℕ) (m : ℕ) : Type 0 where
@@ -16,7 +16,7 @@ pub record Points (ts ld : List ℕ) (m : ℕ) : Type 0 where
   pub inside : m < length ts
   pub beside : length ld ≡ length ts
   pub start : ts ! 0 ≡ 0
-  pub end : ts ! m ≡ far
+  pub end : ts ! m ≡ behindAll
   pub rises : (i : ℕ) → i < m → ts ! i < ts ! (i + 1)
 
 -- from each point up to the next the function f is the level beside it

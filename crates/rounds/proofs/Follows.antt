@@ -14,7 +14,7 @@ use Rattle.tabling.specs.Asked.{asked, Workable}
 use Rattle.tabling.proofs.Good.{ends-sized, start-most, end-most}
 use Rattle.tabling.proofs.Moves.{best-applies}
 use Rattle.tabling.proofs.Steps.{good-cap}
-use Rattle.profile.specs.declared.kept.Kept.{Kept}
+use Rattle.profile.specs.declared.kept.Outline.{Outline}
 use Rattle.loads.specs.Loads.{Loaded}
 use Rattle.turns.specs.declared.Place.{Place}
 use Rattle.turns.specs.Places.{boundAt}
@@ -56,7 +56,7 @@ module _ (c : Call) (at : Place) (count t : ℕ) (W′ : Win) (log′ : List ℕ
   pub kept-small : old ≤ mostTime
   kept-small = bound-most (c .win) (c .p) (c .r) (c .cap) (c .log) w (at .job) (sideOf (at .side))
 
-  pub kept-before : {ts ld : List ℕ} {k : Kept} → Loaded (c .win) (c .p) (c .r) ts ld k → Loaded (moved W′ (at .job) (sideOf (at .side)) old) (c .p) (c .r) ts ld k
+  pub kept-before : {ts ld : List ℕ} {k : Outline} → Loaded (c .win) (c .p) (c .r) ts ld k → Loaded (moved W′ (at .job) (sideOf (at .side)) old) (c .p) (c .r) ts ld k
   kept-before {ts} {ld} {k} L =
       subst (λ (U : Win). Loaded U (c .p) (c .r) ts ld k)
       (sym (ap (λ (U : Win). moved U (at .job) (sideOf (at .side)) old) (m .windows) ∙ put-back (c .win) (at .job) (sideOf (at .side)) (bound (sideOf (at .side)) t))) L

@@ -19,12 +19,12 @@ use Rattle.timetable.specs.Table.{jobsOf}
 use Rattle.timetable.proofs.Law.{best-early, best-late}
 use Rattle.tabling.specs.Asked.{asked, Workable}
 use Rattle.tabling.proofs.Good.{durations-sized, window-long}
-use Rattle.profile.specs.declared.kept.Kept.{Kept}
+use Rattle.profile.specs.declared.kept.Outline.{Outline}
 use Rattle.loads.specs.Loads.{whole, Loaded}
 use Rattle.loads.proofs.Whole.{load-whole}
 use Rattle.searches.specs.declared.Found.{Found}
 use Rattle.searches.specs.Found.{found, nextTime}
-use Rattle.searches.specs.Busy.{Busy, Counted, LastBusy, FirstBusy}
+use Rattle.searches.specs.Busy.{Busy, DemandIn, LastBusy, FirstBusy}
 
 -- an answer, taken back
 pub found-some : (x : Option ℕ) (t : ℕ) → found x ≡ Found.At t → x ≡ some t
@@ -70,8 +70,8 @@ module _ (e l p r : List ℕ) (cap j : ℕ) where
     others t = load-whole J (win e l) j t refl listed
 
     -- the load has the job's own demand in it in its sure part
-    counted : Counted (whole p r (win e l)) (r ! j) s f
-    counted t a b = omega (arith, rw (between-yes s f t a b) at (others t))
+    demand-in : DemandIn (whole p r (win e l)) (r ! j) s f
+    demand-in t a b = omega (arith, rw (between-yes s f t a b) at (others t))
 
     with-own : (b : Bool) (x y z : ℕ) → x + only b y ≡ z → x + y ≡ z + only (not b) y
     with-own true x y z h = omega arith
@@ -87,10 +87,10 @@ module _ (e l p r : List ℕ) (cap j : ℕ) where
       busies : (t : ℕ) → Crowded J (win e l) j t → Busy (whole p r (win e l)) cap (r ! j) s f t
       busies t c = omega (arith, c .over, same t)
 
-      module _ (side : ℕ) {ts ld : List ℕ} {k : Kept} (L : Loaded (win e l) p r ts ld k) (x : ℕ) where
+      module _ (side : ℕ) {ts ld : List ℕ} {k : Outline} (L : Loaded (win e l) p r ts ld k) (x : ℕ) where
         module _ (q : side ≡ 0) (b : LastBusy ts ld k cap (r ! j) s f (e ! j) f x) where
           last : Last (Crowded J (win e l) j) (e ! j) f x
-          last = last-as crowds busies (b (whole p r (win e l)) (L .keeps) counted)
+          last = last-as crowds busies (b (whole p r (win e l)) (L .keeps) demand-in)
 
           pub early-rests : x ≤ e ! j → Found.Nothing ≡ found (nextTime (asked e l p r cap) j (sideOf side))
           early-rests h = answers side early (side-early side q) none (last-none last h)
@@ -103,7 +103,7 @@ module _ (e l p r : List ℕ) (cap j : ℕ) where
           stretch = omega (arith, window-long w j d)
 
           first : First (Crowded J (win e l) j) s (s + p ! j) x
-          first = rw stretch (first-as crowds busies (b (whole p r (win e l)) (L .keeps) counted))
+          first = rw stretch (first-as crowds busies (b (whole p r (win e l)) (L .keeps) demand-in))
 
           pub late-rests : l ! j ≤ x → Found.Nothing ≡ found (nextTime (asked e l p r cap) j (sideOf side))
           late-rests h = answers side late (side-late side q) none (first-none first (omega (arith, stretch)))

@@ -7,9 +7,9 @@ use mathlib.Core.Bool.{true, false}
 use mathlib.Core.List.{List}
 use Rattle.lists.specs.Tests.{between}
 use Rattle.lists.proofs.Tests.{between-yes, between-before, between-behind}
-use Rattle.profile.specs.declared.kept.Kept.{Kept}
-use Rattle.profile.specs.Kept.{LastOver, FirstOver}
-use Rattle.searches.specs.Busy.{Busy, Counted, LastBusy, FirstBusy}
+use Rattle.profile.specs.declared.kept.Outline.{Outline}
+use Rattle.profile.specs.Keeps.{LastOver, FirstOver}
+use Rattle.searches.specs.Busy.{Busy, DemandIn, LastBusy, FirstBusy}
 
 module _ (g : ℕ → ℕ) (cap r s f : ℕ) where
   -- in the own part, and beside it
@@ -26,7 +26,7 @@ module _ (g : ℕ → ℕ) (cap r s f : ℕ) where
   beside-busy t o h = rw o at h
 
   -- a demand above the capacity is too much at every time
-  busy-always : Counted g r s f → cap < r → (t : ℕ) → Busy g cap r s f t
+  busy-always : DemandIn g r s f → cap < r → (t : ℕ) → Busy g cap r s f t
   busy-always C h t =
       elim (decLt t s) [
         | yes a ↦ busy-beside t (between-before s f t a) (omega arith)
@@ -50,7 +50,7 @@ mid-from e s f mid es ef m = elim (decLt s f) [ yes d ↦ omega (arith, m .2 d) 
 pub mid-to : (s f l mid : ℕ) → s ≤ l → f ≤ l → IsGreater s f mid → mid ≤ l
 mid-to s f l mid sl fl m = elim (decLt s f) [ yes d ↦ omega (arith, m .2 d) | no d ↦ omega (arith, m .3 (omega arith)) ]
 
-module _ (ts ld : List ℕ) (k : Kept) (cap r s f : ℕ) where
+module _ (ts ld : List ℕ) (k : Outline) (cap r s f : ℕ) where
   -- ---- side 0: beside up to mid, in from there up to f
 
   pub last-all : (e : ℕ) → cap < r → e ≤ f → LastBusy ts ld k cap r s f e f f

@@ -1,10 +1,10 @@
 // The next time at which a rule moves a job's side, found in the kept load of all jobs (02, Item 5).
-use profile::Kept;
+use profile::Outline;
 ghost use mathlib.Core.Path.{_≡_};
 ghost use Prim.Native.Nat.{_<_, _≤_};
 ghost use lib.ListN.{length};
 ghost use Rattle.narrowing.specs.Windows.{win, sideOf};
-ghost use Rattle.profile.specs.Steps.{far, Points};
+ghost use Rattle.profile.specs.Steps.{behindAll, Points};
 ghost use Rattle.tabling.specs.Asked.{asked, Workable};
 ghost use Rattle.loads.specs.Loads.{Loaded};
 ghost use Rattle.searches.specs.Found.{found, nextTime};
@@ -18,8 +18,8 @@ pub enum Found {
 
 // Side 0: one more than the last time from e up to f that is crowded for a job of demand r, and e where there is none. Its sure part is from s up to f; there
 // the load has its demand in it already.
-fn early(ts: &[u32], ld: &[u32], kept: Kept, cap: u32, r: u32, e: u32, s: u32, f: u32) -> u32
-    requires { ⌜ Points (now ts) (now ld) (kept .m) × (e ≤ s) × (e ≤ f) × (f ≤ far) ⌝ }
+fn early(ts: &[u32], ld: &[u32], kept: Outline, cap: u32, r: u32, e: u32, s: u32, f: u32) -> u32
+    requires { ⌜ Points (now ts) (now ld) (kept .m) × (e ≤ s) × (e ≤ f) × (f ≤ behindAll) ⌝ }
     ensures { λ x. ⌜ LastBusy (now (ts .entry)) (now (ld .entry)) kept cap r s f e f x ⌝ }
 {
     if cap < r {
@@ -35,8 +35,8 @@ fn early(ts: &[u32], ld: &[u32], kept: Kept, cap: u32, r: u32, e: u32, s: u32, f
 }
 
 // Side 1: the first time from s up to l that is crowded for a job of demand r, and l where there is none. Its sure part is from s up to f.
-fn late(ts: &[u32], ld: &[u32], kept: Kept, cap: u32, r: u32, s: u32, f: u32, l: u32) -> u32
-    requires { ⌜ Points (now ts) (now ld) (kept .m) × (s ≤ l) × (f ≤ l) × (l ≤ far) ⌝ }
+fn late(ts: &[u32], ld: &[u32], kept: Outline, cap: u32, r: u32, s: u32, f: u32, l: u32) -> u32
+    requires { ⌜ Points (now ts) (now ld) (kept .m) × (s ≤ l) × (f ≤ l) × (l ≤ behindAll) ⌝ }
     ensures { λ x. ⌜ FirstBusy (now (ts .entry)) (now (ld .entry)) kept cap r s f s l x ⌝ }
 {
     if cap < r {
@@ -62,7 +62,7 @@ pub fn next_time(
     side: u32,
     ts: &[u32],
     ld: &[u32],
-    kept: Kept,
+    kept: Outline,
 ) -> Found
     requires { ⌜ Workable (asked (now est) (now lct) (now dur) (now dem) cap) × (job < length (now dur)) × Loaded (win (now est) (now lct)) (now dur) (now dem) (now ts) (now ld) kept ⌝ }
     ensures { λ x. ⌜ x ≡ found (nextTime (asked (now (est .entry)) (now (lct .entry)) (now (dur .entry)) (now (dem .entry)) cap) job (sideOf side)) ⌝ }

@@ -16,7 +16,7 @@ use Rattle.narrowing.specs.Windows.{Win, Side, early, late}
 use Rattle.narrowing.specs.Search.{Found}
 use Rattle.timetable.specs.Time.{Jobs, load, Crowded, Applies, bound}
 use Rattle.timetable.specs.Search.{Member, member, best}
-use Rattle.timetable.specs.Edges.{PartEdge, Looked, Next}
+use Rattle.timetable.specs.Edges.{PartEdge, Looked, NextTime}
 use Rattle.timetable.proofs.Facts.{member-yes, yes-member}
 use Rattle.timetable.proofs.Lean.{members-load}
 use Rattle.timetable.proofs.Law.{best-early, best-late, best-is}
@@ -58,7 +58,7 @@ module _ (J : Jobs) (W : Win) (j : ℕ) where
 
   -- ---- the time that the rule moves to is an edge
 
-  at-early : (t : ℕ) → Next J W j early t → Looked J W j early t
+  at-early : (t : ℕ) → NextTime J W j early t → Looked J W j early t
   at-early t n =
       elim (decLt (suc t) (W .e ! j + J .p ! j)) [
         | yes d ↦ inr (ends t (n .0 .crowded) (λ c. absurd (omega (arith, n .1 (suc t) (record { from = omega (arith, n .0 .from); to = d; crowded = c })))))
@@ -66,7 +66,7 @@ module _ (J : Jobs) (W : Win) (j : ℕ) where
       ]
 
   -- the stretch of side 1 begins at l - p, so that l has to be p or more
-  at-late : J .p ! j ≤ W .l ! j → (t : ℕ) → Next J W j late t → Looked J W j late t
+  at-late : J .p ! j ≤ W .l ! j → (t : ℕ) → NextTime J W j late t → Looked J W j late t
   at-late h zero n = inl (omega (arith, n .0 .from))
   at-late h (suc u) n =
       elim (decLe (W .l ! j) (u + J .p ! j)) [
@@ -75,32 +75,32 @@ module _ (J : Jobs) (W : Win) (j : ℕ) where
       ]
 
   module _ (h : J .p ! j ≤ W .l ! j) where
-    pub next-looked : (s : Side) (t : ℕ) → Next J W j s t → Looked J W j s t
+    pub next-looked : (s : Side) (t : ℕ) → NextTime J W j s t → Looked J W j s t
     next-looked early t n = at-early t n
     next-looked late t n = at-late h t n
 
     -- what the search finds is that time
-    early-next : (x : Option ℕ) → Greatest (Crowded J W j) (W .e ! j) (J .p ! j) x → (t : ℕ) → x ≡ some t → Next J W j early t
+    early-next : (x : Option ℕ) → Greatest (Crowded J W j) (W .e ! j) (J .p ! j) x → (t : ℕ) → x ≡ some t → NextTime J W j early t
     early-next none g t e = absurd (let z : _≡_ {A = ℕ} 0 1 = cc in omega arith)
     early-next (some u) g t e = go (let q : u ≡ t = cc in q)
       where
-        go : u ≡ t → Next J W j early t
+        go : u ≡ t → NextTime J W j early t
         go q =
             rw (← q)
             (record { from = g .0 .from; to = g .0 .to; crowded = g .0 .has }, λ v a. g .1 v (record { from = a .from; to = a .to; has = a .crowded }))
 
-    late-next : (x : Option ℕ) → Least (Crowded J W j) (W .l ! j - J .p ! j) (J .p ! j) x → (t : ℕ) → x ≡ some t → Next J W j late t
+    late-next : (x : Option ℕ) → Least (Crowded J W j) (W .l ! j - J .p ! j) (J .p ! j) x → (t : ℕ) → x ≡ some t → NextTime J W j late t
     late-next none g t e = absurd (let z : _≡_ {A = ℕ} 0 1 = cc in omega arith)
     late-next (some u) g t e = go (let q : u ≡ t = cc in q)
       where
-        go : u ≡ t → Next J W j late t
+        go : u ≡ t → NextTime J W j late t
         go q =
             rw (← q) (
               record { from = omega (arith, g .0 .from); to = omega (arith, g .0 .to); crowded = g .0 .has },
               λ v a. g .1 v (record { from = omega (arith, a .from); to = omega (arith, a .to); has = a .crowded }),
             )
 
-    pub best-next : (s : Side) (t : ℕ) → best J W j s ≡ some t → Next J W j s t
+    pub best-next : (s : Side) (t : ℕ) → best J W j s ≡ some t → NextTime J W j s t
     best-next early t e = early-next (best J W j early) (best-early J W j) t e
     best-next late t e = late-next (best J W j late) (best-late J W j) t e
 

@@ -25,6 +25,6 @@ abbrev pub Looked : Jobs → Win → ℕ → Side → ℕ → Type 0
 Looked J W j s t = Edge s (J .p) W j t ⊎ PartEdge J W j s t
 
 -- the time at which a rule moves job j's side, as document 01 orders the work: side 0 at the greatest such t, side 1 at the least
-abbrev pub Next : Jobs → Win → ℕ → Side → ℕ → Type 0
-Next J W j early t = Early J W j t × ((u : ℕ) → Early J W j u → u ≤ t)
-Next J W j late t = Late J W j t × ((u : ℕ) → Late J W j u → t ≤ u)
+abbrev pub NextTime : Jobs → Win → ℕ → Side → ℕ → Type 0
+NextTime J W j early t = Early J W j t × ((u : ℕ) → Early J W j u → u ≤ t)
+NextTime J W j late t = Late J W j t × ((u : ℕ) → Late J W j u → t ≤ u)

@@ -1,6 +1,6 @@
 // One turn of the work (document 01, 'Order of work'): at a place of a round, a job and its side, the move with its record, if a rule applies and there is
 // room; and the place after one that rests.
-use profile::Kept;
+use profile::Outline;
 ghost use mathlib.Core.Path.{_≡_};
 ghost use Prim.Native.Nat.{_<_, _≤_};
 ghost use lib.ListN.{length};
@@ -11,7 +11,7 @@ ghost use Rattle.loads.specs.Loads.{Loaded};
 ghost use Rattle.turns.specs.Places.{onwardOf, boundAt};
 ghost use Rattle.turns.specs.Moves.{TurnSays};
 
-// A place of a round: a job, its side, and whether the round has moved a bound so far.
+// A place of a round: a job, its side, and whether the round has moved a bound so behindAll.
 pub struct Place {
     pub job: usize,
     pub side: u32,
@@ -73,7 +73,7 @@ pub fn take_turn(
     count: usize,
     ts: &[u32],
     ld: &[u32],
-    kept: Kept,
+    kept: Outline,
 ) -> Turn
     requires { ⌜ Workable (call (win (now est) (now lct)) (now dur) (now dem) cap (now log)) × (at .job < length (now est)) × (at .side ≤ 1) × Loaded (win (now est) (now lct)) (now dur) (now dem) (now ts) (now ld) kept ⌝ }
     ensures { λ r. ⌜ TurnSays (call (win (now (est .entry)) (now (lct .entry))) (now (dur .entry)) (now (dem .entry)) cap (now (log .entry))) at count (win (now (est .exit)) (now (lct .exit))) (now (log .exit)) r ⌝ }

@@ -1,4 +1,4 @@
--- `rounds::work` meets its contract. The loop's invariant: the state is `Reached` (the moves made so far, whose records stand in the log, and what the
+-- `rounds::work` meets its contract. The loop's invariant: the state is `Reached` (the moves made so behindAll, whose records stand in the log, and what the
 -- defined work still gives from the place reached are the defined run), and the two lists keep the load of the windows reached. The measure is
 -- `weight`. Each arm is one law over `Reached`; after a move the load has followed it.
 use Prim.Native.Nat.{_-_, _<_}
