@@ -6,7 +6,7 @@ use native.Mathlib.Decide.{ℕ-discrete, decLt}
 use mathlib.Core.Path.{_≡_, refl, ap}
 use mathlib.Core.Bool.{Bool, true, false}
 use mathlib.Core.Option.{Option, none, some}
-use Rattle.lists.specs.Searches.{orElse, greatest, least, Greatest, Least, Last, First}
+use Rattle.lists.specs.Searches.{orElse, greatest, least, Greatest, Least, LastWith, FirstWith}
 
 module _ (P : ℕ → Type 0) (f : ℕ → Bool) (sound : (t : ℕ) → f t ≡ true → P t) (full : (t : ℕ) → P t → f t ≡ true) where
   failed : (t u : ℕ) → t ≡ u → f u ≡ false → P t → ⊥
@@ -72,27 +72,27 @@ module _ (P : ℕ → Type 0) (a k : ℕ) where
 -- ---- the last and the first, by a number
 
 module _ {P Q : ℕ → Type 0} (there : (t : ℕ) → P t → Q t) (back : (t : ℕ) → Q t → P t) {a b x : ℕ} where
-  pub last-as : Last P a b x → Last Q a b x
+  pub last-as : LastWith P a b x → LastWith Q a b x
   last-as L =
       record { from = L .from; to = L .to; has = λ t e h. there t (L .has t e h); none-behind = λ t h g q. L .none-behind t h g (back t q) }
 
-  pub first-as : First P a b x → First Q a b x
+  pub first-as : FirstWith P a b x → FirstWith Q a b x
   first-as F = record { from = F .from; to = F .to; has = λ h. there x (F .has h); none-before = λ t h g q. F .none-before t h g (back t q) }
 
 module _ {P : ℕ → Type 0} {a k x : ℕ} where
-  pub last-none : Last P a (a + k) x → x ≤ a → Greatest P a k none
+  pub last-none : LastWith P a (a + k) x → x ≤ a → Greatest P a k none
   last-none L h t i = L .none-behind t (omega (arith, i .from)) (i .to) (i .has)
 
-  pub last-some : Last P a (a + k) x → (t : ℕ) → suc t ≡ x → a ≤ t → Greatest P a k (some t)
+  pub last-some : LastWith P a (a + k) x → (t : ℕ) → suc t ≡ x → a ≤ t → Greatest P a k (some t)
   last-some L t e h = (
     record { from = h; to = omega (arith, L .to); has = L .has t e h },
     λ u i. elim (decLt t u) [ yes d ↦ absurd (L .none-behind u (omega arith) (i .to) (i .has)) | no d ↦ omega arith ],
   )
 
-  pub first-none : First P a (a + k) x → a + k ≤ x → Least P a k none
+  pub first-none : FirstWith P a (a + k) x → a + k ≤ x → Least P a k none
   first-none F h t i = F .none-before t (i .from) (omega (arith, i .to)) (i .has)
 
-  pub first-some : First P a (a + k) x → x < a + k → Least P a k (some x)
+  pub first-some : FirstWith P a (a + k) x → x < a + k → Least P a k (some x)
   first-some F h = (
     record { from = F .from; to = h; has = F .has h },
     λ u i. elim (decLt u x) [ yes d ↦ absurd (F .none-before u (i .from) d (i .has)) | no d ↦ omega arith ],

@@ -13,8 +13,8 @@ use Rattle.lists.specs.Lists.{_!_}
 use Rattle.lists.specs.Tests.{both, either, only, pick, some?}
 use Rattle.lists.specs.Sums.{total}
 use Rattle.lists.specs.Sets.{Set, Sub, Empty, Parts, totalOf, LeastOf, GreatestOf, best, most, fewest}
-use Rattle.lists.proofs.Tests.{both-true, only-le}
-use Rattle.lists.proofs.Sums.{total-le}
+use Rattle.lists.proofs.Tests.{both-true, only-le, only-less}
+use Rattle.lists.proofs.Sums.{total-le, total-less-some}
 
 -- a test that passes and fails
 pub clash : {A : Type 0} (b : Bool) → b ≡ true → b ≡ false → A
@@ -25,6 +25,14 @@ clash b h k = let z : _≡_ {A = ℕ} 0 1 = cc in absurd (omega arith)
 pub totalOf-sub : (n : ℕ) (p : List ℕ) (T O : Set) → Sub n T O → totalOf n p T ≤ totalOf n p O
 unfolding totalOf
 totalOf-sub n p T O h = total-le _ _ n (λ k b. only-le (T k) (O k) (p ! k) (h k b))
+
+-- where a set's total is less, it lacks a member of the other
+pub totalOf-beyond : (n : ℕ) (p : List ℕ) (T O : Set) → totalOf n p T < totalOf n p O → (k : ℕ) × (O k ≡ true) × (T k ≡ false)
+unfolding totalOf
+totalOf-beyond n p T O h =
+    let y = total-less-some (λ k. only (T k) (p ! k)) (λ k. only (O k) (p ! k)) n h in
+    let b = only-less (T (y .0)) (O (y .0)) (p ! (y .0)) (y .2) in
+    (y .0, b .1, b .0)
 
 pub totalOf-same : (n : ℕ) (p : List ℕ) (T O : Set) → Sub n T O → Sub n O T → totalOf n p T ≡ totalOf n p O
 totalOf-same n p T O h g = omega (arith, totalOf-sub n p T O h, totalOf-sub n p O T g)

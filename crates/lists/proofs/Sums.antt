@@ -1,5 +1,5 @@
 -- Sums below a number: term by term, one term, split by a test.
-use Prim.Native.Nat.{ℕ, zero, suc, _+_, _*_, _≤_, _<_}
+use Prim.Native.Nat.{ℕ, zero, suc, _+_, _≤_, _<_}
 use native.Mathlib.Omega.{arith}
 use native.Mathlib.Decide.{ℕ-discrete, decLe}
 use mathlib.Core.Path.{_≡_, refl}
@@ -27,16 +27,11 @@ unfolding total
 total-cong f g zero h = refl
 total-cong f g (suc m) h = omega (arith, total-cong f g m (λ k b. h k (omega arith)), h m (omega arith))
 
-pub total-most : (f : ℕ → ℕ) (b : ℕ) → ((k : ℕ) → f k ≤ b) → (m : ℕ) → total f m ≤ b * m
-unfolding total
-total-most f b h zero = omega arith
-total-most f b h (suc m) = omega (arith, total-most f b h m, h m)
-
 -- where a sum is less, some term is
-pub total-less : (f g : ℕ → ℕ) (m : ℕ) → total f m < total g m → (k : ℕ) × (k < m) × (f k < g k)
+pub total-less-some : (f g : ℕ → ℕ) (m : ℕ) → total f m < total g m → (k : ℕ) × (k < m) × (f k < g k)
 unfolding total
-total-less f g zero h = absurd (omega arith)
-total-less f g (suc m) h = go (λ q. total-less f g m q)
+total-less-some f g zero h = absurd (omega arith)
+total-less-some f g (suc m) h = go (λ q. total-less-some f g m q)
   where
     go : (total f m < total g m → (k : ℕ) × (k < m) × (f k < g k)) → (k : ℕ) × (k < suc m) × (f k < g k)
     go rest = elim (decLe (g m) (f m)) [ yes d ↦ (let y = rest (omega arith) in (y .0, omega (arith, y .1), y .2)) | no d ↦ (m, omega arith, omega arith) ]

@@ -35,9 +35,15 @@ module _ (lo hi t : ℕ) where
   pub between-behind : hi ≤ t → between lo hi t ≡ false
   between-behind a = rw (le-ltb t hi a) (both-false (leb lo t))
 
-pub only-most : (a : Bool) (x : ℕ) → only a x ≤ x
-only-most true x = omega arith
-only-most false x = omega arith
+  -- what counts from lo up to hi
+  pub counts-in : (x : ℕ) → lo ≤ t → t < hi → only (between lo hi t) x ≡ x
+  counts-in x a b = rw (between-yes a b)
+
+  pub counts-before : (x : ℕ) → t < lo → only (between lo hi t) x ≡ 0
+  counts-before x a = rw (between-before a)
+
+  pub counts-behind : (x : ℕ) → hi ≤ t → only (between lo hi t) x ≡ 0
+  counts-behind x a = rw (between-behind a)
 
 pub only-le : (a b : Bool) (x : ℕ) → (a ≡ true → b ≡ true) → only a x ≤ only b x
 only-le true b x h = rw (h refl) (omega arith)

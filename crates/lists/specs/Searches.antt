@@ -40,15 +40,15 @@ abbrev pub Least : (ℕ → Type 0) → ℕ → ℕ → Option ℕ → Type 0
 Least P a k none = (t : ℕ) → In P a k t → ⊥
 Least P a k (some t) = In P a k t × ((u : ℕ) → In P a k u → t ≤ u)
 
--- x is one more than the last t with a ≤ t < b that has P, and a where there is none
-pub record Last (P : ℕ → Type 0) (a b x : ℕ) : Type 0 where
+-- where a ≤ b: x is one more than the last t with a ≤ t < b that has P, and a where there is none
+pub record LastWith (P : ℕ → Type 0) (a b x : ℕ) : Type 0 where
   pub from : a ≤ x
   pub to : x ≤ b
   pub has : (t : ℕ) → suc t ≡ x → a ≤ t → P t
   pub none-behind : (t : ℕ) → x ≤ t → t < b → P t → ⊥
 
--- x is the first t with a ≤ t < b that has P, and b where there is none
-pub record First (P : ℕ → Type 0) (a b x : ℕ) : Type 0 where
+-- where a ≤ b: x is the first t with a ≤ t < b that has P, and b where there is none
+pub record FirstWith (P : ℕ → Type 0) (a b x : ℕ) : Type 0 where
   pub from : a ≤ x
   pub to : x ≤ b
   pub has : x < b → P x

@@ -2,30 +2,22 @@
 use Prim.Native.Nat.{ℕ, _+_, _-_, _*_, _≤_, _<_}
 use native.Mathlib.Omega.{arith}
 use mathlib.Core.Path.{_≡_, refl, sym, _∙_}
+use mathlib.Core.Bool.{true}
 use mathlib.Core.List.{List}
 use lib.ListN.{length}
 use Rattle.lists.specs.Lists.{_!_}
 use Rattle.lists.specs.Tests.{between}
-use Rattle.lists.proofs.Tests.{only-most}
+use Rattle.lists.proofs.Tests.{only-le}
 use Rattle.narrowing.specs.Windows.{win}
 use Rattle.joblist.specs.Limits.{mostTime}
 use Rattle.tabling.specs.Asked.{asked, Workable}
 use Rattle.tabling.proofs.Good.{durations-sized, window-within, demand-most}
 use Rattle.profile.specs.declared.kept.Outline.{Outline}
-use Rattle.profile.specs.Steps.{behindAll, Points}
-use Rattle.profile.specs.Raises.{mostLevel, Low}
-use Rattle.profile.specs.Keeps.{Keeps, Starts, Grows}
+use Rattle.profile.specs.Raises.{mostLevel}
+use Rattle.profile.specs.Keeps.{Keeps, Growable, Starts, Grows}
 use Rattle.profile.proofs.Keeping.{keeps-same, keeps-low}
-use Rattle.loads.specs.Loads.{wholeBelow, Spacious, LoadedAs}
-use Rattle.loads.proofs.Whole.{whole-more, whole-none, whole-most}
-
--- what `grow` asks of the lists
-pub record Growable (ts ld : List ℕ) (k : Outline) (hi r : ℕ) : Type 0 where
-  pub points : Points ts ld (k .m)
-  pub room : k .m + 2 < length ts
-  pub near : hi < behindAll
-  pub low : Low ld (k .m) mostLevel
-  pub small : r ≤ mostLevel
+use Rattle.loads.specs.Loads.{fullBelow, Spacious, LoadedAs}
+use Rattle.loads.proofs.Full.{full-more, full-none, full-most}
 
 -- the lists keep the load of the jobs below k of a workable list
 pub record Building (e l p r before ts ld : List ℕ) (x : Outline) (k : ℕ) : Type 0 where
@@ -34,7 +26,7 @@ pub record Building (e l p r before ts ld : List ℕ) (x : Outline) (k : ℕ) : 
   pub size : length ts ≡ length before
   pub upto : k ≤ length e
   pub few : x .m ≤ 2 * k + 1
-  pub keeps : Keeps (wholeBelow p r (win e l) k) ts ld x
+  pub keeps : Keeps (fullBelow p r (win e l) k) ts ld x
 
 pub building-start : (e l p r : List ℕ) {before ts ld : List ℕ} {x : Outline} → Workable (asked e l p r 0) → Spacious before → Starts before ts ld x → Building e l p r ts ts ld x 0
 building-start e l p r w g S =
@@ -44,7 +36,7 @@ building-start e l p r w g S =
       size = refl;
       upto = omega arith;
       few = omega (arith, S .one);
-      keeps = keeps-same (S .keeps) (wholeBelow p r (win e l) 0) (λ t. sym (whole-none p r (win e l) t));
+      keeps = keeps-same (S .keeps) (fullBelow p r (win e l) 0) (λ t. sym (full-none p r (win e l) t));
     }
 
 pub building-end : {e l p r before ts ld : List ℕ} {x : Outline} {k : ℕ} → Building e l p r before ts ld x k → (first : List ℕ) → length before ≡ length first → length e ≤ k
@@ -63,8 +55,8 @@ module _ {e l p r before ts ld : List ℕ} {x : Outline} {k : ℕ} (B : Building
         size = B .size;
         upto = omega arith;
         few = omega (arith, B .few);
-        keeps = keeps-same (B .keeps) (wholeBelow p r (win e l) (k + 1))
-            (λ t. omega (arith, whole-more p r (win e l) k t, only-most (between (l ! k - p ! k) (e ! k + p ! k) t) (r ! k)));
+        keeps = keeps-same (B .keeps) (fullBelow p r (win e l) (k + 1))
+            (λ t. omega (arith, full-more p r (win e l) k t, only-le (between (l ! k - p ! k) (e ! k + p ! k) t) true (r ! k) (λ q. refl)));
       }
 
   -- job k's numbers
@@ -77,11 +69,11 @@ module _ {e l p r before ts ld : List ℕ} {x : Outline} {k : ℕ} (B : Building
         points = B .keeps .points;
         room = omega (arith, B .few, B .size, B .room, B .workable .good .few);
         near = omega (arith, ends-within);
-        low = keeps-low (B .keeps) mostLevel (λ t. omega (arith, whole-most p r (win e l) (demand-most (B .workable .good)) k t, B .workable .good .few));
+        low = keeps-low (B .keeps) mostLevel (λ t. omega (arith, full-most p r (win e l) (demand-most (B .workable .good)) k t, B .workable .good .few));
         small = omega (arith, demand-most (B .workable .good) k);
       }
 
-  pub building-step : {us le : List ℕ} {y : Outline} → Grows ts ld x (l ! k - p ! k) (e ! k + p ! k) (r ! k) us le y → Building e l p r before us le y (k + 1)
+  pub building-step : {us ls : List ℕ} {y : Outline} → Grows ts ld x (l ! k - p ! k) (e ! k + p ! k) (r ! k) us ls y → Building e l p r before us ls y (k + 1)
   building-step G =
       record {
         workable = B .workable;
@@ -89,5 +81,5 @@ module _ {e l p r before ts ld : List ℕ} {x : Outline} {k : ℕ} (B : Building
         size = G .size ∙ B .size;
         upto = omega arith;
         few = omega (arith, G .few, B .few);
-        keeps = keeps-same (G .keeps (wholeBelow p r (win e l) k) (B .keeps)) (wholeBelow p r (win e l) (k + 1)) (λ t. sym (whole-more p r (win e l) k t));
+        keeps = keeps-same (G .keeps (fullBelow p r (win e l) k) (B .keeps)) (fullBelow p r (win e l) (k + 1)) (λ t. sym (full-more p r (win e l) k t));
       }

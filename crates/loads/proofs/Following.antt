@@ -9,39 +9,30 @@ use lib.ListN.{length, length-set}
 use lib.Seq.{getD-set-same}
 use Rattle.lists.specs.Lists.{_!_}
 use Rattle.lists.specs.Tests.{between, only}
-use Rattle.lists.proofs.Tests.{between-yes, between-before, between-behind}
+use Rattle.lists.proofs.Tests.{counts-in, counts-before, counts-behind}
 use Rattle.narrowing.specs.Windows.{win, Side, early, late, moved}
 use Rattle.joblist.specs.Limits.{jobs, mostTime}
 use Rattle.timetable.specs.Time.{Jobs, load}
 use Rattle.timetable.specs.Table.{jobsOf}
 use Rattle.timetable.proofs.Loads.{load-moved}
 use Rattle.tabling.specs.Asked.{asked, Workable}
+use Rattle.tabling.proofs.Moves.{moved-size}
 use Rattle.tabling.proofs.Good.{durations-sized, ends-sized, demand-most}
 use Rattle.profile.specs.declared.kept.Outline.{Outline}
+use Rattle.profile.specs.Numbers.{IsLesser, IsGreater}
 use Rattle.profile.specs.Raises.{raised, mostLevel}
-use Rattle.profile.specs.Keeps.{Grows}
+use Rattle.profile.specs.Keeps.{Growable, Grows}
 use Rattle.profile.proofs.Keeping.{keeps-same, keeps-low}
-use Rattle.loads.specs.Loads.{whole, Loaded, LoadedAs}
-use Rattle.loads.proofs.Whole.{whole-most, load-whole}
-use Rattle.loads.proofs.Building.{Growable}
+use Rattle.loads.specs.Loads.{fullLoad, Loaded, LoadedAs}
+use Rattle.loads.proofs.Full.{full-most, load-full}
 
 -- what a stretch counts at t
 abbrev counts : ℕ → ℕ → ℕ → ℕ → ℕ
 counts s f t r = only (between s f t) r
 
-module _ (s f t r : ℕ) where
-  counts-in : s ≤ t → t < f → counts s f t r ≡ r
-  counts-in a b = rw (between-yes s f t a b)
-
-  counts-before : t < s → counts s f t r ≡ 0
-  counts-before a = rw (between-before s f t a)
-
-  counts-behind : f ≤ t → counts s f t r ≡ 0
-  counts-behind a = rw (between-behind s f t a)
-
 -- a part that ends at f where it ended at a, and one that begins at s where it began at a
-later : (s a f lo t r : ℕ) → a ≤ f → s ≤ lo → a ≤ lo → (s < a → lo ≡ a) → (a ≤ s → lo ≡ s) → counts s a t r + counts lo f t r ≡ counts s f t r
-later s a f lo t r h u v x y =
+later : (s a f lo t r : ℕ) → a ≤ f → IsGreater s a lo → counts s a t r + counts lo f t r ≡ counts s f t r
+later s a f lo t r h m =
     elim (decLt t s) [
       | yes d ↦ omega (arith, counts-before s a t r d, counts-before s f t r d, counts-before lo f t r (omega arith))
       | no d ↦
@@ -56,10 +47,10 @@ later s a f lo t r h u v x y =
     ]
   where
     reach : (t < s → ⊥) → (t < a → ⊥) → lo ≤ t
-    reach d c = elim (decLt s a) [ yes q ↦ omega (arith, x q) | no q ↦ omega (arith, y (omega arith)) ]
+    reach d c = elim (decLt s a) [ yes q ↦ omega (arith, m .2 q) | no q ↦ omega (arith, m .3 (omega arith)) ]
 
-sooner : (a s f hi t r : ℕ) → s ≤ a → hi ≤ a → hi ≤ f → (a < f → hi ≡ a) → (f ≤ a → hi ≡ f) → counts a f t r + counts s hi t r ≡ counts s f t r
-sooner a s f hi t r h u v x y =
+sooner : (a s f hi t r : ℕ) → s ≤ a → IsLesser a f hi → counts a f t r + counts s hi t r ≡ counts s f t r
+sooner a s f hi t r h m =
     elim (decLt t s) [
       | yes d ↦ omega (arith, counts-before a f t r (omega arith), counts-before s f t r d, counts-before s hi t r d)
       | no d ↦
@@ -74,7 +65,7 @@ sooner a s f hi t r h u v x y =
     ]
   where
     reach : t < f → t < a → t < hi
-    reach b c = elim (decLt a f) [ yes q ↦ omega (arith, x q) | no q ↦ omega (arith, y (omega arith)) ]
+    reach b c = elim (decLt a f) [ yes q ↦ omega (arith, m .2 q) | no q ↦ omega (arith, m .3 (omega arith)) ]
 
 module _ {e l p r : List ℕ} (w : Workable (asked e l p r 0)) (j : ℕ) (d : j < length p) where
   abbrev J : Jobs
@@ -83,24 +74,19 @@ module _ {e l p r : List ℕ} (w : Workable (asked e l p r 0)) (j : ℕ) (d : j 
   listed : j < length e
   listed = omega (arith, durations-sized (w .good))
 
-  now-is : (t : ℕ) → load J (win e l) j t + counts (l ! j - p ! j) (e ! j + p ! j) t (r ! j) ≡ whole p r (win e l) t
-  now-is t = load-whole J (win e l) j t refl listed
+  now-is : (t : ℕ) → load J (win e l) j t + counts (l ! j - p ! j) (e ! j + p ! j) t (r ! j) ≡ fullLoad p r (win e l) t
+  now-is t = load-full J (win e l) j t refl listed
 
   -- side 0 moved from a, side 1 moved from a
-  early-was : (a t : ℕ) → load J (win e l) j t + counts (l ! j - p ! j) (a + p ! j) t (r ! j) ≡ whole p r (moved (win e l) j early a) t
+  early-was : (a t : ℕ) → load J (win e l) j t + counts (l ! j - p ! j) (a + p ! j) t (r ! j) ≡ fullLoad p r (moved (win e l) j early a) t
   early-was a t =
-      let z = load-whole J (moved (win e l) j early a) j t (sym (length-set e j a)) listed in
+      let z = load-full J (moved (win e l) j early a) j t (sym (length-set e j a)) listed in
       rw (load-moved J (win e l) j early a t, getD-set-same e j a 0 listed) at z
 
-  late-was : (a t : ℕ) → load J (win e l) j t + counts (a - p ! j) (e ! j + p ! j) t (r ! j) ≡ whole p r (moved (win e l) j late a) t
+  late-was : (a t : ℕ) → load J (win e l) j t + counts (a - p ! j) (e ! j + p ! j) t (r ! j) ≡ fullLoad p r (moved (win e l) j late a) t
   late-was a t =
-      let z = load-whole J (moved (win e l) j late a) j t refl listed in
+      let z = load-full J (moved (win e l) j late a) j t refl listed in
       rw (load-moved J (win e l) j late a t, getD-set-same l j a 0 (omega (arith, listed, ends-sized (w .good)))) at z
-
-  -- the windows before the move have as many jobs
-  moved-size : (s : Side) (a : ℕ) → jobs (moved (win e l) j s a) ≡ length e
-  moved-size early a = length-set e j a
-  moved-size late a = refl
 
   module _ (s : Side) (a : ℕ) {ts ld : List ℕ} {x : Outline} (L : Loaded (moved (win e l) j s a) p r ts ld x) where
     pub follow-asks : (hi : ℕ) → x .m + 2 < length ts → hi ≤ mostTime → Growable ts ld x hi (r ! j)
@@ -110,29 +96,27 @@ module _ {e l p r : List ℕ} (w : Workable (asked e l p r 0)) (j : ℕ) (d : j 
           room = g;
           near = omega arith;
           low = keeps-low (L .keeps) mostLevel
-              (λ t. omega (arith, whole-most p r (moved (win e l) j s a) (demand-most (w .good)) (jobs (moved (win e l) j s a)) t, moved-size s a, w .good .few));
+              (λ t. omega (arith, full-most p r (moved (win e l) j s a) (demand-most (w .good)) (jobs (moved (win e l) j s a)) t, moved-size (win e l) j s a, w .good .few));
           small = omega (arith, demand-most (w .good) j);
         }
 
-    followed : {lo hi : ℕ} {us le : List ℕ} {y : Outline} → Grows ts ld x lo hi (r ! j) us le y
-        → ((t : ℕ) → raised (whole p r (moved (win e l) j s a)) lo hi (r ! j) t ≡ whole p r (win e l) t) → LoadedAs ts (win e l) p r us le y
+    followed : {lo hi : ℕ} {us ls : List ℕ} {y : Outline} → Grows ts ld x lo hi (r ! j) us ls y
+        → ((t : ℕ) → raised (fullLoad p r (moved (win e l) j s a)) lo hi (r ! j) t ≡ fullLoad p r (win e l) t) → LoadedAs ts (win e l) p r us ls y
     followed G h =
         record {
           size = G .size;
-          loaded = record { keeps = keeps-same (G .keeps (whole p r (moved (win e l) j s a)) (L .keeps)) (whole p r (win e l)) h; room = omega (arith, G .size, L .room) };
+          loaded = record { keeps = keeps-same (G .keeps (fullLoad p r (moved (win e l) j s a)) (L .keeps)) (fullLoad p r (win e l)) h; room = omega (arith, G .size, L .room) };
         }
 
-  module _ (a : ℕ) {ts ld us le : List ℕ} {x y : Outline} where
-    pub followed-early : Loaded (moved (win e l) j early a) p r ts ld x → a ≤ e ! j → (lo : ℕ) → l ! j - p ! j ≤ lo → a + p ! j ≤ lo
-        → (l ! j - p ! j < a + p ! j → lo ≡ a + p ! j) → (a + p ! j ≤ l ! j - p ! j → lo ≡ l ! j - p ! j)
-        → Grows ts ld x lo (e ! j + p ! j) (r ! j) us le y → LoadedAs ts (win e l) p r us le y
-    followed-early L h lo u v m n G =
+  module _ (a : ℕ) {ts ld us ls : List ℕ} {x y : Outline} where
+    pub followed-early : Loaded (moved (win e l) j early a) p r ts ld x → a ≤ e ! j → (lo : ℕ) → IsGreater (l ! j - p ! j) (a + p ! j) lo
+        → Grows ts ld x lo (e ! j + p ! j) (r ! j) us ls y → LoadedAs ts (win e l) p r us ls y
+    followed-early L h lo m G =
         followed early a L G
-        (λ t. omega (arith, early-was a t, now-is t, later (l ! j - p ! j) (a + p ! j) (e ! j + p ! j) lo t (r ! j) (omega arith) u v m n))
+        (λ t. omega (arith, early-was a t, now-is t, later (l ! j - p ! j) (a + p ! j) (e ! j + p ! j) lo t (r ! j) (omega arith) m))
 
-    pub followed-late : Loaded (moved (win e l) j late a) p r ts ld x → l ! j ≤ a → (hi : ℕ) → hi ≤ a - p ! j → hi ≤ e ! j + p ! j
-        → (a - p ! j < e ! j + p ! j → hi ≡ a - p ! j) → (e ! j + p ! j ≤ a - p ! j → hi ≡ e ! j + p ! j)
-        → Grows ts ld x (l ! j - p ! j) hi (r ! j) us le y → LoadedAs ts (win e l) p r us le y
-    followed-late L h hi u v m n G =
+    pub followed-late : Loaded (moved (win e l) j late a) p r ts ld x → l ! j ≤ a → (hi : ℕ) → IsLesser (a - p ! j) (e ! j + p ! j) hi
+        → Grows ts ld x (l ! j - p ! j) hi (r ! j) us ls y → LoadedAs ts (win e l) p r us ls y
+    followed-late L h hi m G =
         followed late a L G
-        (λ t. omega (arith, late-was a t, now-is t, sooner (a - p ! j) (l ! j - p ! j) (e ! j + p ! j) hi t (r ! j) (omega arith) u v m n))
+        (λ t. omega (arith, late-was a t, now-is t, sooner (a - p ! j) (l ! j - p ! j) (e ! j + p ! j) hi t (r ! j) (omega arith) m))

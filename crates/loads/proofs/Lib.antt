@@ -1,3 +1,3 @@
-pub mod Whole
+pub mod Full
 pub mod Building
 pub mod Following

@@ -3,9 +3,7 @@ use Prim.Native.Nat.{ℕ, _+_, _*_, _<_}
 use mathlib.Core.Path.{_≡_}
 use mathlib.Core.List.{List}
 use lib.ListN.{length}
-use Rattle.lists.specs.Lists.{_!_}
-use Rattle.lists.specs.Tests.{only}
-use Rattle.lists.specs.Sums.{total}
+use Rattle.lists.specs.Sets.{totalOf}
 use Rattle.narrowing.specs.Windows.{Win}
 use Rattle.joblist.specs.Limits.{mostJobs, jobs}
 use Rattle.timetable.specs.Time.{sure}
@@ -13,13 +11,13 @@ use Rattle.profile.specs.declared.kept.Outline.{Outline}
 use Rattle.profile.specs.Keeps.{Keeps}
 
 -- the demands of the jobs below m whose sure part holds t
-unfoldable pub wholeBelow : List ℕ → List ℕ → Win → ℕ → ℕ → ℕ
-unfolding total sure
-wholeBelow p r W m t = total (λ k. only (sure p W k t) (r ! k)) m
+unfoldable pub fullBelow : List ℕ → List ℕ → Win → ℕ → ℕ → ℕ
+unfolding totalOf sure
+fullBelow p r W m t = totalOf m r (λ k. sure p W k t)
 
 -- of all jobs
-abbrev pub whole : List ℕ → List ℕ → Win → ℕ → ℕ
-whole p r W = wholeBelow p r W (jobs W)
+abbrev pub fullLoad : List ℕ → List ℕ → Win → ℕ → ℕ
+fullLoad p r W = fullBelow p r W (jobs W)
 
 -- a list long enough for the points of any jobs: two for each, one at 0, and `behindAll`
 abbrev pub Spacious : List ℕ → Type 0
@@ -27,7 +25,7 @@ Spacious ts = 2 * mostJobs + 1 < length ts
 
 -- the lists keep the load of the windows W, and are long enough
 pub record Loaded (W : Win) (p r ts ld : List ℕ) (k : Outline) : Type 0 where
-  pub keeps : Keeps (whole p r W) ts ld k
+  pub keeps : Keeps (fullLoad p r W) ts ld k
   pub room : Spacious ts
 
 -- and as long as they were

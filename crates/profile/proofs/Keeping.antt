@@ -31,9 +31,9 @@ pub grows-none : (ts ld : List ℕ) (k : Outline) (lo hi r : ℕ) → hi ≤ lo 
 grows-none ts ld k lo hi r h =
     record { size = refl; few = omega arith; keeps = λ f K. keeps-same K (raised f lo hi r) (λ t. raised-none f lo hi r t h) }
 
-pub grows : (ts ld : List ℕ) (k : Outline) (lo hi r : ℕ) (us le : List ℕ) (n : Outline) (top : ℕ) → Raises ts ld (k .m) lo hi r us le (n .m) top
-    → k .peak ≤ n .peak → top ≤ n .peak → Grows ts ld k lo hi r us le n
-grows ts ld k lo hi r us le n top R a b =
+pub grows : (ts ld : List ℕ) (k : Outline) (lo hi r : ℕ) (us ls : List ℕ) (n : Outline) (top : ℕ) → Raises ts ld (k .m) lo hi r us ls (n .m) top
+    → k .peak ≤ n .peak → top ≤ n .peak → Grows ts ld k lo hi r us ls n
+grows ts ld k lo hi r us ls n top R a b =
     record {
       size = R .size;
       few = R .few;
@@ -56,8 +56,8 @@ module _ (ts ld : List ℕ) (h : 1 < length ts) (s : length ld ≡ length ts) wh
   abbrev us : List ℕ
   us = set (set ts 0 0) 1 behindAll
 
-  abbrev le : List ℕ
-  le = set ld 0 0
+  abbrev ls : List ℕ
+  ls = set ld 0 0
 
   size-us : length us ≡ length ts
   size-us = length-set (set ts 0 0) 1 behindAll ∙ length-set ts 0 0
@@ -68,22 +68,24 @@ module _ (ts ld : List ℕ) (h : 1 < length ts) (s : length ld ≡ length ts) wh
   at-1 : us ! 1 ≡ behindAll
   at-1 = getD-set-same (set ts 0 0) 1 behindAll 0 (omega (arith, length-set ts 0 0))
 
-  level-0 : le ! 0 ≡ 0
+  level-0 : ls ! 0 ≡ 0
   level-0 = getD-set-same ld 0 0 0 (omega arith)
 
-  pub starts : Starts ts us le (record { m = 1; peak = 0 })
+  pub starts : Starts ts us ls (record { m = 1; peak = 0 })
   starts =
       record {
         size = size-us;
         one = refl;
         keeps = record {
           points = record {
-            some = omega arith;
-            inside = omega (arith, size-us);
+            grid = record {
+              some = omega arith;
+              inside = omega (arith, size-us);
+              start = at-0;
+              end = at-1;
+              rises = λ i b. let e : i ≡ 0 = omega arith in rw e (omega (arith, at-0, at-1));
+            };
             beside = omega (arith, size-us, length-set ld 0 0);
-            start = at-0;
-            end = at-1;
-            rises = λ i b. let e : i ≡ 0 = omega arith in rw e (omega (arith, at-0, at-1));
           };
           levels = λ i t b u v. let e : i ≡ 0 = omega arith in rw e level-0;
           peak = λ t. omega arith;

@@ -3,29 +3,27 @@ use Prim.Native.Nat.{ℕ, zero, suc, _+_, _≤_, _<_}
 use native.Mathlib.Omega.{arith}
 use native.Mathlib.Numerals.{add-one}
 use native.Mathlib.Decide.{decLt, decLe}
-use mathlib.Core.Path.{_≡_, sym, ap, _∙_}
-use mathlib.Core.Bool.{Bool}
+use mathlib.Core.Path.{_≡_, sym, _∙_}
 use mathlib.Core.List.{List}
 use lib.ListN.{length}
 use Rattle.lists.specs.Lists.{_!_}
-use Rattle.lists.specs.Tests.{only}
-use Rattle.lists.proofs.Tests.{between-yes, between-before, between-behind}
-use Rattle.profile.specs.Steps.{behindAll, Points, Levels, Piece}
+use Rattle.lists.proofs.Tests.{counts-in, counts-before, counts-behind}
+use Rattle.profile.specs.Steps.{behindAll, Grid, Points, Levels, Piece}
 use Rattle.profile.specs.Raises.{raised, CutAt, Lifted, Low}
 use Rattle.profile.proofs.Pieces.{in-order}
 
-pub raised-in : (f : ℕ → ℕ) (lo hi r t : ℕ) → lo ≤ t → t < hi → raised f lo hi r t ≡ f t + r
-raised-in f lo hi r t a b = ap (λ (q : Bool). f t + only q r) (between-yes lo hi t a b)
+raised-in : (f : ℕ → ℕ) (lo hi r t : ℕ) → lo ≤ t → t < hi → raised f lo hi r t ≡ f t + r
+raised-in f lo hi r t a b = omega (arith, counts-in lo hi t r a b)
 
 pub raised-before : (f : ℕ → ℕ) (lo hi r t : ℕ) → t < lo → raised f lo hi r t ≡ f t
-raised-before f lo hi r t a = ap (λ (q : Bool). f t + only q r) (between-before lo hi t a) ∙ omega arith
+raised-before f lo hi r t a = omega (arith, counts-before lo hi t r a)
 
 pub raised-behind : (f : ℕ → ℕ) (lo hi r t : ℕ) → hi ≤ t → raised f lo hi r t ≡ f t
-raised-behind f lo hi r t a = ap (λ (q : Bool). f t + only q r) (between-behind lo hi t a) ∙ omega arith
+raised-behind f lo hi r t a = omega (arith, counts-behind lo hi t r a)
 
 -- every time before `behindAll` lies in a piece
-pub piece-of : {ts ld : List ℕ} {m : ℕ} → Points ts ld m → (t : ℕ) → t < behindAll → (q : ℕ) × Piece ts m t q
-piece-of {ts} {ld} {m} P t h = go m (omega arith) (omega (arith, P .end))
+piece-of : {ts : List ℕ} {m : ℕ} → Grid ts m → (t : ℕ) → t < behindAll → (q : ℕ) × Piece ts m t q
+piece-of {ts} {m} P t h = go m (omega arith) (omega (arith, P .end))
   where
     go : (n : ℕ) → n ≤ m → t < ts ! n → (q : ℕ) × Piece ts m t q
     go zero b l = absurd (omega (arith, P .start))
@@ -38,18 +36,18 @@ piece-of {ts} {ld} {m} P t h = go m (omega arith) (omega (arith, P .end))
 
 -- a level is a value of the function
 pub level-low : {ts ld : List ℕ} {m : ℕ} → Points ts ld m → (f : ℕ → ℕ) → Levels ts ld m f → (b : ℕ) → ((t : ℕ) → f t ≤ b) → Low ld m b
-level-low {ts} P f L b h i d = omega (arith, L i (ts ! i) d (omega arith) (P .rises i d), h (ts ! i))
+level-low {ts} P f L b h i d = omega (arith, L i (ts ! i) d (omega arith) (P .grid .rises i d), h (ts ! i))
 
--- n points in us and le keep each function that the m points in ts and ld kept, raised by r from lo up to hi; it is at most `top` there
-pub record Raises (ts ld : List ℕ) (m lo hi r : ℕ) (us le : List ℕ) (n top : ℕ) : Type 0 where
-  pub points : Points us le n
+-- n points in us and ls keep each function that the m points in ts and ld kept, raised by r from lo up to hi; it is at most `top` there
+pub record Raises (ts ld : List ℕ) (m lo hi r : ℕ) (us ls : List ℕ) (n top : ℕ) : Type 0 where
+  pub points : Points us ls n
   pub size : length us ≡ length ts
   pub few : n ≤ m + 2
-  pub levels : (f : ℕ → ℕ) → Levels ts ld m f → Levels us le n (raised f lo hi r)
-  pub most : (f : ℕ → ℕ) → Levels us le n f → (t : ℕ) → lo ≤ t → t < hi → f t ≤ top
+  pub levels : (f : ℕ → ℕ) → Levels ts ld m f → Levels us ls n (raised f lo hi r)
+  pub most : (f : ℕ → ℕ) → Levels us ls n f → (t : ℕ) → lo ≤ t → t < hi → f t ≤ top
 
-module _ {ts ld us le vs lf : List ℕ} {m lo hi n₁ i n₂ k : ℕ} (C : CutAt ts ld m lo us le n₁ i) (h : lo < hi) (far-hi : hi < behindAll)
-    (D : CutAt us le n₁ hi vs lf n₂ k)
+module _ {ts ld us ls vs lf : List ℕ} {m lo hi n₁ i n₂ k : ℕ} (C : CutAt ts ld m lo us ls n₁ i) (h : lo < hi) (near : hi < behindAll)
+    (D : CutAt us ls n₁ hi vs lf n₂ k)
   where
     -- the first point is still there, before the second
     from-here : vs ! i ≡ lo
@@ -59,7 +57,7 @@ module _ {ts ld us le vs lf : List ℕ} {m lo hi n₁ i n₂ k : ℕ} (C : CutAt
     before-to =
         elim (decLt i k) [
           | yes d ↦ d
-          | no d ↦ absurd (omega (arith, in-order (D .points) k i (omega arith) i-in, D .here, from-here))
+          | no d ↦ absurd (omega (arith, in-order (D .points .grid) k i (omega arith) i-in, D .here, from-here))
         ]
       where
         i-in : i ≤ n₂
@@ -72,14 +70,7 @@ module _ {ts ld us le vs lf : List ℕ} {m lo hi n₁ i n₂ k : ℕ} (C : CutAt
       pub raises : Raises ts ld m lo hi r vs lg n₂ top
       raises =
           record {
-            points = record {
-              some = D .points .some;
-              inside = D .points .inside;
-              beside = L .size ∙ D .points .beside;
-              start = D .points .start;
-              end = D .points .end;
-              rises = D .points .rises;
-            };
+            points = record { grid = D .points .grid; beside = L .size ∙ D .points .beside };
             size = D .size ∙ C .size;
             few = omega (arith, C .few, D .few);
             levels = λ f F. lifted f (D .levels f (C .levels f F));
@@ -91,7 +82,7 @@ module _ {ts ld us le vs lf : List ℕ} {m lo hi n₁ i n₂ k : ℕ} (C : CutAt
               elim (decLt q i) [
                 | yes d ↦
                     L .before q d ∙ F q t b u v
-                    ∙ sym (raised-before f lo hi r t (omega (arith, in-order (D .points) (q + 1) i (omega arith) (omega (arith, before-to, D .listed)), from-here)))
+                    ∙ sym (raised-before f lo hi r t (omega (arith, in-order (D .points .grid) (q + 1) i (omega arith) (omega (arith, before-to, D .listed)), from-here)))
                 | no d ↦
                     elim (decLt q k) [
                       | yes e ↦
@@ -100,28 +91,28 @@ module _ {ts ld us le vs lf : List ℕ} {m lo hi n₁ i n₂ k : ℕ} (C : CutAt
                             L .inside q (omega arith) e,
                             F q t b u v,
                             raised-in f lo hi r t
-                                (omega (arith, in-order (D .points) i q (omega arith) (omega arith), from-here))
-                                (omega (arith, in-order (D .points) (q + 1) k (omega arith) (omega (arith, D .listed)), D .here)),
+                                (omega (arith, in-order (D .points .grid) i q (omega arith) (omega arith), from-here))
+                                (omega (arith, in-order (D .points .grid) (q + 1) k (omega arith) (omega (arith, D .listed)), D .here)),
                           )
                       | no e ↦
                           L .behind q (omega arith) ∙ F q t b u v
-                          ∙ sym (raised-behind f lo hi r t (omega (arith, in-order (D .points) k q (omega arith) (omega arith), D .here)))
+                          ∙ sym (raised-behind f lo hi r t (omega (arith, in-order (D .points .grid) k q (omega arith) (omega arith), D .here)))
                     ]
               ]
 
           most : (f : ℕ → ℕ) → Levels vs lg n₂ f → (t : ℕ) → lo ≤ t → t < hi → f t ≤ top
           most f F t a b =
-              let p = piece-of (D .points) t (omega arith) in
+              let p = piece-of (D .points .grid) t (omega arith) in
               let q = p .0 in
               let x = p .1 in
               let first : i ≤ q =
               elim (decLt q i) [
-                | yes d ↦ absurd (omega (arith, in-order (D .points) (q + 1) i (omega arith) (omega (arith, before-to, D .listed)), from-here, x .to))
+                | yes d ↦ absurd (omega (arith, in-order (D .points .grid) (q + 1) i (omega arith) (omega (arith, before-to, D .listed)), from-here, x .to))
                 | no d ↦ omega arith
               ] in
               let last : q < k =
               elim (decLt q k) [
                 | yes d ↦ d
-                | no d ↦ absurd (omega (arith, in-order (D .points) k q (omega arith) (omega (arith, x .listed)), D .here, x .from))
+                | no d ↦ absurd (omega (arith, in-order (D .points .grid) k q (omega arith) (omega (arith, x .listed)), D .here, x .from))
               ] in
               omega (arith, F q t (x .listed) (x .from) (x .to), L .most q first last)

@@ -5,7 +5,7 @@ use native.Mathlib.Decide.{decLt, ℕ-discrete}
 use mathlib.Core.Path.{_≡_}
 use mathlib.Core.List.{List}
 use Rattle.lists.specs.Lists.{_!_}
-use Rattle.lists.specs.Searches.{Last, First}
+use Rattle.lists.specs.Searches.{LastWith, FirstWith}
 use Rattle.profile.specs.Steps.{behindAll, Points, Levels, Piece}
 
 module _ (ts ld : List ℕ) (m limit a b : ℕ) where
@@ -22,16 +22,16 @@ module _ (ts ld : List ℕ) (m limit a b : ℕ) where
 
   -- what a search finds of every function kept
   abbrev LastAt : ℕ → Type 0
-  LastAt x = (f : ℕ → ℕ) → Levels ts ld m f → Last (λ t. limit < f t) a b x
+  LastAt x = (f : ℕ → ℕ) → Levels ts ld m f → LastWith (λ t. limit < f t) a b x
 
   abbrev FirstAt : ℕ → Type 0
-  FirstAt x = (f : ℕ → ℕ) → Levels ts ld m f → First (λ t. limit < f t) a b x
+  FirstAt x = (f : ℕ → ℕ) → Levels ts ld m f → FirstWith (λ t. limit < f t) a b x
 
   -- the walk is at piece i, which lies in the stretch
   pub record At (i : ℕ) : Type 0 where
     pub points : Points ts ld m
     pub apart : a < b
-    pub near : b ≤ behindAll
+    pub near : b < behindAll
     pub listed : i < m
     pub before : ts ! i < b
     pub ahead : a < ts ! (i + 1)
@@ -41,7 +41,7 @@ module _ (ts ld : List ℕ) (m limit a b : ℕ) where
     pub at : At i
     pub clear : Clear (ts ! (i + 1)) b
 
-  pub down-start : Points ts ld m → a < b → b ≤ behindAll → (i : ℕ) → Piece ts m (b - 1) i → Down i
+  pub down-start : Points ts ld m → a < b → b < behindAll → (i : ℕ) → Piece ts m (b - 1) i → Down i
   down-start P h g i p =
       record {
         at = record { points = P; apart = h; near = g; listed = p .listed; before = omega (arith, p .from); ahead = omega (arith, p .to) };
@@ -56,14 +56,14 @@ module _ (ts ld : List ℕ) (m limit a b : ℕ) where
     down-inner q = go i q
       where
         go : (k : ℕ) → a < ts ! k → 1 ≤ k
-        go zero z = absurd (omega (arith, D .at .points .start))
+        go zero z = absurd (omega (arith, D .at .points .grid .start))
         go (suc k) z = omega arith
 
     pub down-step : ld ! i ≤ limit → a < ts ! i → Down (i - 1)
     down-step q r =
         let z = down-inner r in
         let e : i - 1 + 1 ≡ i = omega arith in
-        let up : ts ! (i - 1) < ts ! i = rw e at (D .at .points .rises (i - 1) (omega (arith, D .at .listed))) in
+        let up : ts ! (i - 1) < ts ! i = rw e at (D .at .points .grid .rises (i - 1) (omega (arith, D .at .listed))) in
         record {
           at = record {
             points = D .at .points;
@@ -88,11 +88,11 @@ module _ (ts ld : List ℕ) (m limit a b : ℕ) where
     pub down-found : limit < ld ! i → (x : ℕ) → (ts ! (i + 1) < b → x ≡ ts ! (i + 1)) → (b ≤ ts ! (i + 1) → x ≡ b) → LastAt x
     down-found q x s u f L =
         elim (decLt (ts ! (i + 1)) b) [
-          | yes d ↦ go (ts ! (i + 1)) (s d) (omega (arith, D .at .ahead)) (D .at .points .rises i (D .at .listed)) (omega arith) (omega arith) (λ t k l. D .clear f L t k l)
+          | yes d ↦ go (ts ! (i + 1)) (s d) (omega (arith, D .at .ahead)) (D .at .points .grid .rises i (D .at .listed)) (omega arith) (omega arith) (λ t k l. D .clear f L t k l)
           | no d ↦ go b (u (omega arith)) (omega (arith, D .at .apart)) (D .at .before) (omega arith) (omega arith) (λ t k l. absurd (omega arith))
         ]
       where
-        go : (y : ℕ) → x ≡ y → a ≤ y → ts ! i < y → y ≤ ts ! (i + 1) → y ≤ b → ((t : ℕ) → y ≤ t → t < b → f t ≤ limit) → Last (λ t. limit < f t) a b x
+        go : (y : ℕ) → x ≡ y → a ≤ y → ts ! i < y → y ≤ ts ! (i + 1) → y ≤ b → ((t : ℕ) → y ≤ t → t < b → f t ≤ limit) → LastWith (λ t. limit < f t) a b x
         go y e n o k l c =
             rw e
             record {
@@ -107,7 +107,7 @@ module _ (ts ld : List ℕ) (m limit a b : ℕ) where
     pub at : At i
     pub clear : Clear a (ts ! i)
 
-  pub up-start : Points ts ld m → a < b → b ≤ behindAll → (i : ℕ) → Piece ts m a i → Up i
+  pub up-start : Points ts ld m → a < b → b < behindAll → (i : ℕ) → Piece ts m a i → Up i
   up-start P h g i p =
       record {
         at = record { points = P; apart = h; near = g; listed = p .listed; before = omega (arith, p .from); ahead = p .to };
@@ -121,7 +121,7 @@ module _ (ts ld : List ℕ) (m limit a b : ℕ) where
     up-inner : ts ! (i + 1) < b → i + 1 < m
     up-inner q =
         elim (ℕ-discrete (i + 1) m) [
-          | yes e ↦ absurd (omega (arith, rw e at q, D .at .points .end, D .at .near))
+          | yes e ↦ absurd (omega (arith, rw e at q, D .at .points .grid .end, D .at .near))
           | no e ↦ omega (arith, D .at .listed)
         ]
 
@@ -134,7 +134,7 @@ module _ (ts ld : List ℕ) (m limit a b : ℕ) where
             near = D .at .near;
             listed = up-inner r;
             before = r;
-            ahead = omega (arith, D .at .ahead, D .at .points .rises (i + 1) (up-inner r));
+            ahead = omega (arith, D .at .ahead, D .at .points .grid .rises (i + 1) (up-inner r));
           };
           clear = past q;
         }
@@ -152,9 +152,9 @@ module _ (ts ld : List ℕ) (m limit a b : ℕ) where
     up-found q x s u f L =
         elim (decLt (ts ! i) a) [
           | yes d ↦ go a (s d) (omega arith) (omega arith) (D .at .ahead) (omega (arith, D .at .apart)) (λ t k l. absurd (omega arith))
-          | no d ↦ go (ts ! i) (u (omega arith)) (omega arith) (omega arith) (D .at .points .rises i (D .at .listed)) (omega (arith, D .at .before)) (λ t k l. D .clear f L t k l)
+          | no d ↦ go (ts ! i) (u (omega arith)) (omega arith) (omega arith) (D .at .points .grid .rises i (D .at .listed)) (omega (arith, D .at .before)) (λ t k l. D .clear f L t k l)
         ]
       where
-        go : (y : ℕ) → x ≡ y → a ≤ y → ts ! i ≤ y → y < ts ! (i + 1) → y ≤ b → ((t : ℕ) → a ≤ t → t < y → f t ≤ limit) → First (λ t. limit < f t) a b x
+        go : (y : ℕ) → x ≡ y → a ≤ y → ts ! i ≤ y → y < ts ! (i + 1) → y ≤ b → ((t : ℕ) → a ≤ t → t < y → f t ≤ limit) → FirstWith (λ t. limit < f t) a b x
         go y e n o k l c =
             rw e record { from = n; to = l; has = λ d. omega (arith, L i y (D .at .listed) o k); none-before = λ t v w z. omega (arith, c t v w) }

@@ -1,3 +1,4 @@
+pub mod Numbers
 pub mod Steps
 pub mod Raises
 pub mod Keeps

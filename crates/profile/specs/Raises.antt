@@ -24,24 +24,24 @@ abbrev pub Low : List ℕ → ℕ → ℕ → Type 0
 Low ld m b = (i : ℕ) → i < m → ld ! i ≤ b
 
 -- a point at x, at place `at` of now n points: the lists keep the same functions, and points before x stay where they are
-pub record CutAt (ts ld : List ℕ) (m x : ℕ) (us le : List ℕ) (n at : ℕ) : Type 0 where
-  pub points : Points us le n
+pub record CutAt (ts ld : List ℕ) (m x : ℕ) (us ls : List ℕ) (n at : ℕ) : Type 0 where
+  pub points : Points us ls n
   pub size : length us ≡ length ts
   pub many : m ≤ n
   pub few : n ≤ m + 1
   pub listed : at < n
   pub here : us ! at ≡ x
   pub stay : (q : ℕ) → q < m → ts ! q < x → us ! q ≡ ts ! q
-  pub low : (b : ℕ) → Low ld m b → Low le n b
-  pub levels : (f : ℕ → ℕ) → Levels ts ld m f → Levels us le n f
+  pub low : (b : ℕ) → Low ld m b → Low ls n b
+  pub levels : (f : ℕ → ℕ) → Levels ts ld m f → Levels us ls n f
 
 -- the levels from place i up to place k lifted by r, and `top` at least each of them
-pub record Lifted (ld : List ℕ) (i k r : ℕ) (le : List ℕ) (top : ℕ) : Type 0 where
-  pub size : length le ≡ length ld
-  pub before : (q : ℕ) → q < i → le ! q ≡ ld ! q
-  pub inside : (q : ℕ) → i ≤ q → q < k → le ! q ≡ ld ! q + r
-  pub behind : (q : ℕ) → k ≤ q → le ! q ≡ ld ! q
-  pub most : (q : ℕ) → i ≤ q → q < k → le ! q ≤ top
+pub record Lifted (ld : List ℕ) (i k r : ℕ) (ls : List ℕ) (top : ℕ) : Type 0 where
+  pub size : length ls ≡ length ld
+  pub before : (q : ℕ) → q < i → ls ! q ≡ ld ! q
+  pub inside : (q : ℕ) → i ≤ q → q < k → ls ! q ≡ ld ! q + r
+  pub behind : (q : ℕ) → k ≤ q → ls ! q ≡ ld ! q
+  pub most : (q : ℕ) → i ≤ q → q < k → ls ! q ≤ top
 
 -- levels and raises are at most this, so that their sum is a number of 32 bits
 abbrev pub mostLevel : ℕ

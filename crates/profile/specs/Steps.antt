@@ -10,14 +10,18 @@ use Rattle.lists.specs.Lists.{_!_}
 abbrev pub behindAll : ℕ
 behindAll = 2147483647
 
--- m points in ts, and room for their levels in ld
-pub record Points (ts ld : List ℕ) (m : ℕ) : Type 0 where
+-- m points in ts: they rise from 0 on, and `behindAll` stands behind the last
+pub record Grid (ts : List ℕ) (m : ℕ) : Type 0 where
   pub some : 1 ≤ m
   pub inside : m < length ts
-  pub beside : length ld ≡ length ts
   pub start : ts ! 0 ≡ 0
   pub end : ts ! m ≡ behindAll
   pub rises : (i : ℕ) → i < m → ts ! i < ts ! (i + 1)
+
+-- and as many places for levels in ld
+pub record Points (ts ld : List ℕ) (m : ℕ) : Type 0 where
+  pub grid : Grid ts m
+  pub beside : length ld ≡ length ts
 
 -- from each point up to the next the function f is the level beside it
 abbrev pub Levels : List ℕ → List ℕ → ℕ → (ℕ → ℕ) → Type 0

@@ -4,11 +4,9 @@ use crate::points::cut;
 use crate::points::greater;
 use crate::points::lift;
 ghost use mathlib.Core.Path.{_≡_};
-ghost use Prim.Native.Nat.{_+_, _<_, _≤_};
+ghost use Prim.Native.Nat.{_<_};
 ghost use lib.ListN.{length};
-ghost use Rattle.profile.specs.Steps.{behindAll, Points};
-ghost use Rattle.profile.specs.Raises.{mostLevel, Low};
-ghost use Rattle.profile.specs.Keeps.{Starts, Grows};
+ghost use Rattle.profile.specs.Keeps.{Growable, Starts, Grows};
 
 // How many points there are, and a level that the function nowhere passes.
 pub struct Outline {
@@ -29,7 +27,7 @@ pub fn start(ts: &mut [u32], ld: &mut [u32]) -> Outline
 
 // The function raised by r from lo up to hi; as it is, where lo is not before hi.
 pub fn grow(ts: &mut [u32], ld: &mut [u32], kept: Outline, lo: u32, hi: u32, r: u32) -> Outline
-    requires { ⌜ Points (now ts) (now ld) (kept .m) × (kept .m + 2 < length (now ts)) × (hi < behindAll) × Low (now ld) (kept .m) mostLevel × (r ≤ mostLevel) ⌝ }
+    requires { ⌜ Growable (now ts) (now ld) kept hi r ⌝ }
     ensures { λ x. ⌜ Grows (now (ts .entry)) (now (ld .entry)) kept lo hi r (now (ts .exit)) (now (ld .exit)) x ⌝ }
 {
     if hi <= lo {

@@ -2,12 +2,12 @@
 // it up to the next. It knows nothing of jobs.
 mod kept; // kept.rt: a function with its number of points and its peak
 mod points; // points.rt: the piece in which a time lies, a point put at a time, levels lifted
-mod searches; // searches.rt: the last and the first time of a stretch over a limit
+mod over; // over.rt: the last and the first time of a stretch over a limit
 
 pub use kept::Outline;
 pub use kept::grow;
 pub use kept::start;
+pub use over::first_over;
+pub use over::last_over;
 pub use points::greater;
 pub use points::lesser;
-pub use searches::first_over;
-pub use searches::last_over;

@@ -1,12 +1,12 @@
 -- The kept load from turn to turn: after a move the windows before it are those with the bound put back, and no bound has been loosened.
-use Prim.Native.Nat.{ℕ, zero, suc, _≤_, _<_}
+use Prim.Native.Nat.{ℕ, suc, _≤_, _<_}
 use native.Mathlib.Omega.{arith}
-use mathlib.Core.Path.{_≡_, refl, sym, ap, subst, _∙_}
-use mathlib.Core.List.{List, [], _∷_}
-use lib.ListN.{set}
-use lib.Seq.{set-getD, getD-set-same}
+use mathlib.Core.Path.{_≡_, sym, ap, subst, _∙_}
+use mathlib.Core.List.{List}
+use lib.Seq.{set-set, set-getD, getD-set-same}
 use Rattle.lists.specs.Lists.{_!_}
 use Rattle.narrowing.specs.Windows.{Win, win, Side, early, late, moved, sideOf, Respects}
+use Rattle.narrowing.proofs.Moves.{side-early, side-late}
 use Rattle.joblist.specs.Limits.{jobs, mostTime}
 use Rattle.timetable.specs.Time.{Applies, bound}
 use Rattle.timetable.specs.Table.{Call, call, jobsOf}
@@ -17,14 +17,8 @@ use Rattle.tabling.proofs.Steps.{good-cap}
 use Rattle.profile.specs.declared.kept.Outline.{Outline}
 use Rattle.loads.specs.Loads.{Loaded}
 use Rattle.turns.specs.declared.Place.{Place}
-use Rattle.turns.specs.Places.{boundAt}
+use Rattle.rounds.specs.Work.{boundAt}
 use Rattle.turns.specs.Moves.{Moves}
-
--- the last of two stores is the one that stays
-set-set : (xs : List ℕ) (j a b : ℕ) → set (set xs j a) j b ≡ set xs j b
-set-set [] j a b = refl
-set-set (x ∷ xs) zero a b = refl
-set-set (x ∷ xs) (suc j) a b = ap (λ (ys : List ℕ). x ∷ ys) (set-set xs j a b)
 
 put-back : (W : Win) (j : ℕ) (s : Side) (b : ℕ) → moved (moved W j s b) j s (boundAt W j s) ≡ W
 put-back W j early b = ap (λ (e : List ℕ). win e (W .l)) (set-set (W .e) j b (W .e ! j) ∙ set-getD (W .e) j 0)
@@ -60,3 +54,11 @@ module _ (c : Call) (at : Place) (count t : ℕ) (W′ : Win) (log′ : List ℕ
   kept-before {ts} {ld} {k} L =
       subst (λ (U : Win). Loaded U (c .p) (c .r) ts ld k)
       (sym (ap (λ (U : Win). moved U (at .job) (sideOf (at .side)) old) (m .windows) ∙ put-back (c .win) (at .job) (sideOf (at .side)) (bound (sideOf (at .side)) t))) L
+
+-- ---- the bound, by the number of its side
+
+pub bound-early : (e l : List ℕ) (j side : ℕ) → side ≡ 0 → e ! j ≡ boundAt (win e l) j (sideOf side)
+bound-early e l j side h = rw (side-early side h)
+
+pub bound-late : (e l : List ℕ) (j side : ℕ) → (side ≡ 0 → ⊥) → l ! j ≡ boundAt (win e l) j (sideOf side)
+bound-late e l j side h = rw (side-late side h)

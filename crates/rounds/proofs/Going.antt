@@ -1,4 +1,4 @@
--- The work under way, for any search: the moves made so behindAll and what the defined work still gives from the place reached are the defined run.
+-- The work under way, for any search: the moves made so far and what the defined work still gives from the place reached are the defined run.
 -- Each law is one way that a turn of the loop goes: the place rests, the round is over, a move finds no room, a move closes its window, a move is made.
 use Prim.Native.Nat.{ℕ, zero, suc, _+_, _-_, _*_, _≤_, _<_}
 use native.Mathlib.Omega.{arith}
@@ -24,7 +24,7 @@ pub record Going (R : Search) (room : ℕ) (W₀ W : Win) (at : Place) (ms : Lis
   pub one-side : at .side ≤ 1
   pub quota : length ms ≤ room
   pub same : written ms (work R (room - length ms) W (at .job) (sideOf (at .side))) ≡ run R room W₀
-  -- a round that has changed nothing so behindAll: what is left of it is all that the whole round has
+  -- a round that has changed nothing so far: what is left of it is all that the fullLoad round has
   pub quiet : at .changed ≡ false → first R W (R .n) 0 ≡ resume R W (at .job) (sideOf (at .side))
   -- no job is left only where the round has changed nothing
   pub over : at .job ≡ R .n → (at .changed ≡ false) × (at .side ≡ 0)

@@ -5,8 +5,8 @@ use mathlib.Core.Path.{_≡_, refl, sym, ap, subst, _∙_}
 use mathlib.Core.Bool.{Bool, true, false}
 use mathlib.Core.List.{List, [], _∷_, _++_, map}
 use mathlib.Core.Option.{Option, none, some}
-use lib.ListN.{length, length-set, length-append}
-use Rattle.narrowing.specs.Windows.{Win, Side, early, late, moved, closes, sideOf}
+use lib.ListN.{length, length-append}
+use Rattle.narrowing.specs.Windows.{Win, moved, closes, sideOf}
 use Rattle.narrowing.specs.Search.{Move, move}
 use Rattle.narrowing.specs.Run.{Out, settled, clash, short}
 use Rattle.answers.specs.declared.Answer.{Answer}
@@ -17,7 +17,7 @@ use Rattle.timetable.specs.Time.{Jobs, bound}
 use Rattle.timetable.specs.Search.{best, search, leanMember, entry}
 use Rattle.timetable.specs.Table.{Call, call, jobsOf}
 use Rattle.tabling.specs.Asked.{Workable}
-use Rattle.tabling.proofs.Moves.{best-applies, workable-after}
+use Rattle.tabling.proofs.Moves.{moved-size, best-applies, workable-after}
 use Rattle.turns.specs.declared.Place.{Place}
 use Rattle.turns.specs.declared.Turn.{Turn}
 use Rattle.turns.specs.Places.{place, firstPlace, onwardOf}
@@ -52,10 +52,6 @@ reached-start c w =
       going = going-start (search (jobsOf c)) (roomOf (c .log)) (c .win) (w .long);
       log-is = sym (logged-none (c .log));
     }
-
-moved-size : (W : Win) (j : ℕ) (s : Side) (b : ℕ) → jobs (moved W j s b) ≡ jobs W
-moved-size W j early b = length-set (W .e) j b
-moved-size W j late b = refl
 
 leaves-as : (c : Call) (o : Out) (a : Answer) (W : Win) (log : List ℕ) → ran c ≡ o → EndsAs c o a W log → Works c a W log
 leaves-as c o a W log e h = subst (λ (x : Out). EndsAs c x a W log) (sym e) h

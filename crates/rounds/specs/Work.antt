@@ -1,14 +1,20 @@
--- What the whole work leaves, by how the defined run ends.
+-- What the fullLoad work leaves, by how the defined run ends.
 use Prim.Native.Nat.{ℕ}
 use mathlib.Core.Path.{_≡_}
 use mathlib.Core.List.{List, map}
 use lib.ListN.{length}
-use Rattle.narrowing.specs.Windows.{Win}
+use Rattle.lists.specs.Lists.{_!_}
+use Rattle.narrowing.specs.Windows.{Win, Side, early, late}
 use Rattle.narrowing.specs.Run.{Out, settled, clash, short, run}
 use Rattle.answers.specs.declared.Answer.{Answer}
 use Rattle.journal.specs.Journal.{roomOf, logged}
 use Rattle.timetable.specs.Search.{search, entry}
 use Rattle.timetable.specs.Table.{Call, jobsOf}
+
+-- the bound of job j's side
+abbrev pub boundAt : Win → ℕ → Side → ℕ
+boundAt W j early = W .e ! j
+boundAt W j late = W .l ! j
 
 -- what the work leaves of the lists lent to it, where the run ends so: after a clash the windows, and short of room the log too, are not told
 abbrev pub EndsAs : Call → Out → Answer → Win → List ℕ → Type 0

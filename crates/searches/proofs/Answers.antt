@@ -8,7 +8,7 @@ use mathlib.Core.Option.{Option, none, some}
 use lib.ListN.{length}
 use Rattle.lists.specs.Lists.{_!_}
 use Rattle.lists.specs.Tests.{between, only}
-use Rattle.lists.specs.Searches.{Last, First, Greatest, Least}
+use Rattle.lists.specs.Searches.{LastWith, FirstWith, Greatest, Least}
 use Rattle.lists.proofs.Tests.{between-yes}
 use Rattle.lists.proofs.Searches.{greatest-one, least-one, last-as, first-as, last-none, last-some, first-none, first-some}
 use Rattle.narrowing.specs.Windows.{win, Side, early, late, sideOf}
@@ -20,8 +20,8 @@ use Rattle.timetable.proofs.Law.{best-early, best-late}
 use Rattle.tabling.specs.Asked.{asked, Workable}
 use Rattle.tabling.proofs.Good.{durations-sized, window-long}
 use Rattle.profile.specs.declared.kept.Outline.{Outline}
-use Rattle.loads.specs.Loads.{whole, Loaded}
-use Rattle.loads.proofs.Whole.{load-whole}
+use Rattle.loads.specs.Loads.{fullLoad, Loaded}
+use Rattle.loads.proofs.Full.{load-full}
 use Rattle.searches.specs.declared.Found.{Found}
 use Rattle.searches.specs.Found.{found, nextTime}
 use Rattle.searches.specs.Busy.{Busy, DemandIn, LastBusy, FirstBusy}
@@ -66,31 +66,31 @@ module _ (e l p r : List ℕ) (cap j : ℕ) where
     listed : j < length e
     listed = omega (arith, durations-sized (w .good))
 
-    others : (t : ℕ) → load J (win e l) j t + only (between s f t) (r ! j) ≡ whole p r (win e l) t
-    others t = load-whole J (win e l) j t refl listed
+    others : (t : ℕ) → load J (win e l) j t + only (between s f t) (r ! j) ≡ fullLoad p r (win e l) t
+    others t = load-full J (win e l) j t refl listed
 
     -- the load has the job's own demand in it in its sure part
-    demand-in : DemandIn (whole p r (win e l)) (r ! j) s f
+    demand-in : DemandIn (fullLoad p r (win e l)) (r ! j) s f
     demand-in t a b = omega (arith, rw (between-yes s f t a b) at (others t))
 
     with-own : (b : Bool) (x y z : ℕ) → x + only b y ≡ z → x + y ≡ z + only (not b) y
     with-own true x y z h = omega arith
     with-own false x y z h = omega arith
 
-    same : (t : ℕ) → load J (win e l) j t + r ! j ≡ whole p r (win e l) t + only (not (between s f t)) (r ! j)
-    same t = with-own (between s f t) (load J (win e l) j t) (r ! j) (whole p r (win e l) t) (others t)
+    same : (t : ℕ) → load J (win e l) j t + r ! j ≡ fullLoad p r (win e l) t + only (not (between s f t)) (r ! j)
+    same t = with-own (between s f t) (load J (win e l) j t) (r ! j) (fullLoad p r (win e l) t) (others t)
 
     module _ (hp : p ! j ≡ 0 → ⊥) (hr : r ! j ≡ 0 → ⊥) where
-      crowds : (t : ℕ) → Busy (whole p r (win e l)) cap (r ! j) s f t → Crowded J (win e l) j t
+      crowds : (t : ℕ) → Busy (fullLoad p r (win e l)) cap (r ! j) s f t → Crowded J (win e l) j t
       crowds t b = record { lasts = omega arith; takes = omega arith; over = omega (arith, same t) }
 
-      busies : (t : ℕ) → Crowded J (win e l) j t → Busy (whole p r (win e l)) cap (r ! j) s f t
+      busies : (t : ℕ) → Crowded J (win e l) j t → Busy (fullLoad p r (win e l)) cap (r ! j) s f t
       busies t c = omega (arith, c .over, same t)
 
       module _ (side : ℕ) {ts ld : List ℕ} {k : Outline} (L : Loaded (win e l) p r ts ld k) (x : ℕ) where
         module _ (q : side ≡ 0) (b : LastBusy ts ld k cap (r ! j) s f (e ! j) f x) where
-          last : Last (Crowded J (win e l) j) (e ! j) f x
-          last = last-as crowds busies (b (whole p r (win e l)) (L .keeps) demand-in)
+          last : LastWith (Crowded J (win e l) j) (e ! j) f x
+          last = last-as crowds busies (b (fullLoad p r (win e l)) (L .keeps) demand-in)
 
           pub early-rests : x ≤ e ! j → Found.Nothing ≡ found (nextTime (asked e l p r cap) j (sideOf side))
           early-rests h = answers side early (side-early side q) none (last-none last h)
@@ -102,8 +102,8 @@ module _ (e l p r : List ℕ) (cap j : ℕ) where
           stretch : s + p ! j ≡ l ! j
           stretch = omega (arith, window-long w j d)
 
-          first : First (Crowded J (win e l) j) s (s + p ! j) x
-          first = rw stretch (first-as crowds busies (b (whole p r (win e l)) (L .keeps) demand-in))
+          first : FirstWith (Crowded J (win e l) j) s (s + p ! j) x
+          first = rw stretch (first-as crowds busies (b (fullLoad p r (win e l)) (L .keeps) demand-in))
 
           pub late-rests : l ! j ≤ x → Found.Nothing ≡ found (nextTime (asked e l p r cap) j (sideOf side))
           late-rests h = answers side late (side-late side q) none (first-none first (omega (arith, stretch)))

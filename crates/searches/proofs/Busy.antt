@@ -7,6 +7,7 @@ use mathlib.Core.Bool.{true, false}
 use mathlib.Core.List.{List}
 use Rattle.lists.specs.Tests.{between}
 use Rattle.lists.proofs.Tests.{between-yes, between-before, between-behind}
+use Rattle.profile.specs.Numbers.{IsLesser, IsGreater}
 use Rattle.profile.specs.declared.kept.Outline.{Outline}
 use Rattle.profile.specs.Keeps.{LastOver, FirstOver}
 use Rattle.searches.specs.Busy.{Busy, DemandIn, LastBusy, FirstBusy}
@@ -36,13 +37,6 @@ module _ (g : ℕ → ℕ) (cap r s f : ℕ) where
               | no b ↦ busy-beside t (between-behind s f t (omega arith)) (omega arith)
             ]
       ]
-
--- the lesser and the greater of two numbers, as `profile` tells them
-abbrev IsLesser : ℕ → ℕ → ℕ → Type 0
-IsLesser s f mid = (mid ≤ s) × (mid ≤ f) × (s < f → mid ≡ s) × (f ≤ s → mid ≡ f)
-
-abbrev IsGreater : ℕ → ℕ → ℕ → Type 0
-IsGreater s f mid = (s ≤ mid) × (f ≤ mid) × (s < f → mid ≡ f) × (f ≤ s → mid ≡ s)
 
 pub mid-from : (e s f mid : ℕ) → e ≤ s → e ≤ f → IsLesser s f mid → e ≤ mid
 mid-from e s f mid es ef m = elim (decLt s f) [ yes d ↦ omega (arith, m .2 d) | no d ↦ omega (arith, m .3 (omega arith)) ]

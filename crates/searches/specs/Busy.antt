@@ -3,7 +3,7 @@ use Prim.Native.Nat.{ℕ, _+_, _≤_, _<_}
 use mathlib.Core.Bool.{not}
 use mathlib.Core.List.{List}
 use Rattle.lists.specs.Tests.{between, only}
-use Rattle.lists.specs.Searches.{Last, First}
+use Rattle.lists.specs.Searches.{LastWith, FirstWith}
 use Rattle.profile.specs.declared.kept.Outline.{Outline}
 use Rattle.profile.specs.Keeps.{Keeps}
 
@@ -17,8 +17,8 @@ DemandIn g r s f = (t : ℕ) → s ≤ t → t < f → r ≤ g t
 
 -- of every such load that the lists keep, x tells the last busy time from a up to b, if any
 abbrev pub LastBusy : List ℕ → List ℕ → Outline → ℕ → ℕ → ℕ → ℕ → ℕ → ℕ → ℕ → Type 0
-LastBusy ts ld k cap r s f a b x = (g : ℕ → ℕ) → Keeps g ts ld k → DemandIn g r s f → Last (Busy g cap r s f) a b x
+LastBusy ts ld k cap r s f a b x = (g : ℕ → ℕ) → Keeps g ts ld k → DemandIn g r s f → LastWith (Busy g cap r s f) a b x
 
 -- x tells the first
 abbrev pub FirstBusy : List ℕ → List ℕ → Outline → ℕ → ℕ → ℕ → ℕ → ℕ → ℕ → ℕ → Type 0
-FirstBusy ts ld k cap r s f a b x = (g : ℕ → ℕ) → Keeps g ts ld k → DemandIn g r s f → First (Busy g cap r s f) a b x
+FirstBusy ts ld k cap r s f a b x = (g : ℕ → ℕ) → Keeps g ts ld k → DemandIn g r s f → FirstWith (Busy g cap r s f) a b x

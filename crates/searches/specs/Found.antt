@@ -11,6 +11,7 @@ use Rattle.searches.specs.declared.Found.the-variants.{At, Nothing}
 abbrev pub nextTime : Call → ℕ → Side → Option ℕ
 nextTime c j s = best (jobsOf c) (c .win) j s
 
+-- the answer that stands for it
 abbrev pub found : Option ℕ → Found
 found none = Nothing
 found (some t) = At t

@@ -19,7 +19,7 @@ pub enum Found {
 // Side 0: one more than the last time from e up to f that is crowded for a job of demand r, and e where there is none. Its sure part is from s up to f; there
 // the load has its demand in it already.
 fn early(ts: &[u32], ld: &[u32], kept: Outline, cap: u32, r: u32, e: u32, s: u32, f: u32) -> u32
-    requires { ⌜ Points (now ts) (now ld) (kept .m) × (e ≤ s) × (e ≤ f) × (f ≤ behindAll) ⌝ }
+    requires { ⌜ Points (now ts) (now ld) (kept .m) × (e ≤ s) × (e ≤ f) × (f < behindAll) ⌝ }
     ensures { λ x. ⌜ LastBusy (now (ts .entry)) (now (ld .entry)) kept cap r s f e f x ⌝ }
 {
     if cap < r {
@@ -36,7 +36,7 @@ fn early(ts: &[u32], ld: &[u32], kept: Outline, cap: u32, r: u32, e: u32, s: u32
 
 // Side 1: the first time from s up to l that is crowded for a job of demand r, and l where there is none. Its sure part is from s up to f.
 fn late(ts: &[u32], ld: &[u32], kept: Outline, cap: u32, r: u32, s: u32, f: u32, l: u32) -> u32
-    requires { ⌜ Points (now ts) (now ld) (kept .m) × (s ≤ l) × (f ≤ l) × (l ≤ behindAll) ⌝ }
+    requires { ⌜ Points (now ts) (now ld) (kept .m) × (s ≤ l) × (f ≤ l) × (l < behindAll) ⌝ }
     ensures { λ x. ⌜ FirstBusy (now (ts .entry)) (now (ld .entry)) kept cap r s f s l x ⌝ }
 {
     if cap < r {
@@ -69,6 +69,7 @@ pub fn next_time(
 {
     let r = dem[job];
     let p = dur[job];
+    // for such a job no time is crowded
     if r == 0 {
         return Found::Nothing;
     }

@@ -41,6 +41,10 @@ module _ (c : Call) (w : Workable c) (j : ℕ) (s : Side) (b : j < jobs (c .win)
 
 -- ---- a move
 
+pub moved-size : (W : Win) (j : ℕ) (s : Side) (b : ℕ) → jobs (moved W j s b) ≡ jobs W
+moved-size W j early b = length-set (W .e) j b
+moved-size W j late b = refl
+
 -- a rule's time lies before the job's latest end
 pub time-before : (J : Jobs) (W : Win) (j : ℕ) (s : Side) (t : ℕ) → W .e ! j + J .p ! j ≤ W .l ! j → Applies J W j s (bound s t) → t < W .l ! j
 time-before J W j early t h a = omega (arith, a .to)

@@ -10,8 +10,9 @@ use lib.ListN.{set, length}
 use Rattle.lists.specs.Lists.{_!_}
 use Rattle.lists.specs.Tests.{both, only}
 use Rattle.lists.specs.Sums.{total}
-use Rattle.lists.proofs.Tests.{only-most}
-use Rattle.lists.proofs.Sums.{total-zero, total-suc, total-most}
+use Rattle.lists.specs.Sets.{totalOf}
+use Rattle.lists.proofs.Sets.{totalOf-limit}
+use Rattle.lists.proofs.Sums.{total-zero, total-suc}
 use Rattle.narrowing.specs.Windows.{Win, win, moved, sideOf}
 use Rattle.joblist.specs.Limits.{mostDemand, mostJobs}
 use Rattle.timetable.specs.Time.{Jobs, sure, load, bound}
@@ -42,8 +43,8 @@ module _ (J : Jobs) (W : Win) (j t : ℕ) where
 
   -- each job adds its demand at most
   load-most : ((k : ℕ) → J .r ! k ≤ mostDemand) → (m : ℕ) → loadBelow m ≤ mostDemand * m
-  unfolding loadBelow
-  load-most h m = total-most _ mostDemand (λ k. omega (arith, h k, only-most (both (not (eqb k j)) (sure (J .p) W k t)) (J .r ! k))) m
+  unfolding loadBelow totalOf
+  load-most h m = omega (arith, totalOf-limit m (J .r) (λ k. both (not (eqb k j)) (sure (J .p) W k t)) mostDemand h)
 
 -- so no sum of a good list's demands is too large
 pub load-fits : {e l p r : List ℕ} {cap : ℕ} → Good (asked e l p r cap) → (j t m : ℕ) → m ≤ length e

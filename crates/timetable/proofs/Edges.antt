@@ -7,16 +7,14 @@ use mathlib.Core.Path.{_≡_, refl}
 use mathlib.Core.Option.{Option, none, some}
 use mathlib.Core.Logic.{inl, inr}
 use Rattle.lists.specs.Lists.{_!_}
-use Rattle.lists.specs.Tests.{only}
-use Rattle.lists.specs.Sets.{totalOf}
 use Rattle.lists.specs.Searches.{Greatest, Least}
-use Rattle.lists.proofs.Tests.{only-less}
-use Rattle.lists.proofs.Sums.{total-less}
+use Rattle.lists.proofs.Sets.{clash, totalOf-beyond}
+use Rattle.lists.proofs.Searches.{greatest-one, least-one}
 use Rattle.narrowing.specs.Windows.{Win, Side, early, late}
 use Rattle.narrowing.specs.Search.{Found}
 use Rattle.timetable.specs.Time.{Jobs, load, Crowded, Applies, bound}
 use Rattle.timetable.specs.Search.{Member, member, best}
-use Rattle.timetable.specs.Edges.{PartEdge, Looked, NextTime}
+use Rattle.timetable.specs.Edges.{PartEdge, Looked, MovesAt}
 use Rattle.timetable.proofs.Facts.{member-yes, yes-member}
 use Rattle.timetable.proofs.Lean.{members-load}
 use Rattle.timetable.proofs.Law.{best-early, best-late, best-is}
@@ -24,15 +22,9 @@ use Rattle.timetable.proofs.Law.{best-early, best-late, best-is}
 module _ (J : Jobs) (W : Win) (j : ℕ) where
   -- with less load at u some member at t is none at u
   leaver : (t u : ℕ) → load J W j u < load J W j t → (k : ℕ) × Member J W j t k × (Member J W j u k → ⊥)
-  unfolding totalOf
   leaver t u h =
-      let y = total-less (λ k. only (member J W j u k) (J .r ! k)) (λ k. only (member J W j t k) (J .r ! k)) (J .n)
-      (omega (arith, members-load J W j t, members-load J W j u)) in
-      let b = only-less (member J W j u (y .0)) (member J W j t (y .0)) (J .r ! (y .0)) (y .2) in (
-        y .0,
-        member-yes J W j t (y .0) (b .1),
-        λ m. let q = yes-member J W j u (y .0) m in let z : _≡_ {A = ℕ} 0 1 = cc (b .0) in omega arith,
-      )
+      let y = totalOf-beyond (J .n) (J .r) (member J W j u) (member J W j t) (omega (arith, members-load J W j t, members-load J W j u)) in
+      (y .0, member-yes J W j t (y .0) (y .1), λ m. clash (member J W j u (y .0)) (yes-member J W j u (y .0) m) (y .2))
 
   less-load : (t u : ℕ) → Crowded J W j t → (Crowded J W j u → ⊥) → load J W j u < load J W j t
   less-load t u c h =
@@ -58,7 +50,7 @@ module _ (J : Jobs) (W : Win) (j : ℕ) where
 
   -- ---- the time that the rule moves to is an edge
 
-  at-early : (t : ℕ) → NextTime J W j early t → Looked J W j early t
+  at-early : (t : ℕ) → MovesAt J W j early t → Looked J W j early t
   at-early t n =
       elim (decLt (suc t) (W .e ! j + J .p ! j)) [
         | yes d ↦ inr (ends t (n .0 .crowded) (λ c. absurd (omega (arith, n .1 (suc t) (record { from = omega (arith, n .0 .from); to = d; crowded = c })))))
@@ -66,7 +58,7 @@ module _ (J : Jobs) (W : Win) (j : ℕ) where
       ]
 
   -- the stretch of side 1 begins at l - p, so that l has to be p or more
-  at-late : J .p ! j ≤ W .l ! j → (t : ℕ) → NextTime J W j late t → Looked J W j late t
+  at-late : J .p ! j ≤ W .l ! j → (t : ℕ) → MovesAt J W j late t → Looked J W j late t
   at-late h zero n = inl (omega (arith, n .0 .from))
   at-late h (suc u) n =
       elim (decLe (W .l ! j) (u + J .p ! j)) [
@@ -75,34 +67,44 @@ module _ (J : Jobs) (W : Win) (j : ℕ) where
       ]
 
   module _ (h : J .p ! j ≤ W .l ! j) where
-    pub next-looked : (s : Side) (t : ℕ) → NextTime J W j s t → Looked J W j s t
+    pub next-looked : (s : Side) (t : ℕ) → MovesAt J W j s t → Looked J W j s t
     next-looked early t n = at-early t n
     next-looked late t n = at-late h t n
 
-    -- what the search finds is that time
-    early-next : (x : Option ℕ) → Greatest (Crowded J W j) (W .e ! j) (J .p ! j) x → (t : ℕ) → x ≡ some t → NextTime J W j early t
+    -- what the search finds is that time, and that time is what it finds
+    early-next : (x : Option ℕ) → Greatest (Crowded J W j) (W .e ! j) (J .p ! j) x → (t : ℕ) → x ≡ some t → MovesAt J W j early t
     early-next none g t e = absurd (let z : _≡_ {A = ℕ} 0 1 = cc in omega arith)
     early-next (some u) g t e = go (let q : u ≡ t = cc in q)
       where
-        go : u ≡ t → NextTime J W j early t
+        go : u ≡ t → MovesAt J W j early t
         go q =
             rw (← q)
             (record { from = g .0 .from; to = g .0 .to; crowded = g .0 .has }, λ v a. g .1 v (record { from = a .from; to = a .to; has = a .crowded }))
 
-    late-next : (x : Option ℕ) → Least (Crowded J W j) (W .l ! j - J .p ! j) (J .p ! j) x → (t : ℕ) → x ≡ some t → NextTime J W j late t
+    late-next : (x : Option ℕ) → Least (Crowded J W j) (W .l ! j - J .p ! j) (J .p ! j) x → (t : ℕ) → x ≡ some t → MovesAt J W j late t
     late-next none g t e = absurd (let z : _≡_ {A = ℕ} 0 1 = cc in omega arith)
     late-next (some u) g t e = go (let q : u ≡ t = cc in q)
       where
-        go : u ≡ t → NextTime J W j late t
+        go : u ≡ t → MovesAt J W j late t
         go q =
             rw (← q) (
               record { from = omega (arith, g .0 .from); to = omega (arith, g .0 .to); crowded = g .0 .has },
               λ v a. g .1 v (record { from = omega (arith, a .from); to = omega (arith, a .to); has = a .crowded }),
             )
 
-    pub best-next : (s : Side) (t : ℕ) → best J W j s ≡ some t → NextTime J W j s t
+    pub best-next : (s : Side) (t : ℕ) → best J W j s ≡ some t → MovesAt J W j s t
     best-next early t e = early-next (best J W j early) (best-early J W j) t e
     best-next late t e = late-next (best J W j late) (best-late J W j) t e
+
+    pub next-best : (s : Side) (t : ℕ) → MovesAt J W j s t → best J W j s ≡ some t
+    next-best early t n =
+        greatest-one (Crowded J W j) (W .e ! j) (J .p ! j) (best J W j early) (some t) (best-early J W j)
+        (record { from = n .0 .from; to = n .0 .to; has = n .0 .crowded }, λ u i. n .1 u (record { from = i .from; to = i .to; crowded = i .has }))
+    next-best late t n =
+        least-one (Crowded J W j) (W .l ! j - J .p ! j) (J .p ! j) (best J W j late) (some t) (best-late J W j) (
+          record { from = omega (arith, n .0 .from); to = omega (arith, n .0 .to); has = n .0 .crowded },
+          λ u i. n .1 u (record { from = omega (arith, i .from); to = omega (arith, i .to); crowded = i .has }),
+        )
 
     -- where a rule applies at no edge, it applies nowhere
     pub edges-enough : (s : Side) → ((t : ℕ) → Looked J W j s t → Applies J W j s (bound s t) → ⊥) → (b : ℕ) → Applies J W j s b → ⊥

@@ -1,5 +1,5 @@
--- Sure parts as stretches. And the load of the others: with the job's own demand it is the load of all jobs, and no move of the job's own bounds changes it.
-use Prim.Native.Nat.{ℕ, _+_, _-_, _<_}
+-- Sure parts as stretches; and the load of the others, which no move of the job's own bounds changes.
+use Prim.Native.Nat.{ℕ, _+_, _-_}
 use native.Mathlib.Omega.{arith}
 use native.Mathlib.Decide.{ℕ-discrete, decLe}
 use mathlib.Core.Path.{_≡_, sym, ap, _∙_}
@@ -10,8 +10,7 @@ use lib.Seq.{getD-set-other}
 use borrow.Author.Tests.{le-leb, lt-leb, eq-eqb}
 use Rattle.lists.specs.Lists.{_!_}
 use Rattle.lists.specs.Tests.{both, between, only}
-use Rattle.lists.specs.Sums.{total}
-use Rattle.lists.proofs.Sums.{total-cong, total-others}
+use Rattle.lists.proofs.Sums.{total-cong}
 use Rattle.narrowing.specs.Windows.{Win, Side, early, late, moved}
 use Rattle.timetable.specs.Time.{Jobs, sure, load}
 
@@ -26,11 +25,6 @@ sure-between p W k t = ap (λ (b : Bool). both b (ltb t (W .e ! k + p ! k))) (fr
           | yes h ↦ le-leb a (t + b) h ∙ sym (le-leb (a - b) t (omega arith))
           | no h ↦ lt-leb a (t + b) (omega arith) ∙ sym (lt-leb (a - b) t (omega arith))
         ]
-
--- the others' and the job's own
-pub load-own : (J : Jobs) (W : Win) (j t : ℕ) → j < J .n → load J W j t + only (sure (J .p) W j t) (J .r ! j) ≡ total (λ k. only (sure (J .p) W k t) (J .r ! k)) (J .n)
-unfolding load
-load-own J W j t b = total-others (λ k. sure (J .p) W k t) (λ k. J .r ! k) j (J .n) b
 
 -- a move of one job leaves the sure parts of the others
 sure-apart : (p : List ℕ) (W : Win) (j : ℕ) (s : Side) (b t k : ℕ) → (k ≡ j → ⊥) → sure p (moved W j s b) k t ≡ sure p W k t

@@ -2,13 +2,13 @@
 use Prim.Native.Nat.{ℕ, _+_}
 use mathlib.Core.Bool.{Bool, true, false}
 use lib.Dec.{ltb, eqb}
-use Rattle.lists.specs.Lists.{_!_}
-use Rattle.narrowing.specs.Windows.{Win, Side, early, late}
 use Rattle.turns.specs.declared.Place.{Place}
 
+-- a place of a round, by its parts
 abbrev pub place : ℕ → ℕ → Bool → Place
 place job side changed = record { job = job; side = side; changed = changed }
 
+-- a where the test passes, else b
 abbrev pub pickPlace : Bool → Place → Place → Place
 pickPlace true a b = a
 pickPlace false a b = b
@@ -23,8 +23,3 @@ onwardOf at n =
     pickPlace (eqb (at .side) 0) (place (at .job) 1 (at .changed))
     (pickPlace (ltb (at .job + 1) n) (place (at .job + 1) 0 (at .changed))
     (pickPlace (at .changed) firstPlace (place n 0 false)))
-
--- the bound of job j's side
-abbrev pub boundAt : Win → ℕ → Side → ℕ
-boundAt W j early = W .e ! j
-boundAt W j late = W .l ! j

@@ -4,14 +4,14 @@ use profile::Outline;
 ghost use mathlib.Core.Path.{_≡_};
 ghost use Prim.Native.Nat.{_<_, _≤_};
 ghost use lib.ListN.{length};
-ghost use Rattle.narrowing.specs.Windows.{win, sideOf};
+ghost use Rattle.narrowing.specs.Windows.{win};
 ghost use Rattle.timetable.specs.Table.{call};
 ghost use Rattle.tabling.specs.Asked.{Workable};
 ghost use Rattle.loads.specs.Loads.{Loaded};
-ghost use Rattle.turns.specs.Places.{onwardOf, boundAt};
+ghost use Rattle.turns.specs.Places.{onwardOf};
 ghost use Rattle.turns.specs.Moves.{TurnSays};
 
-// A place of a round: a job, its side, and whether the round has moved a bound so behindAll.
+// A place of a round: a job, its side, and whether the round has moved a bound so far.
 pub struct Place {
     pub job: usize,
     pub side: u32,
@@ -95,15 +95,4 @@ pub fn take_turn(
             Turn::Moved
         }
     }
-}
-
-// The bound of a job's side.
-pub fn bound_at(est: &[u32], lct: &[u32], job: usize, side: u32) -> u32
-    requires { ⌜ (job < length (now est)) × (job < length (now lct)) ⌝ }
-    ensures { λ x. ⌜ x ≡ boundAt (win (now (est .entry)) (now (lct .entry))) job (sideOf side) ⌝ }
-{
-    if side == 0 {
-        return est[job];
-    }
-    lct[job]
 }

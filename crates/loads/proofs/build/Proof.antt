@@ -60,8 +60,7 @@ add-grow c = omega (arith, ends-within (c .before .before .before .before .befor
 
 grow-requires : tie.Need-grow-requires Inv-loop μ-loop
 grow-requires c κs =
-    let G = building-asks (c .before .before .before .before .before .before .before .before .loop .inv) (c .before .before .before .before .before .before .before .loop-test .taken) in
-    (G .points, G .room, G .near, G .low, G .small)
+    building-asks (c .before .before .before .before .before .before .before .before .loop .inv) (c .before .before .before .before .before .before .before .loop-test .taken)
 
 loop-less : tie.Need-loop-less Inv-loop μ-loop
 loop-less c = search needs

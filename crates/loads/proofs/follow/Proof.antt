@@ -75,8 +75,7 @@ grow-requires : tie.Need-grow-requires
 grow-requires c κs =
     let s = c .before .before .before .before .before .before .before .before .before .before .before .before .before .before .before .before in
     let a = s .args in
-    let G = follow-asks (s .pre .0) _ (s .pre .1) (sideOf (s .args .side)) (s .args .old) (s .pre .4) (a .est .now ! a .job + a .dur .now ! a .job) (omega (arith, c .before .before .before .before .before .before .before .before .if1 .left)) (omega (arith, within s)) in
-    (G .points, G .room, G .near, G .low, G .small)
+    follow-asks (s .pre .0) _ (s .pre .1) (sideOf (s .args .side)) (s .args .old) (s .pre .4) (a .est .now ! a .job + a .dur .now ! a .job) (omega (arith, c .before .before .before .before .before .before .before .before .if1 .left)) (omega (arith, within s))
 
 same-length-3 : tie.Need-same-length-3
 same-length-3 c = search needs
@@ -89,7 +88,7 @@ returns-2 c =
     let s = c .before .before .before .before .before .before .before .before .before .before .before .before .before .before .before .before .before .before .before .before .before in
     let zero-side = side-early _ (c .before .before .before .before .before .before .before .before .if2 .taken) in
     let m = c .before .before .before .before .before .before .before .greater .ensures in
-    followed-early (s .pre .0) _ (s .pre .1) (s .args .old) (rw zero-side at (s .pre .4)) (rw zero-side at (s .pre .2)) _ (m .0) (m .1) (m .2) (m .3) (c .before .before .before .before .grow .ensures)
+    followed-early (s .pre .0) _ (s .pre .1) (s .args .old) (rw zero-side at (s .pre .4)) (rw zero-side at (s .pre .2)) _ m (c .before .before .before .before .grow .ensures)
 
 sub-lesser : tie.Need-sub-lesser
 sub-lesser c = omega (arith, within (c .before .before .before .before .before .before .before .before .before .before .before .before .before), was-later (c .before .before .before .before .before .before .before .before .before .before .before .before .before) (c .if2 .left))
@@ -106,8 +105,7 @@ sub-grow c = omega (arith, within (c .before .before .before .before .before .be
 grow-requires-2 : tie.Need-grow-requires-2
 grow-requires-2 c κs =
     let s = c .before .before .before .before .before .before .before .before .before .before .before .before .before .before .before .before in
-    let G = follow-asks (s .pre .0) _ (s .pre .1) (sideOf (s .args .side)) (s .args .old) (s .pre .4) (c .before .before .lesser .result) (omega (arith, c .before .before .before .before .before .before .before .before .if1 .left)) (omega (arith, within s, c .before .before .lesser .ensures .1)) in
-    (G .points, G .room, G .near, G .low, G .small)
+    follow-asks (s .pre .0) _ (s .pre .1) (sideOf (s .args .side)) (s .args .old) (s .pre .4) (c .before .before .lesser .result) (omega (arith, c .before .before .before .before .before .before .before .before .if1 .left)) (omega (arith, within s, c .before .before .lesser .ensures .1))
 
 same-length-5 : tie.Need-same-length-5
 same-length-5 c = search needs
@@ -119,7 +117,7 @@ returns-3 : tie.Need-returns-3
 returns-3 c =
     let s = c .before .before .before .before .before .before .before .before .before .before .before .before .before .before .before .before .before .before .before .before .before in
     let m = c .before .before .before .before .before .before .before .lesser .ensures in
-    followed-late (s .pre .0) _ (s .pre .1) (s .args .old) (rw (side-late _ (c .before .before .before .before .before .before .before .before .if2 .left)) at (s .pre .4)) (was-later s (c .before .before .before .before .before .before .before .before .if2 .left)) _ (m .0) (m .1) (m .2) (m .3) (c .before .before .before .before .grow2 .ensures)
+    followed-late (s .pre .0) _ (s .pre .1) (s .args .old) (rw (side-late _ (c .before .before .before .before .before .before .before .before .if2 .left)) at (s .pre .4)) (was-later s (c .before .before .before .before .before .before .before .before .if2 .left)) _ m (c .before .before .before .before .grow2 .ensures)
 
 pub follow-spec : {M : Type 1} → statement M
 follow-spec =

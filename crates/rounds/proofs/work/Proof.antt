@@ -1,4 +1,4 @@
--- `rounds::work` meets its contract. The loop's invariant: the state is `Reached` (the moves made so behindAll, whose records stand in the log, and what the
+-- `rounds::work` meets its contract. The loop's invariant: the state is `Reached` (the moves made so far, whose records stand in the log, and what the
 -- defined work still gives from the place reached are the defined run), and the two lists keep the load of the windows reached. The measure is
 -- `weight`. Each arm is one law over `Reached`; after a move the load has followed it.
 use Prim.Native.Nat.{_-_, _<_}
@@ -8,7 +8,7 @@ use borrow.Author.Needs.{needs}
 use lib.ListN.{length}
 use Rattle.narrowing.specs.Windows.{win}
 use Rattle.journal.specs.Journal.{roomOf}
-use Rattle.timetable.specs.Table.{Call, call}
+use Rattle.timetable.specs.Table.{call}
 use Rattle.tabling.proofs.Good.{durations-sized, ends-sized}
 use Rattle.loads.specs.Loads.{Loaded}
 use Rattle.turns.specs.declared.Place.{Place}
@@ -50,9 +50,8 @@ looped d = d .before .before .before .before .before .before .before .before .be
 abbrev started : Turned → tie.Start Inv-loop μ-loop
 started d = looped d .before .before .before .before .before .before .before .before .before .before .before .before .before
 
--- the call that the work is asked of
-abbrev asked-of : Turned → Call
-asked-of d = let a = started d .args in call (win (a .est .now) (a .lct .now)) (a .dur .now) (a .dem .now) (a .cap) (a .log .now)
+abbrev job-left : (d : Turned) → looped d .loop .at .job < length (started d .args .est .now)
+job-left d = d .before .before .before .before .before .before .before .before .before .before .before .before .before .before .before .if1 .taken
 
 bound-at-requires : tie.Need-bound-at-requires Inv-loop μ-loop
 bound-at-requires c κs =
@@ -84,14 +83,14 @@ loop-less c =
     let q = looped d .loop in
     let n = length (started d .args .est .now) in
     let left = roomOf (started d .args .log .now) - q .count in
-    subst (λ (x : Place). weight n x left < weight n (q .at) left) (sym (c .onward .ensures)) (weight-rest n (q .at) left (d .before .before .before .before .before .before .before .before .before .before .before .before .before .before .before .if1 .taken) (q .inv .1 .going .one-side))
+    subst (λ (x : Place). weight n x left < weight n (q .at) left) (sym (c .onward .ensures)) (weight-rest n (q .at) left (job-left d) (q .inv .1 .going .one-side))
 
 loop-again : tie.Need-loop-again Inv-loop μ-loop
 loop-again c =
     let d = c .before .before .before in
     let q = looped d .loop in
     let t = rw (c .before .enum-told .given .1) at (d .before .before .before .before .before .before .take-turn .ensures) in
-    (refl, rw (c .onward .ensures) (reached-rest _ _ _ _ _ (q .inv .1) (d .before .before .before .before .before .before .before .before .before .before .before .before .before .before .before .if1 .taken) _ _ t), rw (t .1) (q .inv .2), q .inv .3)
+    (refl, rw (c .onward .ensures) (reached-rest _ _ _ _ _ (q .inv .1) (job-left d) _ _ t), rw (t .1) (q .inv .2), q .inv .3)
 
 -- ---- it moves, and the load follows
 
@@ -108,7 +107,7 @@ follow-requires : tie.Need-follow-requires Inv-loop μ-loop
 follow-requires c κs =
     let d = c .before .before .before .before .before .before in
     let q = looped d .loop in
-    let i = d .before .before .before .before .before .before .before .before .before .before .before .before .before .before .before .if1 .taken in
+    let i = job-left d in
     let t = rw (c .before .before .before .before .enum-told2 .given .1) at (d .before .before .before .before .before .before .take-turn .ensures) in
     let R = reached-moved _ _ _ _ _ (q .inv .1) i _ _ (t .0) (t .1) (t .2) in
     let b : q .at .job < length (q .est) = omega (arith, q .inv .1 .size, i) in
@@ -125,7 +124,7 @@ add-count c =
     let d = c .before .before .before .before .before .before .before .before .before in
     let q = looped d .loop in
     let t = rw (c .before .before .before .before .before .before .before .enum-told2 .given .1) at (d .before .before .before .before .before .before .take-turn .ensures) in
-    omega (arith, moves-few _ _ _ _ _ (q .inv .1) (d .before .before .before .before .before .before .before .before .before .before .before .before .before .before .before .if1 .taken) _ _ (t .0) (t .1), started d .good .1 .1 .1 .1 .1 .0)
+    omega (arith, moves-few _ _ _ _ _ (q .inv .1) (job-left d) _ _ (t .0) (t .1), started d .good .1 .1 .1 .1 .1 .0)
 
 loop-less-2 : tie.Need-loop-less-2 Inv-loop μ-loop
 loop-less-2 c =
@@ -133,7 +132,7 @@ loop-less-2 c =
     let q = looped d .loop in
     let a = started d .args in
     let t = rw (c .before .before .before .before .before .before .before .enum-told2 .given .1) at (d .before .before .before .before .before .before .take-turn .ensures) in
-    weight-move (length (a .est .now)) (q .at) (roomOf (a .log .now)) (q .count) (moves-room _ _ _ _ _ (q .inv .1) (d .before .before .before .before .before .before .before .before .before .before .before .before .before .before .before .if1 .taken) _ _ (t .0) (t .1))
+    weight-move (length (a .est .now)) (q .at) (roomOf (a .log .now)) (q .count) (moves-room _ _ _ _ _ (q .inv .1) (job-left d) _ _ (t .0) (t .1))
 
 loop-again-2 : tie.Need-loop-again-2 Inv-loop μ-loop
 loop-again-2 c =
@@ -141,7 +140,7 @@ loop-again-2 c =
     let q = looped d .loop in
     let t = rw (c .before .before .before .before .before .before .before .enum-told2 .given .1) at (d .before .before .before .before .before .before .take-turn .ensures) in
     let f = c .before .before .follow .ensures in
-    (refl, reached-moved _ _ _ _ _ (q .inv .1) (d .before .before .before .before .before .before .before .before .before .before .before .before .before .before .before .if1 .taken) _ _ (t .0) (t .1) (t .2), f .loaded, f .size ∙ q .inv .3)
+    (refl, reached-moved _ _ _ _ _ (q .inv .1) (job-left d) _ _ (t .0) (t .1) (t .2), f .loaded, f .size ∙ q .inv .3)
 
 -- ---- it closes the window
 
@@ -153,7 +152,7 @@ add-t48 c =
     let d = c .before .before in
     let q = looped d .loop in
     let t = rw (c .enum-told3 .given .1) at (d .before .before .before .before .before .before .take-turn .ensures) in
-    omega (arith, moves-few _ _ _ _ _ (q .inv .1) (d .before .before .before .before .before .before .before .before .before .before .before .before .before .before .before .if1 .taken) _ _ (t .0) (t .1), started d .good .1 .1 .1 .1 .1 .0)
+    omega (arith, moves-few _ _ _ _ _ (q .inv .1) (job-left d) _ _ (t .0) (t .1), started d .good .1 .1 .1 .1 .1 .0)
 
 same-length : tie.Need-same-length Inv-loop μ-loop
 same-length c = search needs
@@ -172,7 +171,7 @@ returns c =
     let d = c .before .before in
     let q = looped d .loop in
     let t = rw (c .enum-told3 .given .1) at (d .before .before .before .before .before .before .take-turn .ensures) in
-    reached-closed _ _ _ _ _ (q .inv .1) (d .before .before .before .before .before .before .before .before .before .before .before .before .before .before .before .if1 .taken) _ _ (t .0) (t .1) (t .2)
+    reached-closed _ _ _ _ _ (q .inv .1) (job-left d) _ _ (t .0) (t .1) (t .2)
 
 -- ---- there is no room
 
@@ -196,7 +195,7 @@ returns-2 c =
     let d = c .before .before in
     let q = looped d .loop in
     let t = rw (c .enum-told4 .given .1) at (d .before .before .before .before .before .before .take-turn .ensures) in
-    reached-full _ _ _ _ _ (q .inv .1) (d .before .before .before .before .before .before .before .before .before .before .before .before .before .before .before .if1 .taken) _ _ t
+    reached-full _ _ _ _ _ (q .inv .1) (job-left d) _ _ t
 
 -- ---- no job is left
 

@@ -16,7 +16,7 @@ cut-requires-2 : tie.Need-cut-requires-2
 cut-requires-2 c κs =
     let C = c .before .before .before .before .before .before .cut .ensures in
     let p = c .before .before .before .before .before .before .before .before .before .before .before .before .pre in
-    (C .points, omega (arith, C .size, C .few, p .1), p .2)
+    (C .points, omega (arith, C .size, C .few, p .room), p .near)
 
 lift-requires : tie.Need-lift-requires
 lift-requires c κs =
@@ -27,7 +27,7 @@ lift-requires c κs =
     let D = at-to .cut2 .ensures in
     let h = apart .if1 .left in
     let p = apart .before .before .before .pre in
-    (omega (arith, before-to C h (p .2) D), omega (arith, D .listed, D .points .inside, D .points .beside), low-all C h (p .2) D _ (p .3), p .4)
+    (omega (arith, before-to C h (p .near) D), omega (arith, D .listed, D .points .grid .inside, D .points .beside), low-all C h (p .near) D _ (p .low), p .small)
 
 greater-requires : tie.Need-greater-requires
 greater-requires c κs = search needs
@@ -44,7 +44,7 @@ returns-2 c =
     let at-to = at-lift .before .before .before .before .before .before in
     let at-from = at-to .before .before .before .before .before .before .before in
     let apart = at-from .before .before .before in
-    let R = raises (at-from .cut .ensures) (apart .if1 .left) (apart .before .before .before .pre .2) (at-to .cut2 .ensures) (at-lift .lift .ensures) in
+    let R = raises (at-from .cut .ensures) (apart .if1 .left) (apart .before .before .before .pre .near) (at-to .cut2 .ensures) (at-lift .lift .ensures) in
     grows _ _ _ _ _ _ _ _ _ _ R (c .greater .ensures .0) (c .greater .ensures .1)
 
 pub grow-spec : {M : Type 1} → statement M

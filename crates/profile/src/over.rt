@@ -1,16 +1,16 @@
-// The last and the first time of a stretch at which a kept function lies over a limit. They are looked for only where it passes the limit at all, and
-// only at the points: from one to the next the function is the same.
+// The last and the first time of a stretch at which a kept function lies over a limit. They are looked for only where the peak does, and only at the points:
+// from one to the next the function is the same.
 use crate::kept::Outline;
 use crate::points::find;
 use crate::points::greater;
 use crate::points::lesser;
-ghost use Prim.Native.Nat.{_≤_};
+ghost use Prim.Native.Nat.{_<_, _≤_};
 ghost use Rattle.profile.specs.Steps.{behindAll, Points};
 ghost use Rattle.profile.specs.Keeps.{LastOver, FirstOver};
 
 // One more than the last t with a <= t < b over the limit, and a where there is none. Walks the pieces down from the one of b - 1.
 pub fn last_over(ts: &[u32], ld: &[u32], kept: Outline, a: u32, b: u32, limit: u32) -> u32
-    requires { ⌜ Points (now ts) (now ld) (kept .m) × (a ≤ b) × (b ≤ behindAll) ⌝ }
+    requires { ⌜ Points (now ts) (now ld) (kept .m) × (a ≤ b) × (b < behindAll) ⌝ }
     ensures { λ x. ⌜ LastOver (now (ts .entry)) (now (ld .entry)) kept limit a b x ⌝ }
 {
     if kept.peak <= limit {
@@ -20,7 +20,7 @@ pub fn last_over(ts: &[u32], ld: &[u32], kept: Outline, a: u32, b: u32, limit: u
         return a;
     }
     let m = kept.m;
-    let mut i = find(ts, ld, m, b - 1);
+    let mut i = find(ts, m, b - 1);
     while ld[i] <= limit {
         if ts[i] <= a {
             return a;
@@ -32,7 +32,7 @@ pub fn last_over(ts: &[u32], ld: &[u32], kept: Outline, a: u32, b: u32, limit: u
 
 // The first t with a <= t < b over the limit, and b where there is none. Walks the pieces up from a's.
 pub fn first_over(ts: &[u32], ld: &[u32], kept: Outline, a: u32, b: u32, limit: u32) -> u32
-    requires { ⌜ Points (now ts) (now ld) (kept .m) × (a ≤ b) × (b ≤ behindAll) ⌝ }
+    requires { ⌜ Points (now ts) (now ld) (kept .m) × (a ≤ b) × (b < behindAll) ⌝ }
     ensures { λ x. ⌜ FirstOver (now (ts .entry)) (now (ld .entry)) kept limit a b x ⌝ }
 {
     if kept.peak <= limit {
@@ -42,7 +42,7 @@ pub fn first_over(ts: &[u32], ld: &[u32], kept: Outline, a: u32, b: u32, limit: 
         return b;
     }
     let m = kept.m;
-    let mut i = find(ts, ld, m, a);
+    let mut i = find(ts, m, a);
     while ld[i] <= limit {
         i += 1;
         if b <= ts[i] {
