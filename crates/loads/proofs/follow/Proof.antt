@@ -13,6 +13,13 @@ use borrow.Author.Needs.{needs}
 use Rattle.loads.proofs.follow.Statement.{statement}
 use Rattle.loads.proofs.follow.Tie as tie
 
+-- where the call began, before a raise of each side
+abbrev moved-early : tie.Then2 → tie.Start
+moved-early d = d .before .before .before .before .before .before .before .before .before .before .before .before .before
+
+abbrev moved-late : tie.Else2 → tie.Start
+moved-late d = d .before .before .before .before .before .before .before .before .before .before .before .before .before
+
 -- the job's earliest end, its latest end and the limit, in order
 within : (s : tie.Start) → let a = s .args in ((a .est .now ! a .job + a .dur .now ! a .job ≤ a .lct .now ! a .job) × (a .lct .now ! a .job ≤ mostTime))
 within s = window-within (s .pre .0) (s .args .job) (s .pre .1)
@@ -60,20 +67,20 @@ shared-slice-read-l : tie.Need-shared-slice-read-l
 shared-slice-read-l c = search needs
 
 sub-greater : tie.Need-sub-greater
-sub-greater c = omega (arith, within (c .before .before .before .before .before .before .before .before .before .before .before .before .before))
+sub-greater c = omega (arith, within (moved-early c))
 
 add-greater : tie.Need-add-greater
-add-greater c = omega (arith, duration-most (c .before .before .before .before .before .before .before .before .before .before .before .before .before .pre .0 .good) (c .before .before .before .before .before .before .before .before .before .before .before .before .before .args .job), c .before .before .before .before .before .before .before .before .before .before .before .before .before .pre .3)
+add-greater c = let s = moved-early c in omega (arith, within s, duration-most (s .pre .0 .good) (s .args .job), s .pre .3)
 
 greater-requires : tie.Need-greater-requires
 greater-requires c κs = search needs
 
 add-grow : tie.Need-add-grow
-add-grow c = omega (arith, within (c .before .before .before .before .before .before .before .before .before .before .before .before .before .before .before .before))
+add-grow c = omega (arith, within (moved-early (c .before .before .before)))
 
 grow-requires : tie.Need-grow-requires
 grow-requires c κs =
-    let s = c .before .before .before .before .before .before .before .before .before .before .before .before .before .before .before .before in
+    let s = moved-early (c .before .before .before) in
     let a = s .args in
     follow-asks (s .pre .0) _ (s .pre .1) (sideOf (s .args .side)) (s .args .old) (s .pre .4) (a .est .now ! a .job + a .dur .now ! a .job) (omega (arith, c .before .before .before .before .before .before .before .before .if1 .left)) (omega (arith, within s))
 
@@ -85,26 +92,26 @@ same-length-4 c = search needs
 
 returns-2 : tie.Need-returns-2
 returns-2 c =
-    let s = c .before .before .before .before .before .before .before .before .before .before .before .before .before .before .before .before .before .before .before .before .before in
+    let s = moved-early (c .before .before .before .before .before .before .before .before) in
     let zero-side = side-early _ (c .before .before .before .before .before .before .before .before .if2 .taken) in
     let m = c .before .before .before .before .before .before .before .greater .ensures in
     followed-early (s .pre .0) _ (s .pre .1) (s .args .old) (rw zero-side at (s .pre .4)) (rw zero-side at (s .pre .2)) _ m (c .before .before .before .before .grow .ensures)
 
 sub-lesser : tie.Need-sub-lesser
-sub-lesser c = omega (arith, within (c .before .before .before .before .before .before .before .before .before .before .before .before .before), was-later (c .before .before .before .before .before .before .before .before .before .before .before .before .before) (c .if2 .left))
+sub-lesser c = omega (arith, within (moved-late c), was-later (moved-late c) (c .if2 .left))
 
 add-lesser : tie.Need-add-lesser
-add-lesser c = omega (arith, within (c .before .before .before .before .before .before .before .before .before .before .before .before .before))
+add-lesser c = omega (arith, within (moved-late c))
 
 lesser-requires : tie.Need-lesser-requires
 lesser-requires c κs = search needs
 
 sub-grow : tie.Need-sub-grow
-sub-grow c = omega (arith, within (c .before .before .before .before .before .before .before .before .before .before .before .before .before .before .before .before))
+sub-grow c = omega (arith, within (moved-late (c .before .before .before)))
 
 grow-requires-2 : tie.Need-grow-requires-2
 grow-requires-2 c κs =
-    let s = c .before .before .before .before .before .before .before .before .before .before .before .before .before .before .before .before in
+    let s = moved-late (c .before .before .before) in
     follow-asks (s .pre .0) _ (s .pre .1) (sideOf (s .args .side)) (s .args .old) (s .pre .4) (c .before .before .lesser .result) (omega (arith, c .before .before .before .before .before .before .before .before .if1 .left)) (omega (arith, within s, c .before .before .lesser .ensures .1))
 
 same-length-5 : tie.Need-same-length-5
@@ -115,7 +122,7 @@ same-length-6 c = search needs
 
 returns-3 : tie.Need-returns-3
 returns-3 c =
-    let s = c .before .before .before .before .before .before .before .before .before .before .before .before .before .before .before .before .before .before .before .before .before in
+    let s = moved-late (c .before .before .before .before .before .before .before .before) in
     let m = c .before .before .before .before .before .before .before .lesser .ensures in
     followed-late (s .pre .0) _ (s .pre .1) (s .args .old) (rw (side-late _ (c .before .before .before .before .before .before .before .before .if2 .left)) at (s .pre .4)) (was-later s (c .before .before .before .before .before .before .before .before .if2 .left)) _ m (c .before .before .before .before .grow2 .ensures)
 

@@ -10,6 +10,13 @@ use borrow.Author.Needs.{needs}
 use Rattle.searches.proofs.next_time.Statement.{statement}
 use Rattle.searches.proofs.next_time.Tie as tie
 
+-- where the call began, before the search of each side
+abbrev on-early : tie.Then3 → tie.Start
+on-early d = d .before .before .before .before .before .before .before .before .before .before .before .before .before
+
+abbrev on-late : tie.Else3 → tie.Start
+on-late d = d .before .before .before .before .before .before .before .before .before .before .before .before .before
+
 -- the job's earliest end, its latest end and the limit, in order
 within : (s : tie.Start) → let a = s .args in ((a .est .now ! a .job + a .dur .now ! a .job ≤ a .lct .now ! a .job) × (a .lct .now ! a .job ≤ mostTime))
 within s = window-within (s .pre .0) (s .args .job) (s .pre .1)
@@ -49,48 +56,48 @@ shared-slice-read-l : tie.Need-shared-slice-read-l
 shared-slice-read-l c = search needs
 
 sub-early : tie.Need-sub-early
-sub-early c = omega (arith, within (c .before .before .before .before .before .before .before .before .before .before .before .before .before))
+sub-early c = omega (arith, within (on-early c))
 
 add-early : tie.Need-add-early
-add-early c = omega (arith, within (c .before .before .before .before .before .before .before .before .before .before .before .before .before))
+add-early c = omega (arith, within (on-early c))
 
 early-requires : tie.Need-early-requires
 early-requires c κs =
-    let w = within (c .before .before .before .before .before .before .before .before .before .before .before .before .before) in
-    (c .before .before .before .before .before .before .before .before .before .before .before .before .before .pre .2 .keeps .points, omega arith, omega arith, omega arith)
+    let w = within (on-early c) in
+    (on-early c .pre .2 .keeps .points, omega arith, omega arith, omega arith)
 
 sub-t27 : tie.Need-sub-t27
 sub-t27 c = search needs
 
 returns-3 : tie.Need-returns-3
 returns-3 c =
-    let p = c .before .before .before .before .before .before .before .before .before .before .before .before .before .before .before .pre in
+    let p = on-early (c .before .before) .pre in
     early-moves _ _ _ _ _ _ (p .0) (p .1) (c .before .before .before .before .before .if2 .left) (c .before .before .before .before .before .before .if1 .left) _ (p .2) _ (c .before .before .if3 .taken) (c .before .early .ensures) (c .if4 .taken)
 
 returns-4 : tie.Need-returns-4
 returns-4 c =
-    let p = c .before .before .before .before .before .before .before .before .before .before .before .before .before .before .before .pre in
+    let p = on-early (c .before .before) .pre in
     early-rests _ _ _ _ _ _ (p .0) (p .1) (c .before .before .before .before .before .if2 .left) (c .before .before .before .before .before .before .if1 .left) _ (p .2) _ (c .before .before .if3 .taken) (c .before .early .ensures) (c .if4 .left)
 
 sub-late : tie.Need-sub-late
-sub-late c = omega (arith, within (c .before .before .before .before .before .before .before .before .before .before .before .before .before))
+sub-late c = omega (arith, within (on-late c))
 
 add-late : tie.Need-add-late
-add-late c = omega (arith, within (c .before .before .before .before .before .before .before .before .before .before .before .before .before))
+add-late c = omega (arith, within (on-late c))
 
 late-requires : tie.Need-late-requires
 late-requires c κs =
-    let w = within (c .before .before .before .before .before .before .before .before .before .before .before .before .before) in
-    (c .before .before .before .before .before .before .before .before .before .before .before .before .before .pre .2 .keeps .points, omega arith, omega arith, omega arith)
+    let w = within (on-late c) in
+    (on-late c .pre .2 .keeps .points, omega arith, omega arith, omega arith)
 
 returns-5 : tie.Need-returns-5
 returns-5 c =
-    let p = c .before .before .before .before .before .before .before .before .before .before .before .before .before .before .before .pre in
+    let p = on-late (c .before .before) .pre in
     late-moves _ _ _ _ _ _ (p .0) (p .1) (c .before .before .before .before .before .if2 .left) (c .before .before .before .before .before .before .if1 .left) _ (p .2) _ (c .before .before .if3 .left) (c .before .late .ensures) (c .if5 .taken)
 
 returns-6 : tie.Need-returns-6
 returns-6 c =
-    let p = c .before .before .before .before .before .before .before .before .before .before .before .before .before .before .before .pre in
+    let p = on-late (c .before .before) .pre in
     late-rests _ _ _ _ _ _ (p .0) (p .1) (c .before .before .before .before .before .if2 .left) (c .before .before .before .before .before .before .if1 .left) _ (p .2) _ (c .before .before .if3 .left) (c .before .late .ensures) (c .if5 .left)
 
 pub next-time-spec : {M : Type 1} → statement M
