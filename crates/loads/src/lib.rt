@@ -1,5 +1,5 @@
-// The load of all jobs kept as a profile (02, Item 5): built from the windows, and raised where a move has made a sure part longer. Its points are where
-// a sure part begins or ends, or has done so before a move.
+// The load of all jobs kept as a profile (02, Item 5): built from the windows, and raised where a move has made a sure part longer. Its points are 0
+// and where a sure part begins or ends, or has done so before a move.
 use profile::Outline;
 ghost use mathlib.Core.Path.{_≡_};
 ghost use Prim.Native.Nat.{_<_, _≤_};

@@ -8,7 +8,8 @@ ghost use Prim.Native.Nat.{_<_, _≤_};
 ghost use Rattle.profile.specs.Steps.{behindAll, Points};
 ghost use Rattle.profile.specs.Keeps.{LastOver, FirstOver};
 
-// One more than the last t with a <= t < b over the limit, and a where there is none. Walks the pieces down from the one of b - 1.
+// One more than the last t with a <= t < b over the limit, and a where there is none. Walks the pieces down from the one of b - 1, to that of
+// a at most.
 pub fn last_over(ts: &[u32], ld: &[u32], kept: Outline, a: u32, b: u32, limit: u32) -> u32
     requires { ⌜ Points (now ts) (now ld) (kept .m) × (a ≤ b) × (b < behindAll) ⌝ }
     ensures { λ x. ⌜ LastOver (now (ts .entry)) (now (ld .entry)) kept limit a b x ⌝ }
@@ -30,7 +31,7 @@ pub fn last_over(ts: &[u32], ld: &[u32], kept: Outline, a: u32, b: u32, limit: u
     lesser(ts[i + 1], b)
 }
 
-// The first t with a <= t < b over the limit, and b where there is none. Walks the pieces up from a's.
+// The first t with a <= t < b over the limit, and b where there is none. Walks the pieces up from a's, to the last one before b at most.
 pub fn first_over(ts: &[u32], ld: &[u32], kept: Outline, a: u32, b: u32, limit: u32) -> u32
     requires { ⌜ Points (now ts) (now ld) (kept .m) × (a ≤ b) × (b < behindAll) ⌝ }
     ensures { λ x. ⌜ FirstOver (now (ts .entry)) (now (ld .entry)) kept limit a b x ⌝ }

@@ -14,6 +14,7 @@ use Rattle.lists.specs.Sets.{totalOf}
 use Rattle.lists.proofs.Sets.{totalOf-limit}
 use Rattle.lists.proofs.Sums.{total-zero, total-suc}
 use Rattle.narrowing.specs.Windows.{Win, win, moved, sideOf}
+use Rattle.narrowing.proofs.Moves.{side-late}
 use Rattle.joblist.specs.Limits.{mostDemand, mostJobs}
 use Rattle.timetable.specs.Time.{Jobs, sure, load, bound}
 use Rattle.timetable.specs.Table.{jobsOf, Good}
@@ -68,5 +69,4 @@ pub shift-early : (e l : List ℕ) (j s t : ℕ) → s ≡ 0 → win (set e j (t
 shift-early e l j s t h = rw (h, add-one)
 
 pub shift-late : (e l : List ℕ) (j s t : ℕ) → (s ≡ 0 → ⊥) → win e (set l j t) ≡ moved (win e l) j (sideOf s) (bound (sideOf s) t)
-shift-late e l j zero t h = absurd (h refl)
-shift-late e l j (suc s) t h = refl
+shift-late e l j s t h = rw (side-late s h)

@@ -1,4 +1,4 @@
-// Time-tabling in code (01, 'The two time-tabling rules'): the load of a job at a time, and the move of a rule.
+// Time-tabling in code (01, 'The two time-tabling rules'): the load of the other jobs at a time, and the move of a rule.
 ghost use mathlib.Core.Path.{_≡_};
 ghost use mathlib.Core.Bool.{not};
 ghost use Prim.Native.Nat.{_+_, _<_, _≤_};
