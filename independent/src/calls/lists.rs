@@ -47,7 +47,8 @@ fn drawn(random: &mut Random, shape: &Shape) -> (Times, Supply) {
         } else {
             random.between(0, shape.slack)
         };
-        times.push(start, start + duration + slack, duration);
+        let end = (start + duration + slack).min(MOST_TIME);
+        times.push(start, end, duration);
         supply.dem.push(random.between(0, shape.demand));
     }
     (times, supply)
