@@ -45,6 +45,25 @@ module _ (lo hi t : ℕ) where
   pub counts-behind : (x : ℕ) → hi ≤ t → only (between lo hi t) x ≡ 0
   counts-behind x a = rw (between-behind a)
 
+-- a stretch with nothing in it, and one cut in two
+pub counts-empty : (lo hi t x : ℕ) → hi ≤ lo → only (between lo hi t) x ≡ 0
+counts-empty lo hi t x h = elim (decLe hi t) [ yes d ↦ counts-behind lo hi t x d | no d ↦ counts-before lo hi t x (omega arith) ]
+
+pub counts-cut : (lo mid hi t x : ℕ) → lo ≤ mid → mid ≤ hi → only (between lo mid t) x + only (between mid hi t) x ≡ only (between lo hi t) x
+counts-cut lo mid hi t x a b =
+    elim (decLe lo t) [
+      | no d ↦ omega (arith, counts-before lo mid t x (omega arith), counts-before mid hi t x (omega arith), counts-before lo hi t x (omega arith))
+      | yes d ↦
+          elim (decLe hi t) [
+            | yes e ↦ omega (arith, counts-behind lo mid t x (omega arith), counts-behind mid hi t x e, counts-behind lo hi t x e)
+            | no e ↦
+                elim (decLe mid t) [
+                  | yes c ↦ omega (arith, counts-behind lo mid t x c, counts-in mid hi t x c (omega arith), counts-in lo hi t x d (omega arith))
+                  | no c ↦ omega (arith, counts-in lo mid t x d (omega arith), counts-before mid hi t x (omega arith), counts-in lo hi t x d (omega arith))
+                ]
+          ]
+    ]
+
 pub only-le : (a b : Bool) (x : ℕ) → (a ≡ true → b ≡ true) → only a x ≤ only b x
 only-le true b x h = rw (h refl) (omega arith)
 only-le false b x h = omega arith

@@ -9,7 +9,7 @@ use lib.ListN.{length, length-set}
 use lib.Seq.{getD-set-same}
 use Rattle.lists.specs.Lists.{_!_}
 use Rattle.lists.specs.Tests.{between, only}
-use Rattle.lists.proofs.Tests.{counts-in, counts-before, counts-behind}
+use Rattle.lists.proofs.Tests.{counts-empty, counts-cut}
 use Rattle.narrowing.specs.Windows.{win, Side, early, late, moved}
 use Rattle.joblist.specs.Limits.{jobs, mostTime}
 use Rattle.timetable.specs.Time.{Jobs, load}
@@ -30,42 +30,20 @@ use Rattle.loads.proofs.Full.{full-most, load-full}
 abbrev counts : ℕ → ℕ → ℕ → ℕ → ℕ
 counts s f t r = only (between s f t) r
 
--- a part that ends at f where it ended at a, and one that begins at s where it began at a
+-- a part that ends at f where it ended at a, and one that begins at s where it began at a: what it was and what it has gained
 later : (s a f lo t r : ℕ) → a ≤ f → IsGreater s a lo → counts s a t r + counts lo f t r ≡ counts s f t r
 later s a f lo t r h m =
-    elim (decLt t s) [
-      | yes d ↦ omega (arith, counts-before s a t r d, counts-before s f t r d, counts-before lo f t r (omega arith))
-      | no d ↦
-          elim (decLt t f) [
-            | yes b ↦
-                elim (decLt t a) [
-                  | yes c ↦ omega (arith, counts-in s a t r (omega arith) c, counts-in s f t r (omega arith) b, counts-before lo f t r (omega arith))
-                  | no c ↦ omega (arith, counts-behind s a t r (omega arith), counts-in s f t r (omega arith) b, counts-in lo f t r (reach d c) b)
-                ]
-            | no b ↦ omega (arith, counts-behind s a t r (omega arith), counts-behind s f t r (omega arith), counts-behind lo f t r (omega arith))
-          ]
+    elim (decLt s a) [
+      | yes d ↦ rw (m .2 d) (counts-cut s a f t r (omega arith) h)
+      | no d ↦ rw (m .3 (omega arith)) (omega (arith, counts-empty s a t r (omega arith)))
     ]
-  where
-    reach : (t < s → ⊥) → (t < a → ⊥) → lo ≤ t
-    reach d c = elim (decLt s a) [ yes q ↦ omega (arith, m .2 q) | no q ↦ omega (arith, m .3 (omega arith)) ]
 
 sooner : (a s f hi t r : ℕ) → s ≤ a → IsLesser a f hi → counts a f t r + counts s hi t r ≡ counts s f t r
 sooner a s f hi t r h m =
-    elim (decLt t s) [
-      | yes d ↦ omega (arith, counts-before a f t r (omega arith), counts-before s f t r d, counts-before s hi t r d)
-      | no d ↦
-          elim (decLt t f) [
-            | yes b ↦
-                elim (decLt t a) [
-                  | yes c ↦ omega (arith, counts-before a f t r c, counts-in s f t r (omega arith) b, counts-in s hi t r (omega arith) (reach b c))
-                  | no c ↦ omega (arith, counts-in a f t r (omega arith) b, counts-in s f t r (omega arith) b, counts-behind s hi t r (omega arith))
-                ]
-            | no b ↦ omega (arith, counts-behind a f t r (omega arith), counts-behind s f t r (omega arith), counts-behind s hi t r (omega arith))
-          ]
+    elim (decLt a f) [
+      | yes d ↦ rw (m .2 d) (omega (arith, counts-cut s a f t r h (omega arith)))
+      | no d ↦ rw (m .3 (omega arith)) (omega (arith, counts-empty a f t r (omega arith)))
     ]
-  where
-    reach : t < f → t < a → t < hi
-    reach b c = elim (decLt a f) [ yes q ↦ omega (arith, m .2 q) | no q ↦ omega (arith, m .3 (omega arith)) ]
 
 module _ {e l p r : List ℕ} (w : Workable (asked e l p r 0)) (j : ℕ) (d : j < length p) where
   abbrev J : Jobs

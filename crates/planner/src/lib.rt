@@ -1,5 +1,5 @@
-// Narrowing (document 01, 'Answer table'; document 02, Item 3): the call, on copies of the windows. `rounds` does the work, the crate
-// `writer` puts its records down.
+// Narrowing (document 01, 'Answer table'; document 02, Item 3): the call, on copies of the windows. The crate `rounds` does the
+// work, turn by turn.
 use answers::Answer;
 ghost use mathlib.Core.Path.{_≡_};
 ghost use Rattle.narrowing.specs.Windows.{win};

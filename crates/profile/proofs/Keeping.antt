@@ -2,11 +2,12 @@
 use Prim.Native.Nat.{ℕ, _≤_, _<_}
 use native.Mathlib.Omega.{arith}
 use native.Mathlib.Decide.{decLt}
-use mathlib.Core.Path.{_≡_, refl, sym, _∙_}
+use mathlib.Core.Path.{_≡_, refl, _∙_}
 use mathlib.Core.List.{List}
 use lib.ListN.{length, set, length-set}
 use lib.Seq.{getD-set-same, getD-set-other}
 use Rattle.lists.specs.Lists.{_!_}
+use Rattle.lists.proofs.Tests.{counts-empty}
 use Rattle.profile.specs.Steps.{behindAll}
 use Rattle.profile.specs.Raises.{raised, Low}
 use Rattle.profile.specs.declared.kept.Outline.{Outline}
@@ -24,8 +25,7 @@ keeps-low {f} K b h = level-low (K .points) f (K .levels) b h
 
 -- nothing to raise
 raised-none : (f : ℕ → ℕ) (lo hi r t : ℕ) → hi ≤ lo → f t ≡ raised f lo hi r t
-raised-none f lo hi r t h =
-    elim (decLt t hi) [ yes d ↦ sym (raised-before f lo hi r t (omega arith)) | no d ↦ sym (raised-behind f lo hi r t (omega arith)) ]
+raised-none f lo hi r t h = omega (arith, counts-empty lo hi t r h)
 
 pub grows-none : (ts ld : List ℕ) (k : Outline) (lo hi r : ℕ) → hi ≤ lo → Grows ts ld k lo hi r ts ld k
 grows-none ts ld k lo hi r h =

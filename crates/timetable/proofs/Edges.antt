@@ -4,6 +4,7 @@ use Prim.Native.Nat.{ℕ, zero, suc, _+_, _-_, _≤_, _<_}
 use native.Mathlib.Omega.{arith}
 use native.Mathlib.Decide.{decLt, decLe}
 use mathlib.Core.Path.{_≡_, refl}
+use mathlib.Core.List.{List}
 use mathlib.Core.Option.{Option, none, some}
 use mathlib.Core.Logic.{inl, inr}
 use Rattle.lists.specs.Lists.{_!_}
@@ -14,10 +15,15 @@ use Rattle.narrowing.specs.Windows.{Win, Side, early, late}
 use Rattle.narrowing.specs.Search.{Found}
 use Rattle.timetable.specs.Time.{Jobs, load, Crowded, Applies, bound}
 use Rattle.timetable.specs.Search.{Member, member, best}
-use Rattle.timetable.specs.Edges.{PartEdge, Looked, MovesAt}
+use Rattle.timetable.specs.Edges.{Edge, PartEdge, Looked, MovesAt}
 use Rattle.timetable.proofs.Facts.{member-yes, yes-member}
 use Rattle.timetable.proofs.Lean.{members-load}
 use Rattle.timetable.proofs.Law.{best-early, best-late, best-is}
+
+-- a job has one edge on a side, so that there are no more to look at than jobs
+pub edge-one : (s : Side) (p : List ℕ) (W : Win) (k t u : ℕ) → Edge s p W k t → Edge s p W k u → t ≡ u
+edge-one early p W k t u a b = omega arith
+edge-one late p W k t u a b = omega arith
 
 module _ (J : Jobs) (W : Win) (j : ℕ) where
   -- with less load at u some member at t is none at u
