@@ -1,6 +1,6 @@
 -- What a run leaves: the windows that its moves lead to, on lists as long as before, with the closing move last in a clash, or none where a window
 -- was too short; and windows that a second run leaves alone.
-use Prim.Native.Nat.{ℕ, zero, suc, _≤_, _<_}
+use Prim.Native.Nat.{ℕ, zero, suc}
 use native.Mathlib.Omega.{arith}
 use mathlib.Core.Path.{_≡_, refl, ap, _∙_}
 use mathlib.Core.List.{List, [], _∷_}
@@ -10,7 +10,7 @@ use Rattle.narrowing.specs.Windows.{Win, Side, early, late, Long, moved}
 use Rattle.narrowing.specs.Rules.{Family, Stable}
 use Rattle.narrowing.specs.Search.{Search, Searches, Move, move, after}
 use Rattle.narrowing.specs.Led.{SameLengths, Led, Closes, Reached}
-use Rattle.narrowing.specs.Run.{Next, rests, moves, nextMove, Out, settled, clash, short, push, follow, work, run, reachedBy}
+use Rattle.narrowing.specs.Run.{Next, rests, moves, nextMove, Out, settled, clash, short, push, follow, work, run}
 use Rattle.narrowing.proofs.Next.{Ahead, next-is}
 use Rattle.narrowing.proofs.Runs.{work-ind}
 use Rattle.narrowing.proofs.TooShort.{run-long, run-by}
@@ -32,7 +32,7 @@ module _ (R : Search) (G : Family) (search : Searches R G) where
   push-reached : (W : Win) (j : ℕ) (s : Side) (c : ℕ) (o : Out) → Closed (after R W j s c) o → Closed W (push (move W j s c) o)
   push-reached W j s c (settled U ms) g = record { lengths = lengths-trans W (after R W j s c) U (moved-lengths W j s (R .bound s c)) (g .lengths); led = g .led }
   push-reached W j s c (clash i ms) g =
-      record { before = move W j s c ∷ g .before; last = g .last; closing = ap (λ (ns : List Move). move W j s c ∷ ns) (g .closing); job = g .job; closed = g .closed }
+      record { before = move W j s c ∷ g .before; last = g .last; closing = ap (λ (ns : List Move). move W j s c ∷ ns) (g .closing); held = g .held; job = g .job; closed = g .closed }
   push-reached W j s c short g = tt
 
   work-closed : (room : ℕ) (W : Win) → Long (R .n) (R .p) W → Closed W (work R room W 0 early)
@@ -40,7 +40,7 @@ module _ (R : Search) (G : Family) (search : Searches R G) where
       work-ind R G search (λ room W j s o. Closed W o)
       (λ room W j s L q. record { lengths = record { early = refl; late = refl }; led = refl })
       (λ W j s i v c L a. tt)
-      (λ room W j s i v c L a e. record { before = []; last = move W i v c; closing = refl; job = refl; closed = ltb-true _ _ e })
+      (λ room W j s i v c L a e. record { before = []; last = move W i v c; closing = refl; held = L; job = refl; closed = ltb-true _ _ e })
       (λ room W j s i v c o L a e g. push-reached W i v c o g)
       room W 0 early L (omega arith)
 

@@ -18,11 +18,12 @@ pub record Led (R : Search) (W : Win) (ms : List Move) (U : Win) : Type 0 where
   pub lengths : SameLengths W U
   pub led : U ≡ reachedBy R W ms
 
--- the last move is job j's, and leaves j's window shorter than the job
+-- the last move is job j's, and leaves j's window shorter than the job; before it every window was long enough
 pub record Closes (R : Search) (W : Win) (ms : List Move) (j : ℕ) : Type 0 where
   pub before : List Move
   pub last : Move
   pub closing : ms ≡ before ++ (last ∷ [])
+  pub held : Long (R .n) (R .p) (reachedBy R W before)
   pub job : last .job ≡ j
   pub closed : reachedBy R W ms .l ! j < reachedBy R W ms .e ! j + R .p ! j
 

@@ -26,6 +26,7 @@ use Rattle.judge.specs.Codes.{Coded}
 use Rattle.judge.specs.Facts.{side, OwnTrue, StatedTrue, Passes, GoodRecord}
 use Rattle.judge.specs.Faults.{Idles}
 use Rattle.replay.specs.Replay.{rejected, Checked, finds}
+use Rattle.verdicts.specs.Fate as fate
 use Rattle.replay.specs.Fate.{reached, nth}
 use Rattle.replay.specs.Promise.{Checks}
 use Rattle.replay.proofs.Taken.{entry-good}
@@ -64,7 +65,6 @@ module _ (c : Call) (a : After) (h : Narrows c a) (n : ℕ) (e : a .says ≡ sai
 
   first-spent : (ms : List Move) → length ms ≡ suc n → a .log ≡ logged (map (entry J) ms) (c .log) → Chosen (search J) (Applies J) (c .win) 0 early ms
       → Coded (jobsOf again) (a .win) (nth again 0) 26
-  unfolding search
   first-spent [] m l x = absurd (omega arith)
   first-spent (y ∷ ys) m l x =
       let r = settled-row c a h (suc n) e in
@@ -89,7 +89,7 @@ module _ (c : Call) (a : After) (h : Narrows c a) (n : ℕ) (e : a .says ≡ sai
       respects-entry y r = unfold naming in (rw (side-number (y .side)) r)
 
   pub left-rejected : (b : Checked) → Checks again (suc n) b → b ≡ finds (said Word.rejected (0 ∷ 26 ∷ [])) (a .win)
-  unfolding reached
+  unfolding fate.reached
   left-rejected b k =
       let r = settled-row c a h (suc n) e in
       let l = h .reasons .settled (suc n) e .logs in

@@ -1,4 +1,3 @@
-pub mod Fates
 pub mod Sound
 pub mod Meaning
 pub mod Taken

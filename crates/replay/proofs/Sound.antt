@@ -1,6 +1,6 @@
 -- A record that passes codes 21 to 26 is a rule's move, implies its own change from the facts that it names, and these hold of all starts in the windows
 -- reached; whether a member is spare plays no part.
-use Prim.Native.Nat.{ℕ, zero, suc, _+_, _≤_, _<_}
+use Prim.Native.Nat.{ℕ, _+_, _≤_, _<_}
 use native.Mathlib.Omega.{arith}
 use native.Mathlib.Decide.{decLt, decLe}
 use mathlib.Core.Path.{_≡_, refl}
@@ -16,18 +16,20 @@ use Rattle.lists.proofs.Sums.{total-le, total-others}
 use Rattle.lists.proofs.Sets.{totalOf-sub}
 use Rattle.narrowing.specs.Windows.{Win, Side, early, late}
 use Rattle.narrowing.specs.Rules.{Step}
-use Rattle.narrowing.proofs.Steps.{step-refl, step-trans, step-move}
+use Rattle.narrowing.proofs.Steps.{step-move}
 use Rattle.journal.specs.Journal.{jobOf, timeOf, isMember}
 use Rattle.timetable.specs.Time.{Jobs, Runs, runs, load, Crowded, Applies, bound}
 use Rattle.timetable.specs.Search.{member}
 use Rattle.timetable.specs.Reason.{OwnFact, Stated, namedDrawn, Changed, Implied, Within}
-use Rattle.timetable.specs.Table.{Call, jobsOf}
+use Rattle.timetable.specs.Table.{Call, jobsOf, asks}
 use Rattle.timetable.proofs.Facts.{yes-runs, yes-member}
 use Rattle.timetable.proofs.Law.{lawful}
+use Rattle.timetable.proofs.Exact.{exact}
 use Rattle.timetable.proofs.Lean.{members-load}
-use Rattle.judge.specs.Facts.{side, OwnTrue, Tightens, Passes}
-use Rattle.replay.specs.Replay.{changed}
-use Rattle.replay.specs.Fate.{reached, Takes}
+use Rattle.judge.specs.Facts.{side, OwnTrue, Tightens, Passes, GoodRecord}
+use Rattle.judge.proofs.Codes.{code-exactly, good-record, record-good}
+use Rattle.verdicts.specs.Promise.{Judges}
+use Rattle.replay.specs.Replay.{changed, ReasonedOn, trial}
 
 module _ (J : Jobs) (W : Win) (x : List ℕ) (g : Passes J W x) where
   -- ---- a rule's move
@@ -103,12 +105,25 @@ module _ (J : Jobs) (W : Win) (x : List ℕ) (g : Passes J W x) where
       by early o = omega (arith, w .from (jobOf x) (g .in-range .job))
       by late o = omega (arith, w .to (jobOf x) (g .in-range .job))
 
--- ---- the records one after the other
+-- so it is reasoned
+pub reasoned : (J : Jobs) (W : Win) (x : List ℕ) → GoodRecord J W x → ReasonedOn J W x
+reasoned J W x t =
+    let g = t .passes in
+    record {
+      implies = implies J W x g;
+      true-there = true-there J W x g;
+      lean = record { counted = g .counted; other = λ h. g .partners .members _ h .1 refl; exceeds = g .exceeds; lean = t .lean };
+    }
 
-module _ (c : Call) where
-  pub reached-step : (i : ℕ) → ((h : ℕ) → h < i → Takes c h) → Step (jobsOf c .n) (c .p) (Applies (jobsOf c)) (c .win) (reached c i)
-  unfolding reached
-  reached-step zero t = step-refl (jobsOf c .n) (c .p) (Applies (jobsOf c)) (c .win)
-  reached-step (suc i) t =
-      step-trans (jobsOf c .n) (c .p) (Applies (jobsOf c)) (c .win) (reached c i) _ (reached-step i (λ h b. t h (omega arith)))
-      (record-step (jobsOf c) (reached c i) _ (t i (omega arith) .passes))
+-- what is asked of the test and the change of a record
+pub judging : (c : Call) → Judges (trial (jobsOf c)) (asks c)
+judging c =
+    let J = jobsOf c in
+    record {
+      codes = code-exactly J;
+      goods = λ W x. (good-record J W x, record-good J W x);
+      listed = λ W x g. g .passes .in-range .job;
+      step = λ W x g. record-step J W x (g .passes);
+      reasons = reasoned J;
+      sound = exact J .sound;
+    }

@@ -2,38 +2,22 @@
 use Prim.Native.Nat.{ℕ, _<_}
 use mathlib.Core.Path.{_≡_}
 use mathlib.Core.List.{List, [], _∷_}
-use Rattle.lists.specs.Lists.{_!_}
-use Rattle.answers.specs.Said.{Word, Said, said}
-use Rattle.journal.specs.Journal.{jobOf, timeOf, isMember}
-use Rattle.timetable.specs.Table.{Call, call, jobsOf, After}
+use Rattle.answers.specs.Said.{Word, said}
+use Rattle.timetable.specs.Table.{Call, call, jobsOf, asks, After}
 use Rattle.timetable.specs.Promise.{Scheduled, Narrows}
-use Rattle.timetable.specs.Reason.{Stated, Implied, Within, LeanRecord}
-use Rattle.judge.specs.Facts.{side}
-use Rattle.replay.specs.Replay.{Checked, finds, checked}
+pub use Rattle.verdicts.specs.Promise.{takenBy, taken}
+use Rattle.verdicts.specs.Promise as promise
+use Rattle.replay.specs.Replay.{ReasonedOn, trial, Checked, finds, checked}
 use Rattle.replay.specs.Fate.{nth, reached}
-
--- the number of records that an answer takes: all where it holds or clashes, those before the bad one where it is rejected
-abbrev pub takenBy : Word → ℕ → ℕ
-takenBy Word.holds k = k
-takenBy Word.clash k = k
-takenBy Word.rejected k = k
-takenBy Word.settled k = 0
-takenBy Word.refused k = 0
-takenBy Word.none k = 0
-takenBy Word.overload k = 0
-takenBy Word.written k = 0
-takenBy Word.read k = 0
-
-abbrev pub taken : Said → ℕ
-taken a = takenBy (a .word) (a .numbers ! 0)
 
 -- record i implies its own change from the facts that it names, for any whole starts; the facts hold of all starts in the windows reached; and it names
 -- no member that it could do without
-pub record Reasoned (c : Call) (i : ℕ) : Type 0 where
-  pub implies : Implied (jobsOf c) (isMember (nth c i)) (jobOf (nth c i)) (side (nth c i)) (timeOf (nth c i))
-  pub true-there : (s : List ℕ) → Within (jobsOf c .n) (c .p) (reached c i) s
-      → Stated (jobsOf c .n) (c .p) s (isMember (nth c i)) (jobOf (nth c i)) (side (nth c i)) (timeOf (nth c i))
-  pub lean : LeanRecord (jobsOf c) (nth c i)
+abbrev pub Reasoned : Call → ℕ → Type 0
+Reasoned c i = ReasonedOn (jobsOf c) (reached c i) (nth c i)
+
+-- what the words of an answer say of the log: where it holds or clashes, of all claimed records, to the windows reached or the job whose window is closed
+abbrev pub Replayed : Call → ℕ → Checked → Type 0
+Replayed c = promise.Replayed (trial (jobsOf c)) (asks c)
 
 -- a log that narrowing left on these windows, whatever stood in it before, with all its records claimed, is taken to the same end
 pub record TakesLogs (c : Call) (count : ℕ) (a : Checked) : Type 0 where
@@ -45,6 +29,8 @@ pub record TakesLogs (c : Call) (count : ℕ) (a : Checked) : Type 0 where
 -- the contract of the checker
 pub record Checks (c : Call) (count : ℕ) (a : Checked) : Type 0 where
   pub answered : a ≡ checked c count
+  -- the count is that of the claimed records, the windows are those that they reach, the job and the code those of the records
+  pub replayed : Replayed c count a
   -- for every record it takes, whoever wrote it
   pub implied : (i : ℕ) → i < taken (a .says) → Reasoned c i
   -- every schedule within the submitted windows lies within those left

@@ -41,7 +41,6 @@ pub record Reached (c : Call) (W : Win) (log : List ℕ) (at : Place) (count : �
   pub log-is : log ≡ logged (map (entry (jobsOf c)) ms) (c .log)
 
 pub reached-start : (c : Call) → Workable c → Reached c (c .win) (c .log) firstPlace 0
-unfolding search
 reached-start c w =
     record {
       workable = w;
@@ -68,7 +67,7 @@ module _ (c : Call) (W : Win) (log : List ℕ) (at : Place) (count : ℕ) (S : R
 
   -- no job is left
   pub reached-end : jobs (c .win) ≤ at .job → Works c (Answer.Settled count) W log
-  unfolding ran search
+  unfolding ran
   reached-end b =
       leaves-as c (settled W (S .ms)) _ W log (going-end (search (jobsOf c)) (roomOf (c .log)) (c .win) W (S .ms) at (S .going) b)
       (ap Answer.Settled (sym (S .counted)), refl, S .log-is)
@@ -76,7 +75,6 @@ module _ (c : Call) (W : Win) (log : List ℕ) (at : Place) (count : ℕ) (S : R
   module _ (b : at .job < jobs (c .win)) (W′ : Win) (log′ : List ℕ) where
     -- the place rests
     pub reached-rest : TurnSays (on c W log) at count W′ log′ Turn.Rests → Reached c W′ log′ (onwardOf at (jobs (c .win))) count
-    unfolding search
     reached-rest h =
         rw (h .1, h .2)
         record {
@@ -91,7 +89,7 @@ module _ (c : Call) (W : Win) (log : List ℕ) (at : Place) (count : ℕ) (S : R
 
     -- there is no room
     pub reached-full : TurnSays (on c W log) at count W′ log′ Turn.Full → Works c (Answer.Refused 5) W′ log′
-    unfolding ran search
+    unfolding ran
     reached-full h =
         leaves-as c short _ W′ log′
         (going-short (search (jobsOf c)) (roomOf (c .log)) (c .win) W (S .ms) at (S .going) (h .0) b (best-same (some (h .0)) (h .1)) (omega (arith, same-room, S .counted, h .2)))
@@ -126,7 +124,7 @@ module _ (c : Call) (W : Win) (log : List ℕ) (at : Place) (count : ℕ) (S : R
 
       -- the move closes the window
       pub reached-closed : closes (c .p) W′ (at .job) ≡ true → Works c (Answer.Clash (count + 1) (at .job)) W′ log′
-      unfolding ran search
+      unfolding ran
       reached-closed e =
           leaves-as c (clash (at .job) (S .ms ++ one ∷ [])) _ W′ log′
           (going-closed (search (jobsOf c)) (roomOf (c .log)) (c .win) W (S .ms) at (S .going) t b found-same left (closes-same true e))
@@ -134,7 +132,6 @@ module _ (c : Call) (W : Win) (log : List ℕ) (at : Place) (count : ℕ) (S : R
 
       -- it does not
       pub reached-moved : closes (c .p) W′ (at .job) ≡ false → Reached c W′ log′ (place (at .job) (at .side) true) (count + 1)
-      unfolding search
       reached-moved e =
           let a = best-applies (on c W log) (S .workable) (at .job) (sideOf (at .side)) (omega (arith, S .size)) t (m .found) in
           record {

@@ -24,7 +24,7 @@ EndsAs c short a W log = a ≡ Answer.Refused 5
 
 -- how the defined run of a call ends
 unfoldable pub ran : Call → Out
-unfolding run search roomOf
+unfolding run roomOf
 ran c = run (search (jobsOf c)) (roomOf (c .log)) (c .win)
 
 -- the work's answer, windows and log are those of the defined run

@@ -28,7 +28,6 @@ number-of-side (suc k) h = omega arith
 
 module _ (c : Call) (w : Workable c) (j : ℕ) (s : Side) (b : j < jobs (c .win)) where
   best-is : search.Found (Applies (jobsOf c) (c .win) j s) (bound s) (best (jobsOf c) (c .win) j s)
-  unfolding search
   best-is = searches (jobsOf c) .best-is (c .win) j s (w .long) b
 
   -- the time found is one at which the rule applies

@@ -1,7 +1,6 @@
 -- The records of moves, whomever a writer names: each has a record's number of words, and there are as many as there are moves.
-use Prim.Native.Nat.{suc}
-use mathlib.Core.Path.{_≡_, refl, ap}
-use mathlib.Core.List.{List, [], _∷_, map}
+use mathlib.Core.Path.{_≡_}
+use mathlib.Core.List.{List, map}
 use lib.ListN.{length}
 use Rattle.narrowing.specs.Windows.{number}
 use Rattle.narrowing.specs.Search.{Move}
@@ -9,6 +8,7 @@ use Rattle.members.specs.Members.{setWords, setOf}
 use Rattle.members.proofs.Sets.{setOf-length}
 use Rattle.journal.specs.Journal.{recordWords, AreRecords}
 use Rattle.journal.proofs.Records.{written-length}
+use Rattle.promises.proofs.Logs as logs
 use Rattle.timetable.specs.Time.{Jobs}
 use Rattle.timetable.specs.Search.{Names, naming}
 
@@ -20,9 +20,7 @@ module _ (M : Names) (J : Jobs) where
       written-length (m .job) (number (m .side)) (m .choice) (setOf setWords named) (setOf-length setWords named)
 
   pub entries-are : (ms : List Move) → AreRecords (map (naming M J) ms)
-  entries-are [] = tt
-  entries-are (m ∷ ms) = (entry-length m, entries-are ms)
+  entries-are = logs.entries-are (naming M J) entry-length
 
   pub entries-count : (ms : List Move) → length (map (naming M J) ms) ≡ length ms
-  entries-count [] = refl
-  entries-count (m ∷ ms) = ap suc (entries-count ms)
+  entries-count = logs.entries-count (naming M J)

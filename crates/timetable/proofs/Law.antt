@@ -1,21 +1,20 @@
 -- Time-tabling is a lawful family; its searches find the greatest time on side 0 and the least on side 1, and a rule wherever one applies.
-use Prim.Native.Nat.{ℕ, zero, suc, _+_, _-_, _≤_, _<_}
+use Prim.Native.Nat.{ℕ, suc, _-_, _≤_, _<_}
 use native.Mathlib.Omega.{arith}
 use mathlib.Core.Path.{_≡_}
-use mathlib.Core.Bool.{Bool, true, not}
+use mathlib.Core.Bool.{true, not}
 use mathlib.Core.Option.{Option, none, some}
 use lib.Dec.{eqb}
 use Rattle.lists.specs.Lists.{_!_}
 use Rattle.lists.specs.Tests.{both, only}
-use Rattle.lists.specs.Sums.{total}
-use Rattle.lists.specs.Searches.{greatest, least, In, Greatest, Least}
+use Rattle.lists.specs.Searches.{Greatest, Least}
 use Rattle.lists.proofs.Tests.{both-true, true-both, only-le}
 use Rattle.lists.proofs.Sums.{total-le}
 use Rattle.lists.proofs.Searches.{greatest-is, least-is}
 use Rattle.narrowing.specs.Windows.{Win, Side, early, late, Long, Inside, Tighter}
 use Rattle.narrowing.specs.Rules.{Lawful}
 use Rattle.narrowing.specs.Search.{Found, Searches}
-use Rattle.timetable.specs.Time.{Jobs, sure, load, Crowded, Early, Late, Applies, bound}
+use Rattle.timetable.specs.Time.{Jobs, sure, load, Crowded, Applies, bound}
 use Rattle.timetable.specs.Search.{crowded, best, search}
 use Rattle.timetable.proofs.Facts.{sure-yes, yes-sure, crowded-yes, yes-crowded}
 
@@ -77,5 +76,5 @@ module _ (J : Jobs) (W : Win) (j : ℕ) where
   best-is late h = late-found h (best J W j late) best-late
 
 pub searches : (J : Jobs) → Searches (search J) (Applies J)
-unfolding search Long
+unfolding Long
 searches J = record { best-is = λ W j s L b. best-is J W j s (omega (arith, L j b)) }

@@ -1,12 +1,12 @@
 -- The writer's members are lean: some of 01's, whose demands with the moved job's exceed the capacity at a crowded time, and none of whom is spare; and so
 -- are the records of a log.
-use Prim.Native.Nat.{ℕ, zero, suc, _*_, _≤_, _<_}
+use Prim.Native.Nat.{ℕ, _*_, _≤_, _<_}
 use native.Mathlib.Omega.{arith}
 use mathlib.Core.Path.{_≡_, refl, sym, subst}
 use mathlib.Core.Bool.{true, false, not}
-use mathlib.Core.List.{List, [], _∷_, map}
+use mathlib.Core.List.{List, map}
 use lib.Dec.{eqb}
-use lib.ListN.{length, getD}
+use lib.ListN.{length}
 use borrow.Author.Tests.{ne-eqb, eqb-false, not-true}
 use Rattle.lists.specs.Lists.{_!_}
 use Rattle.lists.specs.Tests.{both, only}
@@ -18,17 +18,17 @@ use Rattle.lists.proofs.Sets.{clash, totalOf-sub}
 use Rattle.lists.proofs.Spares.{leaned-in, leaned-exceeds, leaned-none-spare}
 use Rattle.narrowing.specs.Windows.{Win, Side, early}
 use Rattle.narrowing.specs.Search.{Move}
-use Rattle.narrowing.specs.Rounds.{Chosen}
+use Rattle.narrowing.specs.Rounds.{Choice, Chosen}
 use Rattle.members.specs.Members.{setWords}
 use Rattle.members.proofs.Sets.{has-given}
 use Rattle.members.proofs.Spares.{words-exceed, words-none-spare}
 use Rattle.journal.specs.Journal.{jobOf, isMember, roomOf, recordAt, logged}
-use Rattle.journal.proofs.Records.{logged-record}
+use Rattle.promises.proofs.Logs.{logged-fine}
 use Rattle.timetable.specs.Time.{Jobs, sure, load, Crowded, Applies}
 use Rattle.timetable.specs.Search.{search, Member, member, leanMember, naming, entry}
 use Rattle.timetable.specs.Reason.{LeanRecord}
 use Rattle.timetable.proofs.Facts.{crowded-at, sure-yes, yes-sure, member-yes, yes-member}
-use Rattle.timetable.proofs.Entries.{entries-are, entries-count}
+use Rattle.timetable.proofs.Entries.{entry-length}
 
 module _ (J : Jobs) (W : Win) (j t : ℕ) where
   -- the demands of 01's members are the others' load
@@ -85,17 +85,10 @@ module _ (J : Jobs) (few : J .n ≤ 32 * setWords) where
         lean = words-none-spare setWords (J .n) (J .r) (J .r ! m .job) (J .cap) named few (lean-none-spare J (m .before) (m .job) (m .choice));
       }
 
-  entries-lean : (W : Win) (j : ℕ) (s : Side) (ms : List Move) → Chosen (search J) (Applies J) W j s ms → (i : ℕ) → i < length ms
-      → LeanRecord J (getD (map (entry J) ms) i [])
-  unfolding search
-  entries-lean W j s [] x i b = absurd (omega arith)
-  entries-lean W j s (m ∷ ms) x zero b =
-      entry-lean m
-      (subst (λ (U : Win). Crowded J U (m .job) (m .choice)) (sym (x .0 .before)) (crowded-at J W (m .job) (m .side) (m .choice) (x .0 .applies)))
-  entries-lean W j s (m ∷ ms) x (suc i) b = entries-lean _ (m .job) (m .side) ms (x .1) i (omega arith)
+  choice-lean : (W : Win) (j : ℕ) (s : Side) (m : Move) → Choice (search J) (Applies J) W j s m → LeanRecord J (entry J m)
+  choice-lean W j s m x =
+      entry-lean m (subst (λ (U : Win). Crowded J U (m .job) (m .choice)) (sym (x .before)) (crowded-at J W (m .job) (m .side) (m .choice) (x .applies)))
 
   pub logged-lean : (W : Win) (ms : List Move) → Chosen (search J) (Applies J) W 0 early ms → (log : List ℕ) → length ms ≤ roomOf log → (i : ℕ) → i < length ms
       → LeanRecord J (recordAt (logged (map (entry J) ms) log) i)
-  logged-lean W ms x log fits i b =
-      let n = entries-count leanMember J ms in
-      subst (LeanRecord J) (sym (logged-record (map (entry J) ms) log (entries-are leanMember J ms) (omega arith) i (omega arith))) (entries-lean W 0 early ms x i b)
+  logged-lean W ms = logged-fine (entry J) (entry-length leanMember J) (search J) (Applies J) (LeanRecord J) choice-lean W 0 early ms

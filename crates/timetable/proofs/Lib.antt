@@ -8,7 +8,6 @@ pub mod Lean
 pub mod Edges
 pub mod Loads
 pub mod Unmoved
-pub mod Reasons
 pub mod Meaning
 pub mod Rows
 pub mod TooShort

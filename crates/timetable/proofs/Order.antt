@@ -1,9 +1,8 @@
 -- Time-tabling does not look at the jobs' numbers: renumbered, the same rules apply.
-use Prim.Native.Nat.{ℕ, zero, suc, _+_, _≤_, _<_}
+use Prim.Native.Nat.{ℕ, suc, _<_}
 use native.Mathlib.Omega.{arith}
-use mathlib.Core.Path.{_≡_, refl, sym, ap, subst, _∙_}
-use mathlib.Core.Bool.{Bool, not}
-use mathlib.Core.List.{List}
+use mathlib.Core.Path.{_≡_, sym, ap, subst, _∙_}
+use mathlib.Core.Bool.{not}
 use lib.Dec.{eqb}
 use Rattle.lists.specs.Lists.{_!_}
 use Rattle.lists.specs.Tests.{both, only}
@@ -11,10 +10,8 @@ use Rattle.lists.specs.Sums.{total}
 use Rattle.lists.specs.Turns.{Turn, SameList}
 use Rattle.lists.proofs.Sums.{total-cong}
 use Rattle.lists.proofs.Turns.{turned, total-turn, eqb-turn, list-back}
-use Rattle.narrowing.specs.Windows.{Win, Side, early, late}
-use Rattle.narrowing.specs.Rules.{Largest, NoCandidate}
+use Rattle.narrowing.specs.Windows.{Win, early, late}
 use Rattle.narrowing.specs.Renumbered.{SameWin, Alike}
-use Rattle.narrowing.proofs.Renumbered.{largest-same, none-same}
 use Rattle.timetable.specs.Time.{Jobs, sure, load, Crowded, Applies}
 
 -- the same jobs, numbered anew
@@ -50,7 +47,7 @@ module _ (π σ : ℕ → ℕ) (J I : Jobs) (h : Turn (J .n) π σ) (s : SameJob
   alike W U v j late t c a =
       record { from = omega (arith, v .late j c, s .lasts j c); to = omega (arith, v .late j c); crowded = crowded-same W U v j t c (a .crowded) }
 
-  pub jobs-back : SameJobs σ I J
+  jobs-back : SameJobs σ I J
   jobs-back =
       record {
         count = sym (s .count);
@@ -59,22 +56,11 @@ module _ (π σ : ℕ → ℕ) (J I : Jobs) (h : Turn (J .n) π σ) (s : SameJob
         takes = rw (s .count) (list-back (J .n) π σ h (J .r) (I .r) (s .takes));
       }
 
-pub turn-count : (n m : ℕ) (π σ : ℕ → ℕ) → m ≡ n → Turn n π σ → Turn m π σ
+turn-count : (n m : ℕ) (π σ : ℕ → ℕ) → m ≡ n → Turn n π σ → Turn m π σ
 turn-count n m π σ e h = rw e h
 
--- the largest windows of the renumbered jobs are the renumbered ones, and where those jobs have none the first have none
-module _ (π σ : ℕ → ℕ) (J I : Jobs) (h : Turn (J .n) π σ) (s : SameJobs π J I) (W U : Win) (v : SameWin (J .n) π W U) where
-  alike-back : Alike (J .n) σ (Applies I) (Applies J)
-  alike-back =
-      subst (λ (m : ℕ). Alike m σ (Applies I) (Applies J)) (s .count)
-      (alike σ π I J (turn-count (J .n) (I .n) σ π (s .count) (turned (J .n) π σ h)) (jobs-back π σ J I h s))
-
-  pub same-largest : (X Y : Win) → Largest (J .n) (J .p) (Applies J) W X → Largest (I .n) (I .p) (Applies I) U Y → SameWin (J .n) π X Y
-  same-largest X Y f g =
-      largest-same (J .n) π σ h (J .p) (I .p) (s .lasts) (Applies J) (Applies I) (alike π σ J I h s) alike-back W U X Y v f
-      (subst (λ (m : ℕ). Largest m (I .p) (Applies I) U Y) (s .count) g)
-
-  pub same-none : NoCandidate (I .n) (I .p) (Applies I) U → NoCandidate (J .n) (J .p) (Applies J) W
-  same-none f =
-      none-same (J .n) π σ h (J .p) (I .p) (s .lasts) (Applies J) (Applies I) (alike π σ J I h s) W U v
-      (subst (λ (m : ℕ). NoCandidate m (I .p) (Applies I) U) (s .count) f)
+-- and back
+pub alike-back : (π σ : ℕ → ℕ) (J I : Jobs) (h : Turn (J .n) π σ) (s : SameJobs π J I) → Alike (J .n) σ (Applies I) (Applies J)
+alike-back π σ J I h s =
+    subst (λ (m : ℕ). Alike m σ (Applies I) (Applies J)) (s .count)
+    (alike σ π I J (turn-count (J .n) (I .n) σ π (s .count) (turned (J .n) π σ h)) (jobs-back π σ J I h s))

@@ -91,7 +91,7 @@ module _ (c : Call) where
   ended-shortened short b = record { says = refl; windows = refl; size = refl; records = λ i. same-record _ }
 
   tabled-shortened : (k : ℕ) → refusalOf c ≡ k → Shortened (tabled leanMember c k) (tabled member c k)
-  unfolding tabled search
+  unfolding tabled
   tabled-shortened zero e =
       ended-shortened (run (search J) (roomOf (c .log)) (c .win))
       (run-bounded (search J) (Applies J) (searches J) (lawful J) (roomOf (c .log)) (c .win) (whole c (good-call c e)))

@@ -28,8 +28,7 @@ unfolding crowded greatest least
 best J W j early = greatest (crowded J W j) (W .e ! j) (J .p ! j)
 best J W j late = least (crowded J W j) (W .l ! j - J .p ! j) (J .p ! j)
 
-unfoldable pub search : Jobs → Search
-unfolding best
+abbrev pub search : Jobs → Search
 search J = record { n = J .n; p = J .p; best = best J; bound = bound }
 
 -- whom a writer names in a record of job j at time t

@@ -2,34 +2,35 @@
 -- without the help of `answered`: so no promise is empty. `readhead` has those of the overload check.
 use Prim.Native.Nat.{ℕ, zero, suc, _+_, _≤_, _<_}
 use native.Mathlib.Omega.{arith}
-use native.Mathlib.Decide.{decLt}
 use mathlib.Core.Path.{_≡_, refl, sym, ap, subst, _∙_}
 use mathlib.Core.Bool.{Bool, true, false}
 use mathlib.Core.List.{List, [], _∷_, _++_}
-use mathlib.Core.Option.{Option, some}
-use lib.ListN.{length}
+use mathlib.Core.Option.{some}
+use lib.ListN.{length, take, length-append}
 use Rattle.lists.specs.Lists.{_!_}
 use Rattle.lists.specs.Tests.{only}
-use Rattle.narrowing.specs.Windows.{Win, Side, early, late, moved}
+use Rattle.narrowing.specs.Windows.{Win, Side, early, late, Long, moved}
 use Rattle.narrowing.specs.Search.{Move}
+use Rattle.narrowing.specs.Run.{reachedBy}
 use Rattle.narrowing.specs.Led.{Clashed}
 use Rattle.narrowing.specs.Rounds.{Chosen}
-use Rattle.answers.specs.Said.{Word, Said, said}
+use Rattle.answers.specs.Said.{Word, said}
 use Rattle.members.specs.Members.{has}
 use Rattle.journal.specs.Journal.{roomOf, recordAt}
-use Rattle.timetable.specs.Time.{Jobs, runs, drawn, Fits, Early, Applies, bound}
+use Rattle.promises.specs.Promise as promise
+use Rattle.timetable.specs.Time.{runs, drawn, Fits, Early, Applies, bound}
 use Rattle.timetable.specs.Search.{crowded, best, search}
-use Rattle.timetable.specs.Reason.{Stated, namedDrawn, Within}
+use Rattle.timetable.specs.Reason.{namedDrawn}
 use Rattle.timetable.specs.Table.{Call, call, jobsOf, Good, refusalOf, After}
 use Rattle.timetable.specs.Reasons.{Reasons}
-use Rattle.timetable.specs.Promise.{Scheduled, needs, Room, Kept, Narrowest, Narrows}
+use Rattle.timetable.specs.Promise.{Scheduled, Room, Kept, Narrowest, Narrows}
 use Rattle.timetable.proofs.Facts.{crowded-yes, runs-yes}
 use Rattle.timetable.proofs.Calls.{good-call}
 use Rattle.answers.proofs.Same.{not-said, not-refused}
-use Rattle.replay.specs.Replay.{Checked}
-use Rattle.replay.specs.Fate.{reached}
-use Rattle.replay.specs.Promise.{taken, Reasoned, TakesLogs}
-use Rattle.worked.specs.Rows.{job, line, windows}
+use Rattle.replay.specs.Replay.{changed, Checked}
+use Rattle.verdicts.specs.Fate as fate
+use Rattle.replay.specs.Promise.{taken, Reasoned, Replayed, TakesLogs}
+use Rattle.worked.specs.Rows.{job, line}
 use Rattle.worked.specs.Cases.{lent}
 use Rattle.worked.specs.Checks.{with, pair}
 
@@ -50,7 +51,7 @@ unfolding refusalOf
 good5 = good-call case5 refl
 
 room5 : Room case5
-unfolding needs roomOf
+unfolding promise.needs best roomOf
 room5 = omega arith
 
 pub refusing-all : (a : After) → (Good case5 → Narrowest case5 a) → a .says .word ≡ Word.refused → ⊥
@@ -111,7 +112,6 @@ no-one-move zero late t b e q = let z : 2 ≡ t = cc in omega arith
 no-one-move (suc j) s t b e q = omega arith
 
 pub invented-count : (a : After) → Reasons case6 a → a .says ≡ said Word.clash (1 ∷ 0 ∷ []) → ⊥
-unfolding search
 invented-count a h e = let r = h .clash 1 0 e in go (r .logs .moves) (r .logs .many) (r .logs .chosen) (r .clashed)
   where
     go : (ms : List Move) → length ms ≡ 1 → Chosen (search (jobsOf case6)) (Applies (jobsOf case6)) (case6 .win) 0 early ms
@@ -120,13 +120,43 @@ invented-count a h e = let r = h .clash 1 0 e in go (r .logs .moves) (r .logs .m
     go (y ∷ []) m x q = no-one-move (y .job) (y .side) (y .choice) (x .0 .listed) (x .0 .chosen) (q .1 .closed)
     go (y ∷ (z ∷ zs)) m x q = omega arith
 
+-- ---- work after the closing record: every window was long enough before a clash's last move, and the first move closes one
+
+abbrev closed : Call
+closed = lent 1 (job 0 1 1 2 ∷ job 0 9 1 0 ∷ []) 2
+
+first-closes : (j : ℕ) (s : Side) (t : ℕ) → j < 2 → best (jobsOf closed) (closed .win) j s ≡ some t → Long 2 (closed .p) (moved (closed .win) j s (bound s t)) → ⊥
+unfolding best Long
+first-closes zero early t b e q = let z : 0 ≡ t = cc in omega (arith, q 0 (omega arith))
+first-closes zero late t b e q = let z : 0 ≡ t = cc in omega (arith, q 0 (omega arith))
+first-closes (suc zero) early t b e q = let z : _≡_ {A = ℕ} 0 1 = cc in omega arith
+first-closes (suc zero) late t b e q = let z : _≡_ {A = ℕ} 0 1 = cc in omega arith
+first-closes (suc (suc j)) s t b e q = omega arith
+
+pub going-on : (a : After) → Reasons closed a → a .says ≡ said Word.clash (2 ∷ 0 ∷ []) → ⊥
+going-on a h e = let r = h .clash 2 0 e in go (r .logs .moves) (r .logs .many) (r .logs .chosen) (r .clashed)
+  where
+    split : (y z : Move) (bs : List Move) (l : Move) → y ∷ z ∷ [] ≡ bs ++ (l ∷ []) → bs ≡ y ∷ []
+    split y z [] l q = let w = ap length q in absurd (omega arith)
+    split y z (b ∷ []) l q = ap (λ (ms : List Move). take 1 ms) (sym q)
+    split y z (b ∷ (c ∷ bs)) l q = let w = ap length q ∙ length-append (b ∷ (c ∷ bs)) (l ∷ []) in absurd (omega arith)
+
+    go : (ms : List Move) → length ms ≡ 2 → Chosen (search (jobsOf closed)) (Applies (jobsOf closed)) (closed .win) 0 early ms
+        → Clashed (search (jobsOf closed)) (closed .win) ms 0 → ⊥
+    go [] m x q = omega arith
+    go (y ∷ []) m x q = omega arith
+    go (y ∷ (z ∷ [])) m x q =
+        first-closes (y .job) (y .side) (y .choice) (x .0 .listed) (x .0 .chosen)
+        (subst (λ (ms : List Move). Long 2 (closed .p) (reachedBy (search (jobsOf closed)) (closed .win) ms)) (split y z (q .1 .before) (q .1 .last) (q .1 .closing)) (q .1 .held))
+    go (y ∷ (z ∷ (w ∷ ws))) m x q = omega arith
+
 -- ---- one record that carries a whole run: on case 6 one record for all three moves states what is not so of the submitted windows
 
 abbrev leap : Call
 leap = with 1 (job 0 3 1 2 ∷ []) (line 0 0 2 0 0)
 
 not-yet : Reasoned leap 0 → ⊥
-unfolding recordAt has reached
+unfolding recordAt has fate.reached changed
 not-yet r = omega (arith, r .true-there (0 ∷ []) (record { from = from; to = to }) .own)
   where
     from : (k : ℕ) → k < 1 → leap .win .e ! k ≤ (0 ∷ []) ! k
@@ -139,6 +169,12 @@ not-yet r = omega (arith, r .true-there (0 ∷ []) (record { from = from; to = t
 
 pub whole-run : (a : Checked) → ((i : ℕ) → i < taken (a .says) → Reasoned leap i) → a .says ≡ said Word.clash (1 ∷ 0 ∷ []) → ⊥
 whole-run a h e = not-yet (h 0 (rw e (omega arith)))
+
+-- ---- a checker that leaps: it takes the first record of 004's Example 4.1 and leaves the windows of the whole run
+
+pub leaping : (a : Checked) → Replayed (with 2 pair (line 0 0 4 1 2)) 1 a → a .says ≡ said Word.holds (1 ∷ []) → a .win .l ! 1 ≡ 5 → ⊥
+unfolding recordAt fate.reached changed
+leaping a h e q = let z : a .win .l ! 1 ≡ 7 = ap (λ (W : Win). W .l ! 1) (h .holds 1 e .1 .0) in omega arith
 
 -- ---- a checker that takes all: a record with no members on case 5 does not imply its change
 
@@ -167,7 +203,7 @@ abbrev turned : Call
 turned = with 2 pair (line 1 1 5 1 1 ++ line 0 0 4 1 2)
 
 not-there : Reasoned turned 0 → ⊥
-unfolding recordAt has reached
+unfolding recordAt has fate.reached changed
 not-there r = omega (arith, r .true-there (3 ∷ 2 ∷ []) (record { from = from; to = to }) .members 0 (omega arith) refl .0)
   where
     from : (k : ℕ) → k < 2 → turned .win .e ! k ≤ (3 ∷ 2 ∷ []) ! k

@@ -48,7 +48,7 @@ miscounted h = omega (arith, h .counted)
 -- ---- so no narrowing leaves it
 
 writes-none : (a : After) → Reasons run52 a → a .says ≡ said Word.settled (1 ∷ []) → (x : List ℕ) → recordAt (a .log) 0 ≡ x → (LeanRecord (jobsOf run52) x → ⊥) → ⊥
-writes-none a h e x q f = f (rw q at (h .settled 1 e .logs .lean 0 (omega arith)))
+writes-none a h e x q f = f (rw q at (h .settled 1 e .logs .fine 0 (omega arith)))
 
 pub naming-all : (a : After) → Reasons run52 a → a .says ≡ said Word.settled (1 ∷ []) → recordAt (a .log) 0 ≡ line 0 0 0 3 14 → ⊥
 naming-all a h e q = writes-none a h e _ q full

@@ -1,0 +1,11 @@
+pub mod Calls
+pub mod Logs
+pub mod Broken
+pub mod Reasons
+pub mod Meaning
+pub mod Rows
+pub mod TooShort
+pub mod Again
+pub mod Reordered
+pub mod Plain
+pub mod Unlogged

@@ -1,0 +1,73 @@
+-- The answer table with enough room, its log and numbers left out, meets the contract of a call without them: so there is an answer to every task whose
+-- rules are lawful and have a search.
+use Prim.Native.Nat.{ℕ, zero, suc, _≤_, _<_}
+use native.Mathlib.Omega.{arith}
+use mathlib.Core.Path.{_≡_, refl, sym, ap, _∙_}
+use mathlib.Core.List.{[], _∷_}
+use mathlib.Core.Logic.{inl, inr}
+use Rattle.lists.specs.Lists.{_!_}
+use Rattle.narrowing.specs.Windows.{slack}
+use Rattle.narrowing.specs.Led.{Reached}
+use Rattle.narrowing.specs.Run.{Out, settled, clash, short}
+use Rattle.narrowing.proofs.Runs.{run-good, never-short}
+use Rattle.narrowing.proofs.Runs as runs
+use Rattle.narrowing.proofs.Again.{run-reached}
+use Rattle.answers.specs.Said.{Word, Said, said}
+use Rattle.answers.proofs.Same.{not-said, said-apart}
+use Rattle.joblist.specs.GoodList.{Given}
+use Rattle.joblist.proofs.Refusals.{refusal-exactly}
+use Rattle.promises.specs.Ask.{Ask, Grounds, many, lasts, Good, refusalOf}
+use Rattle.promises.specs.Ask as ask
+use Rattle.promises.specs.Table.{ended, ran, tabled, narrowed}
+use Rattle.promises.specs.Plain.{taskOf, unlogged, Plain}
+use Rattle.promises.proofs.Calls.{good-call, call-good, whole}
+
+module _ (A : Ask) (x : Grounds A) (enough : slack (lasts A) (A .win) (many A) < A .room) where
+  -- no refusal is a good list's
+  good-given : Good A → (k : ℕ) → 1 ≤ k → Given k (many A) (ask.columns A) (A .alone) → ⊥
+  unfolding refusalOf
+  good-given g k b t = omega (arith, sym (call-good A g) ∙ refusal-exactly (many A) (ask.columns A) (A .alone) k .1 t)
+
+  plain-run : Good A → (o : Out) → ran A ≡ o → runs.Good (many A) (lasts A) (A .rules) (A .win) o → Reached (A .search) (A .win) o → Plain (taskOf A) (unlogged (ended A o))
+  unfolding ended
+  plain-run g (settled U ms) e h r =
+      record {
+        refused = λ k. (λ q. said-apart Word.settled Word.refused _ _ (λ z. omega arith) q, λ t. absurd (good-given g k (t .0) (t .1)));
+        decided = λ i. inl refl;
+        settled = λ q. (g, h);
+        clash = λ q. absurd (not-said Word.settled Word.clash (λ z. omega arith) q);
+        submitted = λ f. absurd (f refl);
+        lengths = r .lengths;
+      }
+  plain-run g (clash j ms) e h r =
+      record {
+        refused = λ k. (λ q. said-apart Word.clash Word.refused _ _ (λ z. omega arith) q, λ t. absurd (good-given g k (t .0) (t .1)));
+        decided = λ i. inr refl;
+        settled = λ q. absurd (not-said Word.clash Word.settled (λ z. omega arith) q);
+        clash = λ q. (g, h);
+        submitted = λ f. refl;
+        lengths = record { early = refl; late = refl };
+      }
+  plain-run g short e h r = absurd (never-short (A .search) (A .rules) (x .searches) (x .lawful) (A .room) (A .win) (whole A g) enough e)
+
+  plain-by : (k : ℕ) → refusalOf A ≡ k → Plain (taskOf A) (unlogged (tabled A k))
+  unfolding tabled refusalOf
+  plain-by zero e =
+      plain-run (good-call A e) (ran A) refl (run-good (A .search) (A .rules) (x .searches) (x .lawful) (A .room) (A .win))
+      (run-reached (A .search) (A .rules) (x .searches) (A .room) (A .win))
+  plain-by (suc k) e =
+      record {
+        refused = λ m. (
+          λ q. let z : suc k ≡ m = ap (λ (y : Said). y .numbers ! 0) q in (omega arith, refusal-exactly (many A) (ask.columns A) (A .alone) m .0 (e ∙ z)),
+          λ t. ap (λ (i : ℕ). said Word.refused (i ∷ [])) (sym e ∙ refusal-exactly (many A) (ask.columns A) (A .alone) m .1 (t .1)),
+        );
+        decided = λ g. absurd (omega (arith, sym e ∙ call-good A g));
+        settled = λ q. absurd (not-said Word.refused Word.settled (λ z. omega arith) q);
+        clash = λ q. absurd (not-said Word.refused Word.clash (λ z. omega arith) q);
+        submitted = λ f. refl;
+        lengths = record { early = refl; late = refl };
+      }
+
+  pub plain : Plain (taskOf A) (unlogged (narrowed A))
+  unfolding narrowed
+  plain = plain-by (refusalOf A) refl

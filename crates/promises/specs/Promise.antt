@@ -1,0 +1,79 @@
+-- What narrowing by any rules promises: the answer table, demand 2 and demand 3 (the mission's numbers) and its reasons, of a call and what it leaves.
+-- Demands 2 and 3 speak of schedules and of the rules; only the premise on the room names the run, by the number of records that it needs.
+use Prim.Native.Nat.{ℕ, _+_, _≤_, _<_}
+use mathlib.Core.Path.{_≡_}
+use mathlib.Core.List.{List}
+use mathlib.Core.Logic.{_⊎_, _↔_}
+use Rattle.lists.specs.Lists.{_!_}
+use Rattle.narrowing.specs.Windows.{Win, slack}
+use Rattle.narrowing.specs.Rules.{Candidate, Largest, NoCandidate}
+use Rattle.narrowing.specs.Schedules.{Schedule}
+use Rattle.narrowing.specs.Run.{needed}
+use Rattle.answers.specs.Said.{Word}
+use Rattle.joblist.specs.GoodList.{Given}
+use Rattle.promises.specs.Ask.{Ask, many, lasts, columns, Good}
+use Rattle.promises.specs.Table.{After, narrowed}
+use Rattle.promises.specs.Reasons.{Reasons}
+
+-- a schedule of the call's jobs within the windows W
+abbrev pub Scheduled : Ask → Win → List ℕ → Type 0
+Scheduled A W s = Schedule (many A) (lasts A) (A .fits) W s
+
+-- windows inside the submitted ones, each long enough for its job, to which no rule applies; the largest of them; none
+abbrev pub StableIn : Ask → Win → Type 0
+StableIn A U = Candidate (many A) (lasts A) (A .rules) (A .win) U
+
+abbrev pub LargestIn : Ask → Win → Type 0
+LargestIn A U = Largest (many A) (lasts A) (A .rules) (A .win) U
+
+abbrev pub NoneIn : Ask → Type 0
+NoneIn A = NoCandidate (many A) (lasts A) (A .rules) (A .win)
+
+-- every job is fixed: e + p = l
+abbrev pub AllFixed : Ask → Type 0
+AllFixed A = (k : ℕ) → k < many A → A .win .l ! k ≡ A .win .e ! k + lasts A ! k
+
+-- the records that the work needs; there is room for them
+unfoldable pub needs : Ask → ℕ
+unfolding needed
+needs A = needed (A .search) (A .win)
+
+abbrev pub Room : Ask → Type 0
+Room A = needs A ≤ A .room
+
+-- refusal k's row: one of the tests 1 to 3, or 5: the work needs more records than there is room for
+abbrev pub RefusedRow : Ask → ℕ → Type 0
+RefusedRow A k = ((1 ≤ k) × Given k (many A) (columns A) (A .alone)) ⊎ ((k ≡ 5) × Good A × (A .room < needs A))
+
+-- demand 2
+pub record Kept (A : Ask) (a : After) : Type 0 where
+  -- every schedule within the submitted windows lies within those left
+  pub schedules : (s : List ℕ) → Scheduled A (A .win) s → Scheduled A (a .win) s
+  -- a clash means that no schedule exists
+  pub none : a .says .word ≡ Word.clash → (s : List ℕ) → Scheduled A (A .win) s → ⊥
+  -- where every job of a good list is fixed and there is room for a record, clash exactly if the starts are broken
+  pub fixed : Good A → AllFixed A → 1 ≤ A .room → (a .says .word ≡ Word.clash) ↔ A .broken (A .win .e)
+
+-- demand 3, for a good list; where a window is too short there are no stable windows that are long enough
+pub record Narrowest (A : Ask) (a : After) : Type 0 where
+  -- with room for the work the answer is settled or clash
+  pub decided : Room A → (a .says .word ≡ Word.settled) ⊎ (a .says .word ≡ Word.clash)
+  -- a settled answer leaves the largest stable windows
+  pub settled : a .says .word ≡ Word.settled → LargestIn A (a .win)
+  -- with room for the work a clash is given exactly when there are none
+  pub clash : Room A → (a .says .word ≡ Word.clash) ↔ NoneIn A
+  -- and settled exactly when such windows exist
+  pub exists : Room A → (a .says .word ≡ Word.settled) ↔ ((U : Win) × StableIn A U)
+  -- free of the run: where the sum of l - e - p is below the room, settled or clash is said, settled exactly when such windows exist, clash
+  -- exactly when none do
+  pub free : slack (lasts A) (A .win) (many A) < A .room
+      → ((a .says .word ≡ Word.settled) ⊎ (a .says .word ≡ Word.clash))
+      × ((a .says .word ≡ Word.settled) ↔ ((U : Win) × StableIn A U))
+      × ((a .says .word ≡ Word.clash) ↔ NoneIn A)
+
+-- the contract of narrowing
+pub record Narrows (A : Ask) (a : After) : Type 0 where
+  pub answered : a ≡ narrowed A
+  pub kept : Kept A a
+  pub largest : Good A → Narrowest A a
+  pub reasons : Reasons A a

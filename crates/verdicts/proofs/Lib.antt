@@ -1,0 +1,4 @@
+pub mod Fates
+pub mod Rows
+pub mod Meaning
+pub mod Taken

@@ -1,0 +1,105 @@
+-- What the checker promises over any rules, of a call, the number of claimed records, and what it finds (the mission's demand 2); and what is asked of the
+-- test of a record and of its change.
+use Prim.Native.Nat.{ℕ, _*_, _≤_, _<_}
+use mathlib.Core.Path.{_≡_}
+use mathlib.Core.List.{List, [], _∷_}
+use mathlib.Core.Logic.{_⊎_, _↔_}
+use lib.ListN.{length}
+use Rattle.lists.specs.Lists.{_!_}
+use Rattle.narrowing.specs.Windows.{Win, Side, Long}
+use Rattle.narrowing.specs.Rules.{Step}
+use Rattle.narrowing.specs.Schedules.{Sound}
+use Rattle.narrowing.specs.Search.{Move, move, after}
+use Rattle.narrowing.specs.Rounds.{Choice}
+use Rattle.answers.specs.Said.{Word, Said, said}
+use Rattle.joblist.specs.Limits.{mostTime}
+use Rattle.joblist.specs.GoodList.{Given}
+use Rattle.journal.specs.Journal.{recordWords, jobOf, roomOf}
+use Rattle.promises.specs.Ask.{Ask, many, lasts, columns, Good}
+use Rattle.promises.specs.Table.{After}
+use Rattle.promises.specs.Promise.{Scheduled, Narrows}
+use Rattle.verdicts.specs.Replay.{Trial, holds, clashes, rejected, Checked, finds, checked}
+use Rattle.verdicts.specs.Fate.{nth, reached, Fate}
+
+-- what is asked: the code in facts, that a good record is one with code 0, whose job is listed, whose change is a step of the rules, and of which what is
+-- promised holds; and that no rule applies to windows fixed by a schedule
+pub record Judges (T : Trial) (A : Ask) : Type 0 where
+  pub codes : (W : Win) (x : List ℕ) (k : ℕ) → (T .code W x ≡ k) ↔ T .coded W x k
+  pub goods : (W : Win) (x : List ℕ) → (T .code W x ≡ 0) ↔ T .good W x
+  pub listed : (W : Win) (x : List ℕ) → T .good W x → jobOf x < many A
+  pub step : (W : Win) (x : List ℕ) → T .good W x → Step (many A) (lasts A) (A .rules) W (T .changed W x)
+  pub reasons : (W : Win) (x : List ℕ) → T .good W x → T .reasoned W x
+  pub sound : Sound (many A) (lasts A) (A .rules) (A .fits)
+
+-- the number of records that an answer takes: all where it holds or clashes, those before the bad one where it is rejected
+abbrev pub takenBy : Word → ℕ → ℕ
+takenBy Word.holds k = k
+takenBy Word.clash k = k
+takenBy Word.rejected k = k
+takenBy Word.settled k = 0
+takenBy Word.refused k = 0
+takenBy Word.none k = 0
+takenBy Word.overload k = 0
+takenBy Word.written k = 0
+takenBy Word.read k = 0
+
+abbrev pub taken : Said → ℕ
+taken a = takenBy (a .word) (a .numbers ! 0)
+
+-- refusal k's row: one of the tests 1 to 3, or 6: the log is shorter than a record's words for each claimed record
+abbrev pub RefusedRow : Ask → ℕ → ℕ → Type 0
+RefusedRow A count k = ((1 ≤ k) × Given k (many A) (columns A) (A .alone)) ⊎ ((k ≡ 6) × Good A × (length (A .log) < recordWords * count))
+
+-- what the words of an answer say of the log
+pub record Replayed (T : Trial) (A : Ask) (count : ℕ) (a : Checked) : Type 0 where
+  -- all claimed records are good and close no window, and the windows left are those that they reach
+  pub holds : (n : ℕ) → a .says ≡ said Word.holds (n ∷ []) → (n ≡ count) × Fate T A count (holds (a .win))
+  -- the last claimed record is the first to close a window, job j's; or none is claimed, and j's is the lowest that is too short
+  pub clash : (n j : ℕ) → a .says ≡ said Word.clash (n ∷ j ∷ []) → (n ≡ count) × Fate T A count (clashes j)
+  -- record i is the first bad one, for the reason k; or comes after a window was closed
+  pub rejected : (i k : ℕ) → a .says ≡ said Word.rejected (i ∷ k ∷ []) → Fate T A count (rejected i k)
+
+-- the contract of the checker
+pub record Checks (T : Trial) (A : Ask) (count : ℕ) (a : Checked) : Type 0 where
+  pub answered : a ≡ checked T A count
+  pub replayed : Replayed T A count a
+  -- for every record it takes, whoever wrote it
+  pub implied : (i : ℕ) → i < taken (a .says) → T .reasoned (reached T A i) (nth A i)
+  -- every schedule within the submitted windows lies within those left
+  pub kept : (s : List ℕ) → Scheduled A (A .win) s → Scheduled A (a .win) s
+  -- a clash means that there is none
+  pub none : a .says .word ≡ Word.clash → (s : List ℕ) → Scheduled A (A .win) s → ⊥
+
+-- ---- the planner's logs
+
+-- the call with another log, and its room
+abbrev pub withLog : Ask → List ℕ → Ask
+withLog A log =
+    record {
+      win = A .win;
+      beside = A .beside;
+      alone = A .alone;
+      log = log;
+      room = roomOf log;
+      search = A .search;
+      rules = A .rules;
+      fits = A .fits;
+      broken = A .broken;
+      entry = A .entry;
+      fine = A .fine;
+    }
+
+-- a log that narrowing left on these windows, whatever stood in it before, with all its records claimed, is taken to the same end
+pub record TakesLogs (A : Ask) (count : ℕ) (a : Checked) : Type 0 where
+  pub settled : (before : List ℕ) (b : After) → Narrows (withLog A before) b → b .log ≡ A .log → b .says ≡ said Word.settled (count ∷ [])
+      → a ≡ finds (said Word.holds (count ∷ [])) (b .win)
+  pub clash : (before : List ℕ) (b : After) → Narrows (withLog A before) b → b .log ≡ A .log → (j : ℕ) → b .says ≡ said Word.clash (count ∷ j ∷ [])
+      → a ≡ finds (said Word.clash (count ∷ j ∷ [])) (A .win)
+
+-- what is asked of the records that the planner writes: on long windows within the limit of times each is good, stands for its move and names its job
+pub record Writes (T : Trial) (A : Ask) : Type 0 where
+  pub words : (m : Move) → length (A .entry m) ≡ recordWords
+  pub job : (m : Move) → jobOf (A .entry m) ≡ m .job
+  pub to : (W : Win) (j : ℕ) (s : Side) (c : ℕ) → T .changed W (A .entry (move W j s c)) ≡ after (A .search) W j s c
+  pub good : Good A → (W : Win) → Long (many A) (lasts A) W → ((k : ℕ) → W .l ! k ≤ mostTime) → (j : ℕ) (s : Side) (i : ℕ) (v : Side) (c : ℕ)
+      → Choice (A .search) (A .rules) W j s (move W i v c) → T .good W (A .entry (move W i v c))
