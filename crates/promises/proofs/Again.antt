@@ -22,7 +22,6 @@ use Rattle.promises.specs.Promise.{LargestIn, Narrows}
 use Rattle.promises.specs.Plain.{Task, taskOf, GoodTask, Left, Plain}
 use Rattle.promises.specs.Reordered.{Anew}
 use Rattle.promises.proofs.Calls.{call-good}
-use Rattle.promises.proofs.Rows.{settled-row}
 use Rattle.promises.proofs.Plain.{settled-exactly}
 
 -- ---- of the lists alone: the windows X are the largest of K's, and L asks K's jobs in them
@@ -114,12 +113,12 @@ module _ (K : Task) (a : Left) (h : Plain K a) (e : a .says ≡ said Word.settle
 
 -- ---- with a log
 
-module _ (A : Ask) (x : Grounds A) (a : After) (h : Narrows A a) (n : ℕ) (e : a .says ≡ said Word.settled (n ∷ [])) where
+module _ (A : Ask) (a : After) (h : Narrows A a) (n : ℕ) (e : a .says ≡ said Word.settled (n ∷ [])) where
   pub word : a .says .word ≡ Word.settled
   word = ap (λ (y : Said). y .word) e
 
   good-first : Good A
-  good-first = settled-row A x a h n e .0
+  good-first = h .exactly .settled n .0 e .0
 
   largest-first : LargestIn A (a .win)
   largest-first = h .largest good-first .settled word

@@ -2,8 +2,9 @@ pub mod Calls
 pub mod Logs
 pub mod Broken
 pub mod Reasons
-pub mod Meaning
 pub mod Rows
+pub mod Meaning
+pub mod Same
 pub mod TooShort
 pub mod Again
 pub mod Reordered

@@ -23,6 +23,7 @@ use Rattle.promises.specs.Table.{ended, ran, tabled, narrowed}
 use Rattle.promises.specs.Promise.{LargestIn, NoneIn, AllFixed, needs, Room, Kept, Narrowest, Narrows}
 use Rattle.promises.proofs.Calls.{good-call, call-good, whole}
 use Rattle.promises.proofs.Reasons.{reasons-by}
+use Rattle.promises.proofs.Rows.{exactly}
 
 -- where every job is fixed nothing is slack
 no-slack : (p : List ℕ) (W : Win) (m n : ℕ) → m ≤ n → ((k : ℕ) → k < n → W .l ! k ≡ W .e ! k + p ! k) → slack p W m ≡ 0
@@ -149,4 +150,4 @@ module _ (A : Ask) (x : Grounds A) where
   unfolding narrowed
   narrows =
       let h = narrows-by (refusalOf A) refl in
-      record { answered = refl; kept = h .0; largest = h .1; reasons = reasons-by A x (refusalOf A) refl }
+      record { answered = refl; exactly = exactly A x (narrowed A) refl (h .1); kept = h .0; largest = h .1; reasons = reasons-by A x (refusalOf A) refl }

@@ -15,13 +15,12 @@ use Rattle.answers.specs.Said.{Word, Said, said}
 use Rattle.joblist.specs.GoodList.{Given, refusal}
 use Rattle.joblist.proofs.Renumbered.{refusal-turned}
 use Rattle.joblist.proofs.Refusals.{refusal-exactly}
-use Rattle.promises.specs.Ask.{Ask, Grounds, many, Good, refusalOf}
+use Rattle.promises.specs.Ask.{Ask, many, Good, refusalOf}
 use Rattle.promises.specs.Table.{After}
 use Rattle.promises.specs.Promise.{Room, RefusedRow, Narrows}
 use Rattle.promises.specs.Reordered.{SameTask, SameAsk}
 use Rattle.promises.specs.Plain.{Task, taskOf, columns, Left, Plain}
 use Rattle.promises.proofs.Calls.{good-call, call-good}
-use Rattle.promises.proofs.Rows.{refused-exactly}
 
 -- ---- of the lists alone
 
@@ -90,12 +89,12 @@ module _ (π σ : ℕ → ℕ) (A B : Ask) (t : Turn (many A) π σ) (s : SameAs
 
   module _ (a b : After) (f : Narrows A a) (g : Narrows B b) where
     -- the same refusal, 1 to 3
-    pub refused-there : Grounds A → Grounds B → (k : ℕ) → k ≤ 3 → a .says ≡ said Word.refused (k ∷ []) → b .says ≡ said Word.refused (k ∷ [])
-    refused-there x y k m e = go (refused-exactly A x a f k .0 e)
+    pub refused-there : (k : ℕ) → k ≤ 3 → a .says ≡ said Word.refused (k ∷ []) → b .says ≡ said Word.refused (k ∷ [])
+    refused-there k m e = go (f .exactly .refused k .0 e)
       where
         go : RefusedRow A k → b .says ≡ said Word.refused (k ∷ [])
         go (inl (i, z)) =
-            refused-exactly B y b g k .1
+            g .exactly .refused k .1
             (inl (i, given-there π σ (taskOf A) (taskOf B) t s k z))
         go (inr z) = absurd (omega (arith, z .0))
 

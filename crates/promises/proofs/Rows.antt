@@ -1,5 +1,4 @@
--- Laws over narrowing's contract alone, over any rules: each row of the answer table is given exactly when it says so and no row before it does, in facts;
--- what each row leaves; and two results that meet the contract are equal.
+-- The rows of the answer table over any rules, in facts: each is given exactly when it says so and no row before it does, and leaves what it says.
 use Prim.Native.Nat.{ℕ, zero, suc, _≤_, _<_}
 use native.Mathlib.Omega.{arith}
 use native.Mathlib.Decide.{decLe}
@@ -8,33 +7,17 @@ use mathlib.Core.List.{List, [], _∷_}
 use mathlib.Core.Logic.{_⊎_, inl, inr, _↔_}
 use lib.ListN.{length}
 use Rattle.lists.specs.Lists.{_!_}
-use Rattle.narrowing.specs.Windows.{Win, win}
+use Rattle.narrowing.specs.Windows.{Win}
 use Rattle.narrowing.specs.Run.{Out, settled, clash, short, count}
 use Rattle.narrowing.proofs.Room.{short-below, below-short, count-needed}
-use Rattle.answers.specs.declared.Answer.{Answer}
-use Rattle.answers.specs.Said.{Word, Said, said, says}
-use Rattle.answers.proofs.Same.{says-same, not-said}
+use Rattle.answers.specs.Said.{Word, Said, said}
+use Rattle.answers.proofs.Same.{not-said}
 use Rattle.joblist.proofs.Refusals.{refusal-exactly, refusal-most}
 use Rattle.journal.specs.Journal.{cleared}
 use Rattle.promises.specs.Ask.{Ask, Grounds, many, columns, Good, refusalOf}
 use Rattle.promises.specs.Table.{After, leaves, ended, ran, tabled, narrowed}
-use Rattle.promises.specs.Promise.{StableIn, NoneIn, needs, Room, RefusedRow, Narrows}
+use Rattle.promises.specs.Promise.{StableIn, NoneIn, needs, Room, RefusedRow, Exactly, Narrowest}
 use Rattle.promises.proofs.Calls.{good-call, call-good, whole}
-
--- two results that meet the contract are equal, word for word
-pub narrows-same : (A : Ask) (a b : After) → Narrows A a → Narrows A b → a ≡ b
-narrows-same A a b f g = f .answered ∙ sym (g .answered)
-
--- the same of the Rattle values: the answers, and every word of the three lists
-pub results-same : (A : Ask) (r q : Answer) (e l log e′ l′ log′ : List ℕ) → Narrows A (leaves (says r) (win e l) log) → Narrows A (leaves (says q) (win e′ l′) log′)
-    → (r ≡ q) × (e ≡ e′) × (l ≡ l′) × (log ≡ log′)
-results-same A r q e l log e′ l′ log′ f g =
-    let h = narrows-same A _ _ f g in (
-      says-same r q (ap (λ (x : After). x .says) h),
-      ap (λ (x : After). x .win .e) h,
-      ap (λ (x : After). x .win .l) h,
-      ap (λ (x : After). x .log) h,
-    )
 
 -- ---- a word that was not given
 
@@ -57,9 +40,9 @@ module _ (A : Ask) where
   case-of zero e = inr (good-call A e, refl)
   case-of (suc k) e = inl (k, e, refl)
 
-  pub cased : (a : After) → Narrows A a → Case a
+  pub cased : (a : After) → a ≡ narrowed A → Case a
   unfolding narrowed
-  cased a h = subst Case (sym (h .answered)) (case-of (refusalOf A) refl)
+  cased a h = subst Case (sym h) (case-of (refusalOf A) refl)
 
   -- ---- facts of the run
 
@@ -82,7 +65,7 @@ module _ (A : Ask) where
 
   -- ---- the rows
 
-  module _ (x : Grounds A) (a : After) (h : Narrows A a) where
+  module _ (x : Grounds A) (a : After) (h : a ≡ narrowed A) (l : Good A → Narrowest A a) where
     says-of : (b : After) → a ≡ b → (y : Said) → a .says ≡ y → b .says ≡ y
     says-of b e y q = sym (ap (λ (y : After). y .says) e) ∙ q
 
@@ -115,11 +98,8 @@ module _ (A : Ask) where
         go (inr (g, q)) (inr (e, f, b)) =
             ap (λ (y : After). y .says) q ∙ ap (λ (o : Out). ended A o .says) (five-short x g b) ∙ ap (λ (m : ℕ). said Word.refused (m ∷ [])) (sym e)
 
-    pub refused-exactly : (k : ℕ) → (a .says ≡ said Word.refused (k ∷ [])) ↔ RefusedRow A k
-    refused-exactly k = (refused-row k, row-refused k)
-
     -- settled and clash come from a good list with room for the work, and their count is the number of records needed
-    pub settled-row : (n : ℕ) → a .says ≡ said Word.settled (n ∷ []) → Good A × Room A × (n ≡ needs A)
+    settled-row : (n : ℕ) → a .says ≡ said Word.settled (n ∷ []) → Good A × Room A × (n ≡ needs A)
     unfolding ended
     settled-row n e = go (cased a h)
       where
@@ -134,7 +114,7 @@ module _ (A : Ask) where
         go (inl (i, d, q)) = absurd (settled-refused _ _ (sym (says-of _ q _ e)))
         go (inr (g, q)) = by-run g (ran A) refl (says-of _ q _ e)
 
-    pub clash-row : (n j : ℕ) → a .says ≡ said Word.clash (n ∷ j ∷ []) → Good A × Room A × (n ≡ needs A)
+    clash-row : (n j : ℕ) → a .says ≡ said Word.clash (n ∷ j ∷ []) → Good A × Room A × (n ≡ needs A)
     unfolding ended
     clash-row n j e = go (cased a h)
       where
@@ -166,41 +146,25 @@ module _ (A : Ask) where
     word-of : (y : Said) → a .says ≡ y → a .says .word ≡ y .word
     word-of y e = ap (λ (y : Said). y .word) e
 
-    pub settled-exactly : ((n : ℕ) × (a .says ≡ said Word.settled (n ∷ []))) ↔ (Good A × Room A × ((U : Win) × StableIn A U))
-    settled-exactly = (
-      λ y. let r = settled-row (y .0) (y .1) in (r .0, r .1, h .largest (r .0) .exists (r .1) .0 (word-of _ (y .1))),
-      λ y. go y (numbered (y .0) (y .1)),
-    )
+    settled-back : (n : ℕ) → Good A → Room A → n ≡ needs A → (U : Win) → StableIn A U → a .says ≡ said Word.settled (n ∷ [])
+    settled-back n g r c U s = go (numbered g r)
       where
-        go : Good A × Room A × ((U : Win) × StableIn A U) → ((n : ℕ) × (a .says ≡ said Word.settled (n ∷ []))) ⊎ ((n : ℕ) × (j : ℕ) × (a .says ≡ said Word.clash (n ∷ j ∷ [])))
-            → (n : ℕ) × (a .says ≡ said Word.settled (n ∷ []))
-        go y (inl q) = q
-        go y (inr (n, j, q)) = absurd (h .largest (y .0) .clash (y .1) .0 (word-of _ q) (y .2 .0) (y .2 .1))
+        go : ((m : ℕ) × (a .says ≡ said Word.settled (m ∷ []))) ⊎ ((m : ℕ) × (j : ℕ) × (a .says ≡ said Word.clash (m ∷ j ∷ []))) → a .says ≡ said Word.settled (n ∷ [])
+        go (inl (m, q)) = q ∙ ap (λ (i : ℕ). said Word.settled (i ∷ [])) (settled-row m q .2 ∙ sym c)
+        go (inr (m, j, q)) = absurd (l g .clash r .0 (word-of _ q) U s)
 
-    pub clash-exactly : ((n : ℕ) × (j : ℕ) × (a .says ≡ said Word.clash (n ∷ j ∷ []))) ↔ (Good A × Room A × NoneIn A)
-    clash-exactly = (
-      λ y. let r = clash-row (y .0) (y .1) (y .2) in (r .0, r .1, h .largest (r .0) .clash (r .1) .0 (word-of _ (y .2))),
-      λ y. go y (numbered (y .0) (y .1)),
-    )
+    clash-back : (n : ℕ) → Good A → Room A → n ≡ needs A → NoneIn A → (j : ℕ) × (a .says ≡ said Word.clash (n ∷ j ∷ []))
+    clash-back n g r c f = go (numbered g r)
       where
-        go : Good A × Room A × NoneIn A → ((n : ℕ) × (a .says ≡ said Word.settled (n ∷ []))) ⊎ ((n : ℕ) × (j : ℕ) × (a .says ≡ said Word.clash (n ∷ j ∷ [])))
-            → (n : ℕ) × (j : ℕ) × (a .says ≡ said Word.clash (n ∷ j ∷ []))
-        go y (inr q) = q
-        go y (inl (n, q)) = let u = h .largest (y .0) .exists (y .1) .0 (word-of _ q) in absurd (y .2 (u .0) (u .1))
-
-    -- the count is the number of records needed
-    pub settled-count : (n : ℕ) → a .says ≡ said Word.settled (n ∷ []) → n ≡ needs A
-    settled-count n e = settled-row n e .2
-
-    pub clash-count : (n j : ℕ) → a .says ≡ said Word.clash (n ∷ j ∷ []) → n ≡ needs A
-    clash-count n j e = clash-row n j e .2
+        go : ((m : ℕ) × (a .says ≡ said Word.settled (m ∷ []))) ⊎ ((m : ℕ) × (j : ℕ) × (a .says ≡ said Word.clash (m ∷ j ∷ []))) → (j : ℕ) × (a .says ≡ said Word.clash (n ∷ j ∷ []))
+        go (inl (m, q)) = let u = l g .exists r .0 (word-of _ q) in absurd (f (u .0) (u .1))
+        go (inr (m, j, q)) = (j, q ∙ ap (λ (i : ℕ). said Word.clash (i ∷ j ∷ [])) (clash-row m j q .2 ∙ sym c))
 
     -- ---- what the rows leave
 
-    -- the windows are as submitted wherever the answer is not settled
-    pub submitted-windows : (a .says .word ≡ Word.settled → ⊥) → a .win ≡ A .win
+    left-windows : (a .says .word ≡ Word.settled → ⊥) → a .win ≡ A .win
     unfolding ended
-    submitted-windows f = go (cased a h)
+    left-windows f = go (cased a h)
       where
         by-run : (o : Out) → a ≡ ended A o → a .win ≡ A .win
         by-run (settled U ms) q = absurd (f (ap (λ (y : After). y .says .word) q))
@@ -211,18 +175,46 @@ module _ (A : Ask) where
         go (inl (i, d, q)) = ap (λ (y : After). y .win) q
         go (inr (g, q)) = by-run (ran A) q
 
-    -- refusal 5 leaves zeros, every other refusal the log as before
-    pub refused-log : (k : ℕ) → a .says ≡ said Word.refused (k ∷ []) → ((k ≡ 5) × (a .log ≡ cleared (A .log))) ⊎ ((k ≤ 3) × (a .log ≡ A .log))
+    -- the log of refusal k
+    abbrev LogOf : ℕ → Type 0
+    LogOf k = ((k ≡ 5) × (a .log ≡ cleared (A .log))) ⊎ ((k ≤ 3) × (a .log ≡ A .log))
+
+    left-log : (k : ℕ) → a .says ≡ said Word.refused (k ∷ []) → LogOf k
     unfolding ended refusalOf
-    refused-log k e = go (cased a h)
+    left-log k e = go (cased a h)
       where
-        by-run : (o : Out) → a ≡ ended A o → ended A o .says ≡ said Word.refused (k ∷ []) → ((k ≡ 5) × (a .log ≡ cleared (A .log))) ⊎ ((k ≤ 3) × (a .log ≡ A .log))
+        by-run : (o : Out) → a ≡ ended A o → ended A o .says ≡ said Word.refused (k ∷ []) → LogOf k
         by-run (settled U ms) q z = absurd (settled-refused _ _ z)
         by-run (clash j ms) q z = absurd (clash-refused _ _ z)
         by-run short q z = inl (sym (ap num z), ap (λ (y : After). y .log) q)
 
-        go : Case a → ((k ≡ 5) × (a .log ≡ cleared (A .log))) ⊎ ((k ≤ 3) × (a .log ≡ A .log))
+        go : Case a → LogOf k
         go (inl (i, d, q)) =
             let z : suc i ≡ k = ap num (says-of _ q _ e) in
             inr (omega (arith, refusal-most (many A) (columns A) (A .alone)), ap (λ (y : After). y .log) q)
         go (inr (g, q)) = by-run (ran A) q (says-of _ q _ e)
+
+    zeros-of : (k : ℕ) → k ≡ 5 → LogOf k → a .log ≡ cleared (A .log)
+    zeros-of k e (inl y) = y .1
+    zeros-of k e (inr y) = absurd (omega (arith, y .0))
+
+    before-of : (k : ℕ) → (k ≡ 5 → ⊥) → LogOf k → a .log ≡ A .log
+    before-of k f (inl y) = absurd (f (y .0))
+    before-of k f (inr y) = y .1
+
+    pub exactly : Exactly A a
+    exactly =
+        record {
+          refused = λ k. (refused-row k, row-refused k);
+          settled = λ n. (
+            λ e. let r = settled-row n e in (r .0, r .1, r .2, l (r .0) .exists (r .1) .0 (word-of _ e)),
+            λ y. settled-back n (y .0) (y .1) (y .2) (y .3 .0) (y .3 .1),
+          );
+          clash = λ n. (
+            λ e. let r = clash-row n (e .0) (e .1) in (r .0, r .1, r .2, l (r .0) .clash (r .1) .0 (word-of _ (e .1))),
+            λ y. clash-back n (y .0) (y .1) (y .2) (y .3),
+          );
+          submitted = left-windows;
+          zeros = λ e. zeros-of 5 refl (left-log 5 e);
+          before = λ k f e. before-of k f (left-log k e);
+        }

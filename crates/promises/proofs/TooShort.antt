@@ -17,11 +17,11 @@ use Rattle.narrowing.proofs.TooShort.{run-too-short, needed-none}
 use Rattle.answers.specs.Said.{Word, said}
 use Rattle.answers.proofs.Same.{not-refused}
 use Rattle.journal.specs.Journal.{logged, flat}
-use Rattle.promises.specs.Ask.{Ask, Grounds, many, lasts, Good, TooShort}
+use Rattle.promises.specs.Ask.{Ask, many, lasts, Good, TooShort}
 use Rattle.promises.specs.Table.{After, leaves, ended, ran}
 use Rattle.promises.specs.Promise.{Scheduled, NoneIn, needs, Narrowest, Narrows}
 use Rattle.promises.proofs.Calls.{call-good}
-use Rattle.promises.proofs.Rows.{Case, cased, clash-row}
+use Rattle.promises.proofs.Rows.{Case, cased}
 
 -- ---- of the list alone, and any job whose window is too short
 
@@ -50,7 +50,7 @@ module _ (A : Ask) (a : After) (h : Narrows A a) (j : ℕ) where
 
   -- what such a list gets
   pub too-short-row : Good A → TooShort A j → a ≡ leaves (said Word.clash (0 ∷ j ∷ [])) (A .win) (A .log)
-  too-short-row g s = go (cased A a h)
+  too-short-row g s = go (cased A a (h .answered))
     where
       go : Case A a → a ≡ leaves (said Word.clash (0 ∷ j ∷ [])) (A .win) (A .log)
       go (inl (k, d, q)) = absurd (omega (arith, d, call-good A g))
@@ -64,5 +64,5 @@ module _ (A : Ask) (a : After) (h : Narrows A a) (j : ℕ) where
       go [] m x = x
       go (y ∷ ms) m x = absurd (omega arith)
 
-  pub too-short-exactly : Grounds A → (a .says ≡ said Word.clash (0 ∷ j ∷ [])) ↔ (Good A × TooShort A j)
-  too-short-exactly x = (λ e. (clash-row A x a h 0 j e .0, row-too-short e), λ y. ap (λ (z : After). z .says) (too-short-row (y .0) (y .1)))
+  pub too-short-exactly : (a .says ≡ said Word.clash (0 ∷ j ∷ [])) ↔ (Good A × TooShort A j)
+  too-short-exactly = (λ e. (h .exactly .clash 0 .0 (j, e) .0, row-too-short e), λ y. ap (λ (z : After). z .says) (too-short-row (y .0) (y .1)))

@@ -1,16 +1,18 @@
 -- What narrowing by any rules promises: the answer table, demand 2 and demand 3 (the mission's numbers) and its reasons, of a call and what it leaves.
--- Demands 2 and 3 speak of schedules and of the rules; only the premise on the room names the run, by the number of records that it needs.
+-- Demands 2 and 3 and the table's column 'exactly when' speak of schedules and of the rules; only the premise on the room names the run, by the number
+-- of records that it needs.
 use Prim.Native.Nat.{ℕ, _+_, _≤_, _<_}
 use mathlib.Core.Path.{_≡_}
-use mathlib.Core.List.{List}
+use mathlib.Core.List.{List, [], _∷_}
 use mathlib.Core.Logic.{_⊎_, _↔_}
 use Rattle.lists.specs.Lists.{_!_}
 use Rattle.narrowing.specs.Windows.{Win, slack}
 use Rattle.narrowing.specs.Rules.{Candidate, Largest, NoCandidate}
 use Rattle.narrowing.specs.Schedules.{Schedule}
 use Rattle.narrowing.specs.Run.{needed}
-use Rattle.answers.specs.Said.{Word}
+use Rattle.answers.specs.Said.{Word, said}
 use Rattle.joblist.specs.GoodList.{Given}
+use Rattle.journal.specs.Journal.{cleared}
 use Rattle.promises.specs.Ask.{Ask, many, lasts, columns, Good}
 use Rattle.promises.specs.Table.{After, narrowed}
 use Rattle.promises.specs.Reasons.{Reasons}
@@ -45,6 +47,18 @@ Room A = needs A ≤ A .room
 abbrev pub RefusedRow : Ask → ℕ → Type 0
 RefusedRow A k = ((1 ≤ k) × Given k (many A) (columns A) (A .alone)) ⊎ ((k ≡ 5) × Good A × (A .room < needs A))
 
+-- the answer table: each row exactly when it says so, and the windows and the log that it leaves; the log of a settled answer and of a clash is `Reasons`'
+pub record Exactly (A : Ask) (a : After) : Type 0 where
+  pub refused : (k : ℕ) → (a .says ≡ said Word.refused (k ∷ [])) ↔ RefusedRow A k
+  -- settled and clash of a good list with room for the work, with the number of records needed: where stable windows exist, and where none do
+  pub settled : (n : ℕ) → (a .says ≡ said Word.settled (n ∷ [])) ↔ (Good A × Room A × (n ≡ needs A) × ((U : Win) × StableIn A U))
+  pub clash : (n : ℕ) → ((j : ℕ) × (a .says ≡ said Word.clash (n ∷ j ∷ []))) ↔ (Good A × Room A × (n ≡ needs A) × NoneIn A)
+  -- the windows are as submitted wherever the answer is not settled
+  pub submitted : (a .says .word ≡ Word.settled → ⊥) → a .win ≡ A .win
+  -- refusal 5 leaves zeros in the log, every other refusal the log as before
+  pub zeros : a .says ≡ said Word.refused (5 ∷ []) → a .log ≡ cleared (A .log)
+  pub before : (k : ℕ) → (k ≡ 5 → ⊥) → a .says ≡ said Word.refused (k ∷ []) → a .log ≡ A .log
+
 -- demand 2
 pub record Kept (A : Ask) (a : After) : Type 0 where
   -- every schedule within the submitted windows lies within those left
@@ -74,6 +88,7 @@ pub record Narrowest (A : Ask) (a : After) : Type 0 where
 -- the contract of narrowing
 pub record Narrows (A : Ask) (a : After) : Type 0 where
   pub answered : a ≡ narrowed A
+  pub exactly : Exactly A a
   pub kept : Kept A a
   pub largest : Good A → Narrowest A a
   pub reasons : Reasons A a

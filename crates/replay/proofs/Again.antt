@@ -20,7 +20,6 @@ use Rattle.timetable.specs.Table.{Call, call, jobsOf, After}
 use Rattle.timetable.specs.Promise.{Narrows}
 use Rattle.timetable.proofs.Entries.{entries-are, entries-count}
 use Rattle.timetable.proofs.Law.{lawful}
-use Rattle.timetable.proofs.Rows.{settled-row}
 use Rattle.timetable.proofs.Again.{same-jobs, good-again, long-again, word}
 use Rattle.judge.specs.Codes.{Coded}
 use Rattle.judge.specs.Facts.{side, OwnTrue, StatedTrue, Passes, GoodRecord}
@@ -67,7 +66,7 @@ module _ (c : Call) (a : After) (h : Narrows c a) (n : ℕ) (e : a .says ≡ sai
       → Coded (jobsOf again) (a .win) (nth again 0) 26
   first-spent [] m l x = absurd (omega arith)
   first-spent (y ∷ ys) m l x =
-      let r = settled-row c a h (suc n) e in
+      let r = h .exactly .settled (suc n) .0 e in
       let g = r .0 in
       let big = h .largest g .settled (word c a h (suc n) e (a .log)) in
       let long = long-around (J .n) (J .p) (a .win) (c .win) (big .one .inside) (big .one .long) in
@@ -91,7 +90,7 @@ module _ (c : Call) (a : After) (h : Narrows c a) (n : ℕ) (e : a .says ≡ sai
   pub left-rejected : (b : Checked) → Checks again (suc n) b → b ≡ finds (said Word.rejected (0 ∷ 26 ∷ [])) (a .win)
   unfolding fate.reached
   left-rejected b k =
-      let r = settled-row c a h (suc n) e in
+      let r = h .exactly .settled (suc n) .0 e in
       let l = h .reasons .settled (suc n) e .logs in
       let room : roomOf (a .log) ≡ roomOf (c .log) =
       ap roomOf (l .log) ∙ logged-room (map (entry J) (l .moves)) (c .log) (entries-are leanMember J (l .moves)) (omega (arith, entries-count leanMember J (l .moves), l .many, r .1, r .2)) in

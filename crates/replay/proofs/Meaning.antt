@@ -18,4 +18,4 @@ pub checks : (c : Call) (count : ℕ) → Checks c count (checked c count)
 unfolding checked
 checks c count =
     let h = general.checks (trial (jobsOf c)) (asks c) (judging c) count in
-    record { answered = refl; replayed = h .replayed; implied = h .implied; kept = h .kept; none = h .none; takes = takes-logs c count }
+    record { answered = refl; exactly = h .exactly; implied = h .implied; kept = h .kept; none = h .none; takes = takes-logs c count }

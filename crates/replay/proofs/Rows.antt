@@ -1,24 +1,22 @@
--- Laws over the checker's contract alone: each refusal, code and answer is given exactly when document 01 says so and nothing before it does, in
--- facts; two results that meet it are equal; a record changes one bound of one job.
+-- Laws over the checker's contract alone: two results that meet it are equal, and its field `exactly` alone makes them so; a record changes one bound of one
+-- job.
 use Prim.Native.Nat.{ℕ, _≤_}
 use mathlib.Core.Path.{_≡_, refl, sym, ap, _∙_}
-use mathlib.Core.List.{List, [], _∷_}
-use mathlib.Core.Logic.{_↔_}
+use mathlib.Core.List.{List}
 use lib.Seq.{getD-set-other}
 use Rattle.lists.specs.Lists.{_!_}
 use Rattle.narrowing.specs.Windows.{Win, win, Side, early, late, moved}
 use Rattle.answers.specs.declared.CheckAnswer.{CheckAnswer}
-use Rattle.answers.specs.Said.{Word, said, saysCheck}
+use Rattle.answers.specs.Said.{saysCheck}
 use Rattle.answers.proofs.Same.{check-same}
 use Rattle.journal.specs.Journal.{jobOf, timeOf, roomOf, records}
 use Rattle.timetable.specs.Time.{bound}
 use Rattle.timetable.specs.Table.{Call, jobsOf, asks, Good}
 use Rattle.judge.specs.Facts.{side}
-use Rattle.verdicts.specs.Promise as promise
 use Rattle.verdicts.proofs.Rows as general
-use Rattle.replay.specs.Replay.{changed, trial, Verdict, clashes, rejected, verdictOn, Checked, finds, judged, checked}
-use Rattle.replay.specs.Fate.{reached, Open, Fate}
-use Rattle.replay.specs.Promise.{Checks}
+use Rattle.replay.specs.Replay.{changed, trial, Verdict, verdictOn, Checked, finds, judged, checked}
+use Rattle.replay.specs.Fate.{Fate}
+use Rattle.replay.specs.Promise.{Exactly, Checks}
 use Rattle.replay.proofs.Sound.{judging}
 use Rattle.replay.proofs.Meaning.{by-trial}
 
@@ -45,37 +43,17 @@ others-stay W x k h = go (side x)
     go early = (getD-set-other (W .e) (jobOf x) k _ 0 h, refl)
     go late = (refl, getD-set-other (W .l) (jobOf x) k _ 0 h)
 
--- refusal k's row: one of the tests 1 to 3, or 6: the log is shorter than a record's words for each claimed record
-abbrev pub RefusedRow : Call → ℕ → ℕ → Type 0
-RefusedRow c = promise.RefusedRow (asks c)
-
 module _ (c : Call) (count : ℕ) where
   -- the answer on a good list with room for the claimed records
   pub good-judged : Good c → count ≤ roomOf (c .log) → checked c count ≡ judged c count (verdictOn (jobsOf c) (c .win) (records (c .log) 0 count))
   unfolding checked
   good-judged = general.good-judged (trial (jobsOf c)) (asks c) count
 
-  module _ (a : Checked) (h : Checks c count a) where
-    -- a verdict with its facts gives its answer
-    pub fate-answers : (v : Verdict) → Good c → count ≤ roomOf (c .log) → Fate c count v → a ≡ judged c count v
-    fate-answers = general.fate-answers (trial (jobsOf c)) (asks c) count (judging c) a (by-trial c count a h)
+  -- `exactly` by itself determines the answer and the windows
+  pub facts-answer : (a : Checked) → Exactly c count a → a ≡ checked c count
+  unfolding checked
+  facts-answer a x = general.facts-answer (trial (jobsOf c)) (asks c) count (judging c) a x
 
-    pub holds-exactly : (a .says ≡ said Word.holds (count ∷ [])) ↔ (Good c × (count ≤ roomOf (c .log)) × Open c count)
-    holds-exactly = general.holds-exactly (trial (jobsOf c)) (asks c) count (judging c) a (by-trial c count a h)
-
-    -- "holds" counts the claimed records and leaves the windows that they reach
-    pub holds-leaves : (n : ℕ) → a .says ≡ said Word.holds (n ∷ []) → (n ≡ count) × (a .win ≡ reached c count)
-    holds-leaves n e = let r = h .replayed .holds n e in (r .0, r .1 .0)
-
-    -- any other answer leaves the windows as submitted
-    pub submitted-windows : (a .says .word ≡ Word.holds → ⊥) → a .win ≡ c .win
-    submitted-windows = general.submitted-windows (trial (jobsOf c)) (asks c) count (judging c) a (by-trial c count a h)
-
-    pub clash-exactly : (j : ℕ) → (a .says ≡ said Word.clash (count ∷ j ∷ [])) ↔ (Good c × (count ≤ roomOf (c .log)) × Fate c count (clashes j))
-    clash-exactly = general.clash-exactly (trial (jobsOf c)) (asks c) count (judging c) a (by-trial c count a h)
-
-    pub rejected-exactly : (i k : ℕ) → (a .says ≡ said Word.rejected (i ∷ k ∷ [])) ↔ (Good c × (count ≤ roomOf (c .log)) × Fate c count (rejected i k))
-    rejected-exactly = general.rejected-exactly (trial (jobsOf c)) (asks c) count (judging c) a (by-trial c count a h)
-
-    pub refused-exactly : (k : ℕ) → (a .says ≡ said Word.refused (k ∷ [])) ↔ RefusedRow c count k
-    refused-exactly = general.refused-exactly (trial (jobsOf c)) (asks c) count (judging c) a (by-trial c count a h)
+  -- so a verdict with its facts gives its answer
+  pub fate-answers : (a : Checked) → Checks c count a → (v : Verdict) → Good c → count ≤ roomOf (c .log) → Fate c count v → a ≡ judged c count v
+  fate-answers a h = general.fate-answers (trial (jobsOf c)) (asks c) count (judging c) a (by-trial c count a h)

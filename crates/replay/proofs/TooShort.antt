@@ -1,5 +1,5 @@
 -- Laws over the checker's contract where a window is too short (document 02, Item 3): a clash of the lowest such job where no record is claimed, else
--- the first is rejected with code 20. Refusal 6 comes before either: `Rows refused-exactly` gives it for any good list.
+-- the first is rejected with code 20. Refusal 6 comes before either: `Checks.exactly` gives it for any good list.
 use Prim.Native.Nat.{ℕ, _≤_, _<_}
 use native.Mathlib.Omega.{arith}
 use mathlib.Core.Path.{_≡_, refl, _∙_}

@@ -15,9 +15,15 @@ use Rattle.replay.specs.Fate.{nth, reached}
 abbrev pub Reasoned : Call → ℕ → Type 0
 Reasoned c i = ReasonedOn (jobsOf c) (reached c i) (nth c i)
 
--- what the words of an answer say of the log: where it holds or clashes, of all claimed records, to the windows reached or the job whose window is closed
-abbrev pub Replayed : Call → ℕ → Checked → Type 0
-Replayed c = promise.Replayed (trial (jobsOf c)) (asks c)
+-- each answer exactly when the paper says so, in facts of the log, and the windows that it leaves; refusal k's row
+abbrev pub Exactly : Call → ℕ → Checked → Type 0
+Exactly c = promise.Exactly (trial (jobsOf c)) (asks c)
+
+abbrev pub RefusedRow : Call → ℕ → ℕ → Type 0
+RefusedRow c = promise.RefusedRow (asks c)
+
+abbrev pub Claimed : Call → ℕ → Type 0
+Claimed c = promise.Claimed (asks c)
 
 -- a log that narrowing left on these windows, whatever stood in it before, with all its records claimed, is taken to the same end
 pub record TakesLogs (c : Call) (count : ℕ) (a : Checked) : Type 0 where
@@ -29,8 +35,7 @@ pub record TakesLogs (c : Call) (count : ℕ) (a : Checked) : Type 0 where
 -- the contract of the checker
 pub record Checks (c : Call) (count : ℕ) (a : Checked) : Type 0 where
   pub answered : a ≡ checked c count
-  -- the count is that of the claimed records, the windows are those that they reach, the job and the code those of the records
-  pub replayed : Replayed c count a
+  pub exactly : Exactly c count a
   -- for every record it takes, whoever wrote it
   pub implied : (i : ℕ) → i < taken (a .says) → Reasoned c i
   -- every schedule within the submitted windows lies within those left

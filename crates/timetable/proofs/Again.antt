@@ -21,7 +21,7 @@ module _ (c : Call) (a : After) (h : Narrows c a) (n : ℕ) (e : a .says ≡ sai
   same-jobs = ap (λ (m : ℕ). record { n = m; p = c .p; r = c .r; cap = c .cap }) (h .reasons .settled n e .led .lengths .early)
 
   pub word : a .says .word ≡ Word.settled
-  word = general.word (asks c) (grounds c) a (by-rules c a h) n e
+  word = general.word (asks c) a (by-rules c a h) n e
 
   anew : Anew (taskOf (asks c)) (a .win) (taskOf (asks next))
   anew =
@@ -36,11 +36,11 @@ module _ (c : Call) (a : After) (h : Narrows c a) (n : ℕ) (e : a .says ≡ sai
 
   -- the windows left are those of a good list
   pub good-again : Good next
-  good-again = general.good-again (asks c) (grounds c) a (by-rules c a h) n e (asks next) anew
+  good-again = general.good-again (asks c) a (by-rules c a h) n e (asks next) anew
 
   -- and each is long enough
   pub long-again : Long (jobsOf next .n) (c .p) (a .win)
-  long-again = general.long-again (asks c) (grounds c) a (by-rules c a h) n e (asks next) anew
+  long-again = general.long-again (asks c) a (by-rules c a h) n e (asks next) anew
 
   pub settled-again : (b : After) → Narrows next b → b ≡ leaves (said Word.settled (0 ∷ [])) (a .win) log
-  settled-again b k = general.settled-again (asks c) (grounds c) a (by-rules c a h) n e (asks next) anew (grounds next) b (by-rules next b k)
+  settled-again b k = general.settled-again (asks c) a (by-rules c a h) n e (asks next) anew (grounds next) b (by-rules next b k)

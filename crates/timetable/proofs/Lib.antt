@@ -9,7 +9,7 @@ pub mod Edges
 pub mod Loads
 pub mod Unmoved
 pub mod Meaning
-pub mod Rows
+pub mod Same
 pub mod TooShort
 pub mod Again
 pub mod Reordered

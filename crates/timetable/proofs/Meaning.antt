@@ -26,10 +26,10 @@ grounds c =
 -- its contract is that of narrowing by rules, and that shorter reasons move nothing
 pub by-rules : (c : Call) (a : After) → Narrows c a → promise.Narrows (asks c) a
 unfolding narrowedBy
-by-rules c a h = record { answered = h .answered; kept = h .kept; largest = h .largest; reasons = h .reasons }
+by-rules c a h = record { answered = h .answered; exactly = h .exactly; kept = h .kept; largest = h .largest; reasons = h .reasons }
 
 pub narrows : (c : Call) → Narrows c (narrowed c)
 unfolding narrowedBy
 narrows c =
     let h = general.narrows (asks c) (grounds c) in
-    record { answered = refl; kept = h .kept; largest = h .largest; reasons = h .reasons; unmoved = unmoved-by c }
+    record { answered = refl; exactly = h .exactly; kept = h .kept; largest = h .largest; reasons = h .reasons; unmoved = unmoved-by c }

@@ -47,7 +47,7 @@ module _ (π σ : ℕ → ℕ) (c d : Call) (t : Turn (jobs (c .win)) π σ) (s 
   module _ (a b : After) (f : Narrows c a) (g : Narrows d b) where
     -- the same refusal, 1 to 3
     pub refused-there : (k : ℕ) → k ≤ 3 → a .says ≡ said Word.refused (k ∷ []) → b .says ≡ said Word.refused (k ∷ [])
-    refused-there = general.refused-there π σ (asks c) (asks d) t same-ask a b (by-rules c a f) (by-rules d b g) (grounds c) (grounds d)
+    refused-there = general.refused-there π σ (asks c) (asks d) t same-ask a b (by-rules c a f) (by-rules d b g)
 
     pub good-there : Good c → Good d
     good-there = general.good-there π σ (asks c) (asks d) t same-ask

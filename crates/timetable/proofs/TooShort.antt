@@ -11,7 +11,7 @@ use Rattle.joblist.specs.Limits.{jobs}
 use Rattle.promises.proofs.TooShort as general
 use Rattle.timetable.specs.Table.{Call, asks, Good, TooShort, After, leaves}
 use Rattle.timetable.specs.Promise.{Scheduled, NoneIn, needs, Narrowest, Narrows}
-use Rattle.timetable.proofs.Meaning.{grounds, by-rules}
+use Rattle.timetable.proofs.Meaning.{by-rules}
 
 -- ---- of the list alone, and any job whose window is too short
 
@@ -27,8 +27,8 @@ pub too-short-needs : (c : Call) (j : ℕ) → TooShort c j → needs c ≡ 0
 too-short-needs c = general.too-short-needs (asks c)
 
 -- so demand 3 alone shuts out that such a list is refused
-pub too-short-decided : (c : Call) (a : After) → Good c → Narrowest c a → (j : ℕ) → TooShort c j → a .says .word ≡ Word.refused → ⊥
-too-short-decided c a g = general.too-short-decided (asks c) a
+pub too-short-decided : (c : Call) (a : After) → Narrowest c a → (j : ℕ) → TooShort c j → a .says .word ≡ Word.refused → ⊥
+too-short-decided c a = general.too-short-decided (asks c) a
 
 -- ---- of the answer
 
@@ -39,4 +39,4 @@ module _ (c : Call) (a : After) (h : Narrows c a) (j : ℕ) where
 
   -- and no other list
   pub too-short-exactly : (a .says ≡ said Word.clash (0 ∷ j ∷ [])) ↔ (Good c × TooShort c j)
-  too-short-exactly = general.too-short-exactly (asks c) a (by-rules c a h) j (grounds c)
+  too-short-exactly = general.too-short-exactly (asks c) a (by-rules c a h) j

@@ -34,6 +34,13 @@ needs c = promise.needs (asks c)
 abbrev pub Room : Call → Type 0
 Room c = promise.Room (asks c)
 
+-- the rows of the answer table, each exactly when it says so; refusal k's
+abbrev pub Exactly : Call → After → Type 0
+Exactly c = promise.Exactly (asks c)
+
+abbrev pub RefusedRow : Call → ℕ → Type 0
+RefusedRow c = promise.RefusedRow (asks c)
+
 -- demand 2; clash of fixed jobs exactly if the supply is overdrawn at some time
 abbrev pub Kept : Call → After → Type 0
 Kept c = promise.Kept (asks c)
@@ -45,6 +52,7 @@ Narrowest c = promise.Narrowest (asks c)
 -- the contract of narrowing
 pub record Narrows (c : Call) (a : After) : Type 0 where
   pub answered : a ≡ narrowed c
+  pub exactly : Exactly c a
   pub kept : Kept c a
   pub largest : Good c → Narrowest c a
   pub reasons : Reasons c a

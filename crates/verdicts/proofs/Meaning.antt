@@ -22,7 +22,7 @@ use Rattle.verdicts.specs.Replay.{Trial, Verdict, holds, clashes, reject
 use Rattle.verdicts.specs.Fate.{nth, reached, Takes, Closing, Fate, Shut}
 use Rattle.verdicts.specs.Promise.{Judges, taken, Checks}
 use Rattle.verdicts.proofs.Fates.{fate-exactly}
-use Rattle.verdicts.proofs.Rows.{holds-says, clash-says, rejected-exactly}
+use Rattle.verdicts.proofs.Rows.{exactly}
 
 module _ (T : Trial) (A : Ask) (y : Judges T A) where
   closing-takes : (h : ℕ) → Closing T A h → (i : ℕ) → i < suc h → Takes T A i
@@ -100,11 +100,7 @@ module _ (T : Trial) (A : Ask) (y : Judges T A) where
       let f = rows-sound count (refusalOf A) in
       record {
         answered = refl;
-        replayed = record {
-          holds = λ n e. holds-says T A count y _ refl n e;
-          clash = λ n j e. clash-says T A count y _ refl n j e;
-          rejected = λ i k e. rejected-exactly T A count y _ refl i k .0 e .2;
-        };
+        exactly = exactly T A count y (checked T A count) refl;
         implied = f .implied;
         kept = f .kept;
         none = f .none;

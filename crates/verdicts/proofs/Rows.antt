@@ -1,11 +1,11 @@
--- Laws of the checker's answer over any rules: each refusal, code and answer is given exactly when document 01 says so and nothing before it does, in
--- facts.
+-- The checker's answers over any rules, in facts: each refusal, code and answer is given exactly when document 01 says so and nothing before it does, and
+-- leaves what it says; and these facts alone determine the answer and the windows.
 use Prim.Native.Nat.{ℕ, zero, suc, _≤_, _<_}
 use native.Mathlib.Omega.{arith}
 use mathlib.Core.Path.{_≡_, refl, sym, ap, subst, _∙_}
 use mathlib.Core.Bool.{Bool, true, false}
 use mathlib.Core.List.{[], _∷_}
-use mathlib.Core.Logic.{inl, inr, _↔_}
+use mathlib.Core.Logic.{_⊎_, inl, inr, _↔_}
 use lib.Dec.{ltb}
 use borrow.Author.Tests.{ltb-true, ltb-false, le-ltb}
 use Rattle.lists.specs.Lists.{_!_}
@@ -16,9 +16,9 @@ use Rattle.journal.specs.Journal.{roomOf, records}
 use Rattle.journal.proofs.Records.{room-short}
 use Rattle.promises.specs.Ask.{Ask, many, lasts, columns, Good, refusalOf}
 use Rattle.promises.proofs.Calls.{good-call, call-good}
-use Rattle.verdicts.specs.Replay.{Trial, Verdict, holds, clashes, rejected, verdictOn, Checked, judged, refuses, orSix, rows, checked}
-use Rattle.verdicts.specs.Fate.{Open, Fate}
-use Rattle.verdicts.specs.Promise.{Judges, RefusedRow}
+use Rattle.verdicts.specs.Replay.{Trial, Verdict, holds, clashes, rejected, verdictOn, Checked, finds, judged, refuses, orSix, rows, checked}
+use Rattle.verdicts.specs.Fate.{reached, Open, Shut, Fate}
+use Rattle.verdicts.specs.Promise.{Judges, RefusedRow, Claimed, Exactly}
 use Rattle.verdicts.proofs.Fates.{fate-exactly}
 
 module _ (T : Trial) (A : Ask) (count : ℕ) where
@@ -69,43 +69,56 @@ module _ (T : Trial) (A : Ask) (count : ℕ) where
         go (six g b q) = absurd (not-refused 6 q)
         go (judges g b q) = (g, b, verdict, fate-exactly T A y count verdict .0 refl, says-of (judged (A .win) count verdict) q x e)
 
-    pub holds-exactly : (a .says ≡ said Word.holds (count ∷ [])) ↔ (Good A × (count ≤ roomOf (A .log)) × Open T A count)
-    holds-exactly = (there, λ x. ap (λ (z : Checked). z .says) (fate-answers (holds _) (x .0) (x .1) (refl, x .2)))
+    holds-facts : (n : ℕ) → a .says ≡ said Word.holds (n ∷ []) → Claimed A count × (n ≡ count) × Open T A count
+    holds-facts n e =
+        let r = verdict-of _ e (not-said Word.holds Word.refused (λ z. omega arith)) in
+        let q = by (r .2) (r .3) (r .4) in
+        ((r .0, r .1), q .0, q .1)
       where
-        by : (v : Verdict) → Fate T A count v → judged (A .win) count v .says ≡ said Word.holds (count ∷ []) → Open T A count
-        by (holds U) f e = f .1
-        by (clashes j) f e = said-apart Word.clash Word.holds _ _ (λ z. omega arith) e
-        by (rejected i k) f e = said-apart Word.rejected Word.holds _ _ (λ z. omega arith) e
+        by : (v : Verdict) → Fate T A count v → judged (A .win) count v .says ≡ said Word.holds (n ∷ []) → (n ≡ count) × Open T A count
+        by (holds U) f q = (sym (ap (λ (z : Said). z .numbers ! 0) q), f .1)
+        by (clashes j) f q = said-apart Word.clash Word.holds _ _ (λ z. omega arith) q
+        by (rejected i k) f q = said-apart Word.rejected Word.holds _ _ (λ z. omega arith) q
 
-        there : a .says ≡ said Word.holds (count ∷ []) → Good A × (count ≤ roomOf (A .log)) × Open T A count
-        there e = let r = verdict-of _ e (not-said Word.holds Word.refused (λ z. omega arith)) in (r .0, r .1, by (r .2) (r .3) (r .4))
-
-    -- "holds" counts the claimed records and leaves the windows that they reach
-    pub holds-says : (n : ℕ) → a .says ≡ said Word.holds (n ∷ []) → (n ≡ count) × Fate T A count (holds (a .win))
-    holds-says n e = go (cased a h)
+    clash-facts : (n j : ℕ) → a .says ≡ said Word.clash (n ∷ j ∷ []) → Claimed A count × (n ≡ count) × Shut T A count j
+    clash-facts n j e =
+        let r = verdict-of _ e (not-said Word.clash Word.refused (λ z. omega arith)) in
+        let q = by (r .2) (r .3) (r .4) in
+        ((r .0, r .1), q .0, q .1)
       where
-        by : (v : Verdict) → Fate T A count v → a ≡ judged (A .win) count v → (n ≡ count) × Fate T A count (holds (a .win))
-        by (holds U) f q = (sym (ap (λ (z : Said). z .numbers ! 0) (says-of _ q _ e)), (ap (λ (z : Checked). z .win) q ∙ f .0, f .1))
-        by (clashes j) f q = said-apart Word.clash Word.holds _ _ (λ z. omega arith) (says-of _ q _ e)
-        by (rejected i k) f q = said-apart Word.rejected Word.holds _ _ (λ z. omega arith) (says-of _ q _ e)
-
-        go : Case a → (n ≡ count) × Fate T A count (holds (a .win))
-        go (tested k d q) = said-apart Word.refused Word.holds _ _ (λ z. omega arith) (says-of _ q _ e)
-        go (six g b q) = said-apart Word.refused Word.holds _ _ (λ z. omega arith) (says-of _ q _ e)
-        go (judges g b q) = by verdict (fate-exactly T A y count verdict .0 refl) q
-
-    -- and "clash" likewise, with the job whose window is closed
-    pub clash-says : (n j : ℕ) → a .says ≡ said Word.clash (n ∷ j ∷ []) → (n ≡ count) × Fate T A count (clashes j)
-    clash-says n j e = let r = verdict-of _ e (not-said Word.clash Word.refused (λ z. omega arith)) in by (r .2) (r .3) (r .4)
-      where
-        by : (v : Verdict) → Fate T A count v → judged (A .win) count v .says ≡ said Word.clash (n ∷ j ∷ []) → (n ≡ count) × Fate T A count (clashes j)
+        by : (v : Verdict) → Fate T A count v → judged (A .win) count v .says ≡ said Word.clash (n ∷ j ∷ []) → (n ≡ count) × Shut T A count j
         by (holds U) f q = said-apart Word.holds Word.clash _ _ (λ z. omega arith) q
-        by (clashes i) f q = (sym (ap (λ (z : Said). z .numbers ! 0) q), subst (λ (m : ℕ). Fate T A count (clashes m)) (ap (λ (z : Said). z .numbers ! 1) q) f)
+        by (clashes i) f q = (sym (ap (λ (z : Said). z .numbers ! 0) q), subst (Shut T A count) (ap (λ (z : Said). z .numbers ! 1) q) f)
         by (rejected i k) f q = said-apart Word.rejected Word.clash _ _ (λ z. omega arith) q
 
-    -- any other answer leaves the windows as submitted
-    pub submitted-windows : (a .says .word ≡ Word.holds → ⊥) → a .win ≡ A .win
-    submitted-windows f = go (cased a h)
+    rejected-facts : (i k : ℕ) → a .says ≡ said Word.rejected (i ∷ k ∷ []) → Claimed A count × Fate T A count (rejected i k)
+    rejected-facts i k e = let r = verdict-of _ e (not-said Word.rejected Word.refused (λ z. omega arith)) in ((r .0, r .1), by (r .2) (r .3) (r .4))
+      where
+        by : (v : Verdict) → Fate T A count v → judged (A .win) count v .says ≡ said Word.rejected (i ∷ k ∷ []) → Fate T A count (rejected i k)
+        by (holds U) f e = said-apart Word.holds Word.rejected _ _ (λ z. omega arith) e
+        by (clashes j) f e = said-apart Word.clash Word.rejected _ _ (λ z. omega arith) e
+        by (rejected m d) f e =
+            subst (λ (x : ℕ). Fate T A count (rejected i x)) (ap (λ (z : Said). z .numbers ! 1) e)
+            (subst (λ (x : ℕ). Fate T A count (rejected x d)) (ap (λ (z : Said). z .numbers ! 0) e) f)
+
+    reached-windows : a .says .word ≡ Word.holds → a .win ≡ reached T A count
+    reached-windows f = go (cased a h)
+      where
+        by : (v : Verdict) → Fate T A count v → a ≡ judged (A .win) count v → a .win ≡ reached T A count
+        by (holds U) x q = ap (λ (z : Checked). z .win) q ∙ x .0
+        by (clashes j) x q = absurd (not-said Word.clash Word.holds (λ z. omega arith) (sym (ap (λ (z : Checked). z .says .word) q) ∙ f))
+        by (rejected i k) x q = absurd (not-said Word.rejected Word.holds (λ z. omega arith) (sym (ap (λ (z : Checked). z .says .word) q) ∙ f))
+
+        refused-not : (k : ℕ) → a ≡ refuses (A .win) k → ⊥
+        refused-not k q = not-said Word.refused Word.holds (λ z. omega arith) (sym (ap (λ (z : Checked). z .says .word) q) ∙ f)
+
+        go : Case a → a .win ≡ reached T A count
+        go (tested k d q) = absurd (refused-not (suc k) q)
+        go (six g b q) = absurd (refused-not 6 q)
+        go (judges g b q) = by verdict (fate-exactly T A y count verdict .0 refl) q
+
+    left-windows : (a .says .word ≡ Word.holds → ⊥) → a .win ≡ A .win
+    left-windows f = go (cased a h)
       where
         by : (v : Verdict) → a ≡ judged (A .win) count v → a .win ≡ A .win
         by (holds U) q = absurd (f (ap (λ (z : Checked). z .says .word) q))
@@ -117,33 +130,9 @@ module _ (T : Trial) (A : Ask) (count : ℕ) where
         go (six g b q) = ap (λ (z : Checked). z .win) q
         go (judges g b q) = by verdict q
 
-    pub clash-exactly : (j : ℕ) → (a .says ≡ said Word.clash (count ∷ j ∷ [])) ↔ (Good A × (count ≤ roomOf (A .log)) × Fate T A count (clashes j))
-    clash-exactly j = (there, λ x. ap (λ (z : Checked). z .says) (fate-answers (clashes j) (x .0) (x .1) (x .2)))
-      where
-        by : (v : Verdict) → Fate T A count v → judged (A .win) count v .says ≡ said Word.clash (count ∷ j ∷ []) → Fate T A count (clashes j)
-        by (holds U) f e = said-apart Word.holds Word.clash _ _ (λ z. omega arith) e
-        by (clashes i) f e = subst (λ (m : ℕ). Fate T A count (clashes m)) (ap (λ (z : Said). z .numbers ! 1) e) f
-        by (rejected i k) f e = said-apart Word.rejected Word.clash _ _ (λ z. omega arith) e
-
-        there : a .says ≡ said Word.clash (count ∷ j ∷ []) → Good A × (count ≤ roomOf (A .log)) × Fate T A count (clashes j)
-        there e = let r = verdict-of _ e (not-said Word.clash Word.refused (λ z. omega arith)) in (r .0, r .1, by (r .2) (r .3) (r .4))
-
-    pub rejected-exactly : (i k : ℕ) → (a .says ≡ said Word.rejected (i ∷ k ∷ [])) ↔ (Good A × (count ≤ roomOf (A .log)) × Fate T A count (rejected i k))
-    rejected-exactly i k = (there, λ x. ap (λ (z : Checked). z .says) (fate-answers (rejected i k) (x .0) (x .1) (x .2)))
-      where
-        by : (v : Verdict) → Fate T A count v → judged (A .win) count v .says ≡ said Word.rejected (i ∷ k ∷ []) → Fate T A count (rejected i k)
-        by (holds U) f e = said-apart Word.holds Word.rejected _ _ (λ z. omega arith) e
-        by (clashes j) f e = said-apart Word.clash Word.rejected _ _ (λ z. omega arith) e
-        by (rejected m d) f e =
-            subst (λ (x : ℕ). Fate T A count (rejected i x)) (ap (λ (z : Said). z .numbers ! 1) e)
-            (subst (λ (x : ℕ). Fate T A count (rejected x d)) (ap (λ (z : Said). z .numbers ! 0) e) f)
-
-        there : a .says ≡ said Word.rejected (i ∷ k ∷ []) → Good A × (count ≤ roomOf (A .log)) × Fate T A count (rejected i k)
-        there e = let r = verdict-of _ e (not-said Word.rejected Word.refused (λ z. omega arith)) in (r .0, r .1, by (r .2) (r .3) (r .4))
-
-    pub refused-exactly : (k : ℕ) → (a .says ≡ said Word.refused (k ∷ [])) ↔ RefusedRow A count k
+    refused-facts : (k : ℕ) → (a .says ≡ said Word.refused (k ∷ [])) ↔ RefusedRow A count k
     unfolding refusalOf
-    refused-exactly k = (λ e. there e (cased a h), λ r. back r (cased a h))
+    refused-facts k = (λ e. there e (cased a h), λ r. back r (cased a h))
       where
         word-not : (v : Verdict) → judged (A .win) count v .says .word ≡ Word.refused → ⊥
         word-not (holds U) = not-said Word.holds Word.refused (λ z. omega arith)
@@ -166,3 +155,66 @@ module _ (T : Trial) (A : Ask) (count : ℕ) where
         back (inr (e, g, b)) (tested m d q) = absurd (omega (arith, sym d ∙ call-good A g))
         back (inr (e, g, b)) (six f d q) = ap (λ (z : Checked). z .says) q ∙ ap (λ (i : ℕ). said Word.refused (i ∷ [])) (sym e)
         back (inr (e, g, b)) (judges f d q) = absurd (omega (arith, room-short (A .log) count .1 b))
+
+    pub exactly : Exactly T A count a
+    exactly =
+        record {
+          refused = refused-facts;
+          holds = λ n. (holds-facts n, λ x. says-by (holds _) (x .0) (refl, x .2) ∙ ap (λ (i : ℕ). said Word.holds (i ∷ [])) (sym (x .1)));
+          clash = λ n j. (clash-facts n j, λ x. says-by (clashes j) (x .0) (x .2) ∙ ap (λ (i : ℕ). said Word.clash (i ∷ j ∷ [])) (sym (x .1)));
+          rejected = λ i k. (rejected-facts i k, λ x. says-by (rejected i k) (x .0) (x .1));
+          reached = reached-windows;
+          submitted = left-windows;
+        }
+      where
+        says-by : (v : Verdict) → Claimed A count → Fate T A count v → a .says ≡ judged (A .win) count v .says
+        says-by v c f = ap (λ (z : Checked). z .says) (fate-answers v (c .0) (c .1) f)
+
+  -- ---- an answer that meets these facts is the definition's, with its windows
+
+  module _ (y : Judges T A) (a : Checked) (x : Exactly T A count a) where
+    abbrev due : Checked
+    due = checked T A count
+
+    abbrev facts : Exactly T A count due
+    facts = exactly y due refl
+
+    left : (s : Said) → due .says ≡ s → a .says ≡ s → a .win ≡ due .win
+    left s d e = go (word-holds (s .word))
+      where
+        word-holds : (w : Word) → (w ≡ Word.holds) ⊎ (w ≡ Word.holds → ⊥)
+        word-holds Word.holds = inl refl
+        word-holds Word.clash = inr (not-said Word.clash Word.holds (λ z. omega arith))
+        word-holds Word.rejected = inr (not-said Word.rejected Word.holds (λ z. omega arith))
+        word-holds Word.settled = inr (not-said Word.settled Word.holds (λ z. omega arith))
+        word-holds Word.refused = inr (not-said Word.refused Word.holds (λ z. omega arith))
+        word-holds Word.none = inr (not-said Word.none Word.holds (λ z. omega arith))
+        word-holds Word.overload = inr (not-said Word.overload Word.holds (λ z. omega arith))
+        word-holds Word.written = inr (not-said Word.written Word.holds (λ z. omega arith))
+        word-holds Word.read = inr (not-said Word.read Word.holds (λ z. omega arith))
+
+        word-of : (b : Checked) → b .says ≡ s → b .says .word ≡ s .word
+        word-of b q = ap (λ (z : Said). z .word) q
+
+        go : (s .word ≡ Word.holds) ⊎ (s .word ≡ Word.holds → ⊥) → a .win ≡ due .win
+        go (inl q) = x .reached (word-of a e ∙ q) ∙ sym (facts .reached (word-of due d ∙ q))
+        go (inr f) = x .submitted (λ z. f (sym (word-of a e) ∙ z)) ∙ sym (facts .submitted (λ z. f (sym (word-of due d) ∙ z)))
+
+    pub facts-answer : a ≡ due
+    facts-answer = go (cased due refl)
+      where
+        same : (s : Said) → due .says ≡ s → a .says ≡ s → a ≡ due
+        same s d e = ap (λ (z : Said). finds z (a .win)) (e ∙ sym d) ∙ ap (finds (due .says)) (left s d e)
+
+        by : (v : Verdict) → due .says ≡ judged (A .win) count v .says → a ≡ due
+        by (holds U) q = same _ q (x .holds count .1 (facts .holds count .0 q))
+        by (clashes j) q = same _ q (x .clash count j .1 (facts .clash count j .0 q))
+        by (rejected i k) q = same _ q (x .rejected i k .1 (facts .rejected i k .0 q))
+
+        refusal : (k : ℕ) → due ≡ refuses (A .win) k → a ≡ due
+        refusal k q = let e = ap (λ (z : Checked). z .says) q in same _ e (x .refused k .1 (facts .refused k .0 e))
+
+        go : Case due → a ≡ due
+        go (tested k d q) = refusal (suc k) q
+        go (six g b q) = refusal 6 q
+        go (judges g b q) = by verdict (ap (λ (z : Checked). z .says) q)

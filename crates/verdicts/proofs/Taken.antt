@@ -138,7 +138,7 @@ module _ (T : Trial) (A : Ask) (y : Judges T A) (z : Writes T A) (x : Grounds A)
   -- settled: holds, with the same count and windows
   settled-taken : (n : ℕ) → a .says ≡ said Word.settled (n ∷ []) → b ≡ checked T (withLog A (a .log)) n → b ≡ finds (said Word.holds (n ∷ [])) (a .win)
   unfolding ended
-  settled-taken n e k = go (cased A a h)
+  settled-taken n e k = go (cased A a (h .answered))
     where
       by-run : (g : Good A) (o : Out) → Ends T A y z x g (A .win) o → Bounded (A .search) (A .room) (A .win) o → a ≡ ended A o → b ≡ finds (said Word.holds (n ∷ [])) (a .win)
       by-run g (settled U ms) r d q =
@@ -161,7 +161,7 @@ module _ (T : Trial) (A : Ask) (y : Judges T A) (z : Writes T A) (x : Grounds A)
   -- clash: the same count and job
   clash-taken : (n j : ℕ) → a .says ≡ said Word.clash (n ∷ j ∷ []) → b ≡ checked T (withLog A (a .log)) n → b ≡ finds (said Word.clash (n ∷ j ∷ [])) (A .win)
   unfolding ended
-  clash-taken n j e k = go (cased A a h)
+  clash-taken n j e k = go (cased A a (h .answered))
     where
       by-run : (g : Good A) (o : Out) → Ends T A y z x g (A .win) o → Bounded (A .search) (A .room) (A .win) o → a ≡ ended A o → b ≡ finds (said Word.clash (n ∷ j ∷ [])) (A .win)
       by-run g (settled U ms) r d q = said-apart Word.settled Word.clash _ _ (λ v. omega arith) (says-of _ q _ e)

@@ -18,8 +18,8 @@ use Rattle.journal.specs.Journal.{recordWords, jobOf, roomOf}
 use Rattle.promises.specs.Ask.{Ask, many, lasts, columns, Good}
 use Rattle.promises.specs.Table.{After}
 use Rattle.promises.specs.Promise.{Scheduled, Narrows}
-use Rattle.verdicts.specs.Replay.{Trial, holds, clashes, rejected, Checked, finds, checked}
-use Rattle.verdicts.specs.Fate.{nth, reached, Fate}
+use Rattle.verdicts.specs.Replay.{Trial, rejected, Checked, finds, checked}
+use Rattle.verdicts.specs.Fate.{nth, reached, Open, Shut, Fate}
 
 -- what is asked: the code in facts, that a good record is one with code 0, whose job is listed, whose change is a step of the rules, and of which what is
 -- promised holds; and that no rule applies to windows fixed by a schedule
@@ -50,19 +50,27 @@ taken a = takenBy (a .word) (a .numbers ! 0)
 abbrev pub RefusedRow : Ask → ℕ → ℕ → Type 0
 RefusedRow A count k = ((1 ≤ k) × Given k (many A) (columns A) (A .alone)) ⊎ ((k ≡ 6) × Good A × (length (A .log) < recordWords * count))
 
--- what the words of an answer say of the log
-pub record Replayed (T : Trial) (A : Ask) (count : ℕ) (a : Checked) : Type 0 where
-  -- all claimed records are good and close no window, and the windows left are those that they reach
-  pub holds : (n : ℕ) → a .says ≡ said Word.holds (n ∷ []) → (n ≡ count) × Fate T A count (holds (a .win))
+-- the list is good, and the log holds the claimed records
+abbrev pub Claimed : Ask → ℕ → Type 0
+Claimed A count = Good A × (count ≤ roomOf (A .log))
+
+-- each answer exactly when the paper says so, in facts of the log, and the windows that it leaves
+pub record Exactly (T : Trial) (A : Ask) (count : ℕ) (a : Checked) : Type 0 where
+  pub refused : (k : ℕ) → (a .says ≡ said Word.refused (k ∷ [])) ↔ RefusedRow A count k
+  -- all claimed records are good and close no window; the count is theirs
+  pub holds : (n : ℕ) → (a .says ≡ said Word.holds (n ∷ [])) ↔ (Claimed A count × (n ≡ count) × Open T A count)
   -- the last claimed record is the first to close a window, job j's; or none is claimed, and j's is the lowest that is too short
-  pub clash : (n j : ℕ) → a .says ≡ said Word.clash (n ∷ j ∷ []) → (n ≡ count) × Fate T A count (clashes j)
-  -- record i is the first bad one, for the reason k; or comes after a window was closed
-  pub rejected : (i k : ℕ) → a .says ≡ said Word.rejected (i ∷ k ∷ []) → Fate T A count (rejected i k)
+  pub clash : (n j : ℕ) → (a .says ≡ said Word.clash (n ∷ j ∷ [])) ↔ (Claimed A count × (n ≡ count) × Shut T A count j)
+  -- record i is the first bad one, for the reason k; or it comes after a window was closed, 20
+  pub rejected : (i k : ℕ) → (a .says ≡ said Word.rejected (i ∷ k ∷ [])) ↔ (Claimed A count × Fate T A count (rejected i k))
+  -- "holds" leaves the windows that the records reach, every other answer those submitted
+  pub reached : a .says .word ≡ Word.holds → a .win ≡ reached T A count
+  pub submitted : (a .says .word ≡ Word.holds → ⊥) → a .win ≡ A .win
 
 -- the contract of the checker
 pub record Checks (T : Trial) (A : Ask) (count : ℕ) (a : Checked) : Type 0 where
   pub answered : a ≡ checked T A count
-  pub replayed : Replayed T A count a
+  pub exactly : Exactly T A count a
   -- for every record it takes, whoever wrote it
   pub implied : (i : ℕ) → i < taken (a .says) → T .reasoned (reached T A i) (nth A i)
   -- every schedule within the submitted windows lies within those left

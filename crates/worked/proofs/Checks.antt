@@ -1,8 +1,11 @@
--- The checker answers the logs of the table as they are due. A wrong row is refused at its own line.
-use mathlib.Core.Path.{refl}
+-- The checker answers the logs of the table as they are due, by its definition and by its contract's field `exactly` alone. A wrong row is refused at its own
+-- line.
+use mathlib.Core.Path.{refl, _∙_}
 use Rattle.lists.specs.Lists.{Every}
+use Rattle.lists.proofs.Every.{every-map}
 use Rattle.replay.specs.Replay.{checked}
-use Rattle.worked.specs.Rows.{Right}
+use Rattle.replay.proofs.Rows.{facts-answer}
+use Rattle.worked.specs.Logs.{Right, Pinned}
 use Rattle.worked.specs.Checks.{checks}
 
 pub checks-right : Every Right checks
@@ -91,7 +94,40 @@ checks-right = (
                                                                                   refl,  -- 25
                                                                                   (
                                                                                     refl,  -- 26
-                                                                                    tt,
+                                                                                    (
+                                                                                      refl,  -- 25
+                                                                                      (
+                                                                                        refl,  -- 41
+                                                                                        (
+                                                                                          refl,  -- 40
+                                                                                          (
+                                                                                            refl,  -- 40
+                                                                                            (
+                                                                                              refl,  -- 22
+                                                                                              (
+                                                                                                refl,  -- 22
+                                                                                                (
+                                                                                                  refl,  -- 22
+                                                                                                  (
+                                                                                                    refl,  -- 25
+                                                                                                    (
+                                                                                                      refl,  -- 25
+                                                                                                      (
+                                                                                                        refl,  -- 25
+                                                                                                        (
+                                                                                                          refl,  -- 26
+                                                                                                          tt,
+                                                                                                        ),
+                                                                                                      ),
+                                                                                                    ),
+                                                                                                  ),
+                                                                                                ),
+                                                                                              ),
+                                                                                            ),
+                                                                                          ),
+                                                                                        ),
+                                                                                      ),
+                                                                                    ),
                                                                                   ),
                                                                                 ),
                                                                               ),
@@ -134,3 +170,6 @@ checks-right = (
     ),
   ),
 )
+
+pub checks-pinned : Every Pinned checks
+checks-pinned = every-map Right Pinned (λ x h a y. facts-answer (x .given) (x .count) a y ∙ h) checks checks-right

@@ -1,4 +1,5 @@
 pub mod Cases
 pub mod Checks
 pub mod ShutOut
+pub mod CheckShutOut
 pub mod SpareShutOut

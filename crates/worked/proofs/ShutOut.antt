@@ -1,11 +1,12 @@
--- The wrong versions that document 01 names under 'How firm the statements are', each refuted by the field of the contract that 01 names for it,
--- without the help of `answered`: so no promise is empty. `readhead` has those of the overload check.
+-- The wrong planners that document 01 names under 'How firm the statements are', and one that does not stop, each refuted by the field of the contract that 01
+-- names for it, without the help of `answered`: so no promise is empty. `CheckShutOut` has those of the checker, `readhead` those of the overload check.
 use Prim.Native.Nat.{ℕ, zero, suc, _+_, _≤_, _<_}
 use native.Mathlib.Omega.{arith}
 use mathlib.Core.Path.{_≡_, refl, sym, ap, subst, _∙_}
 use mathlib.Core.Bool.{Bool, true, false}
 use mathlib.Core.List.{List, [], _∷_, _++_}
 use mathlib.Core.Option.{some}
+use mathlib.Core.Logic.{inl, inr}
 use lib.ListN.{length, take, length-append}
 use Rattle.lists.specs.Lists.{_!_}
 use Rattle.lists.specs.Tests.{only}
@@ -15,24 +16,21 @@ use Rattle.narrowing.specs.Run.{reachedBy}
 use Rattle.narrowing.specs.Led.{Clashed}
 use Rattle.narrowing.specs.Rounds.{Chosen}
 use Rattle.answers.specs.Said.{Word, said}
-use Rattle.members.specs.Members.{has}
-use Rattle.journal.specs.Journal.{roomOf, recordAt}
+use Rattle.journal.specs.Journal.{roomOf}
+use Rattle.joblist.proofs.Refusals.{refusal-exactly}
+use Rattle.promises.specs.Ask as ask
 use Rattle.promises.specs.Promise as promise
+use Rattle.promises.proofs.Calls.{call-good}
 use Rattle.timetable.specs.Time.{runs, drawn, Fits, Early, Applies, bound}
 use Rattle.timetable.specs.Search.{crowded, best, search}
-use Rattle.timetable.specs.Reason.{namedDrawn}
-use Rattle.timetable.specs.Table.{Call, call, jobsOf, Good, refusalOf, After}
+use Rattle.timetable.specs.Table.{Call, jobsOf, asks, Good, refusalOf, After}
 use Rattle.timetable.specs.Reasons.{Reasons}
-use Rattle.timetable.specs.Promise.{Scheduled, Room, Kept, Narrowest, Narrows}
+use Rattle.timetable.specs.Promise.{Scheduled, Room, RefusedRow, Exactly, Kept, Narrowest}
 use Rattle.timetable.proofs.Facts.{crowded-yes, runs-yes}
 use Rattle.timetable.proofs.Calls.{good-call}
-use Rattle.answers.proofs.Same.{not-said, not-refused}
-use Rattle.replay.specs.Replay.{changed, Checked}
-use Rattle.verdicts.specs.Fate as fate
-use Rattle.replay.specs.Promise.{taken, Reasoned, Replayed, TakesLogs}
-use Rattle.worked.specs.Rows.{job, line}
-use Rattle.worked.specs.Cases.{lent}
-use Rattle.worked.specs.Checks.{with, pair}
+use Rattle.worked.specs.Rows.{job}
+use Rattle.worked.specs.Runs.{lent}
+use Rattle.worked.specs.Checks.{pair}
 
 -- cases 2, 5 and 6 of the runs on the record
 abbrev case2 : Call
@@ -44,7 +42,7 @@ case5 = lent 1 (job 0 2 2 1 ∷ job 2 4 2 1 ∷ []) 8
 abbrev case6 : Call
 case6 = lent 1 (job 0 3 1 2 ∷ []) 3
 
--- ---- refusing every list: with room for the work the answer is settled or clash
+-- ---- refusing every list: a refusal is given exactly when its row says so (`exactly`), and case 5 is a good list with room for the work
 
 good5 : Good case5
 unfolding refusalOf
@@ -54,8 +52,13 @@ room5 : Room case5
 unfolding promise.needs best roomOf
 room5 = omega arith
 
-pub refusing-all : (a : After) → (Good case5 → Narrowest case5 a) → a .says .word ≡ Word.refused → ⊥
-refusing-all a h e = not-refused (a .says .word) (h good5 .decided room5) e
+pub refusing-all : (a : After) → Exactly case5 a → (k : ℕ) → a .says ≡ said Word.refused (k ∷ []) → ⊥
+unfolding ask.refusalOf
+refusing-all a h k e = go (h .refused k .0 e)
+  where
+    go : RefusedRow case5 k → ⊥
+    go (inl (b, t)) = omega (arith, sym (call-good (asks case5) good5) ∙ refusal-exactly _ _ _ k .1 t)
+    go (inr (q, g, b)) = omega (arith, room5)
 
 -- ---- settling everything with nothing moved: on case 2 a rule still applies
 
@@ -150,78 +153,19 @@ going-on a h e = let r = h .clash 2 0 e in go (r .logs .moves) (r .logs .many) (
         (subst (λ (ms : List Move). Long 2 (closed .p) (reachedBy (search (jobsOf closed)) (closed .win) ms)) (split y z (q .1 .before) (q .1 .last) (q .1 .closing)) (q .1 .held))
     go (y ∷ (z ∷ (w ∷ ws))) m x q = omega arith
 
--- ---- one record that carries a whole run: on case 6 one record for all three moves states what is not so of the submitted windows
+-- ---- one record that carries a whole run: of run 23's two bounds one record moves one (`Settles.led`)
 
-abbrev leap : Call
-leap = with 1 (job 0 3 1 2 ∷ []) (line 0 0 2 0 0)
+abbrev run23 : Call
+run23 = lent 2 pair 2
 
-not-yet : Reasoned leap 0 → ⊥
-unfolding recordAt has fate.reached changed
-not-yet r = omega (arith, r .true-there (0 ∷ []) (record { from = from; to = to }) .own)
+pub whole-run : (a : After) → Reasons run23 a → a .says ≡ said Word.settled (1 ∷ []) → a .win .e ! 0 ≡ 5 → a .win .l ! 1 ≡ 5 → ⊥
+whole-run a h e p q = let r = h .settled 1 e in go (r .logs .moves) (r .logs .many) (r .led .led)
   where
-    from : (k : ℕ) → k < 1 → leap .win .e ! k ≤ (0 ∷ []) ! k
-    from zero b = omega arith
-    from (suc k) b = absurd (omega arith)
+    one-bound : (j : ℕ) (s : Side) (t : ℕ) → a .win ≡ moved (run23 .win) j s (bound s t) → ⊥
+    one-bound j early t w = let z : a .win .l ! 1 ≡ 7 = ap (λ (W : Win). W .l ! 1) w in omega arith
+    one-bound j late t w = let z : a .win .e ! 0 ≡ 3 = ap (λ (W : Win). W .e ! 0) w in omega arith
 
-    to : (k : ℕ) → k < 1 → (0 ∷ []) ! k + leap .p ! k ≤ leap .win .l ! k
-    to zero b = omega arith
-    to (suc k) b = absurd (omega arith)
-
-pub whole-run : (a : Checked) → ((i : ℕ) → i < taken (a .says) → Reasoned leap i) → a .says ≡ said Word.clash (1 ∷ 0 ∷ []) → ⊥
-whole-run a h e = not-yet (h 0 (rw e (omega arith)))
-
--- ---- a checker that leaps: it takes the first record of 004's Example 4.1 and leaves the windows of the whole run
-
-pub leaping : (a : Checked) → Replayed (with 2 pair (line 0 0 4 1 2)) 1 a → a .says ≡ said Word.holds (1 ∷ []) → a .win .l ! 1 ≡ 5 → ⊥
-unfolding recordAt fate.reached changed
-leaping a h e q = let z : a .win .l ! 1 ≡ 7 = ap (λ (W : Win). W .l ! 1) (h .holds 1 e .1 .0) in omega arith
-
--- ---- a checker that takes all: a record with no members on case 5 does not imply its change
-
-abbrev alone : Call
-alone = with 1 (job 0 2 2 1 ∷ job 2 4 2 1 ∷ []) (line 0 0 1 0 0)
-
-not-implied : Reasoned alone 0 → ⊥
-unfolding recordAt has namedDrawn runs
-not-implied r =
-    omega (
-      arith,
-      r .implies (0 ∷ 9 ∷ []) (record { members = λ k b h. let z : _≡_ {A = ℕ} 0 1 = cc (none k b h) in absurd (omega arith); own = omega arith }) (omega arith),
-    )
-  where
-    none : (k : ℕ) → k < 2 → has (0 ∷ 0 ∷ 0 ∷ 0 ∷ 0 ∷ 0 ∷ 0 ∷ 0 ∷ []) k ≡ true → true ≡ false
-    none zero b h = sym h
-    none (suc zero) b h = sym h
-    none (suc (suc k)) b h = absurd (omega arith)
-
-pub taking-all : (a : Checked) → ((i : ℕ) → i < taken (a .says) → Reasoned alone i) → a .says ≡ said Word.holds (1 ∷ []) → ⊥
-taking-all a h e = not-implied (h 0 (rw e (omega arith)))
-
--- ---- a checker against the final windows: it would take the records of 004's Example 4.1 in the other order, whose first states what is not yet so
-
-abbrev turned : Call
-turned = with 2 pair (line 1 1 5 1 1 ++ line 0 0 4 1 2)
-
-not-there : Reasoned turned 0 → ⊥
-unfolding recordAt has fate.reached changed
-not-there r = omega (arith, r .true-there (3 ∷ 2 ∷ []) (record { from = from; to = to }) .members 0 (omega arith) refl .0)
-  where
-    from : (k : ℕ) → k < 2 → turned .win .e ! k ≤ (3 ∷ 2 ∷ []) ! k
-    from zero b = omega arith
-    from (suc zero) b = omega arith
-    from (suc (suc k)) b = absurd (omega arith)
-
-    to : (k : ℕ) → k < 2 → (3 ∷ 2 ∷ []) ! k + turned .p ! k ≤ turned .win .l ! k
-    to zero b = omega arith
-    to (suc zero) b = omega arith
-    to (suc (suc k)) b = absurd (omega arith)
-
-pub final-windows : (a : Checked) → ((i : ℕ) → i < taken (a .says) → Reasoned turned i) → a .says ≡ said Word.holds (2 ∷ []) → ⊥
-final-windows a h e = not-there (h 0 (rw e (omega arith)))
-
--- ---- a checker that rejects all: it takes the logs that narrowing writes, case 2's among them
-
-pub rejecting-all : (a : After) → Narrows case2 a → a .says ≡ said Word.settled (1 ∷ [])
-    → (b : Checked) → TakesLogs (call (case2 .win) (case2 .p) (case2 .r) (case2 .cap) (a .log)) 1 b → b .says .word ≡ Word.rejected → ⊥
-rejecting-all a h s b k e =
-    not-said Word.holds Word.rejected (λ z. omega arith) (sym (ap (λ (x : Checked). x .says .word) (k .settled (case2 .log) a h refl s)) ∙ e)
+    go : (ms : List Move) → length ms ≡ 1 → a .win ≡ reachedBy (search (jobsOf run23)) (run23 .win) ms → ⊥
+    go [] m w = omega arith
+    go (y ∷ []) m w = one-bound (y .job) (y .side) (y .choice) w
+    go (y ∷ (z ∷ zs)) m w = omega arith

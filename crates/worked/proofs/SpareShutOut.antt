@@ -17,8 +17,9 @@ use Rattle.timetable.specs.Reasons.{Reasons, fullyNamed, Unmoved}
 use Rattle.replay.specs.Replay.{Checked}
 use Rattle.replay.specs.Promise.{taken, Reasoned}
 use Rattle.worked.specs.Rows.{line}
-use Rattle.worked.specs.Cases.{lent, crowd}
-use Rattle.worked.specs.Checks.{with}
+use Rattle.worked.specs.Runs.{lent}
+use Rattle.worked.specs.Cases.{crowd}
+use Rattle.worked.specs.Logs.{with}
 
 abbrev run52 : Call
 run52 = lent 5 crowd 1

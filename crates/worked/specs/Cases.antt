@@ -1,54 +1,14 @@
 -- Document 01's 'Runs on the record', cases 1 to 12, case 9 as Item 3 of document 02 has it; with capacity 0 and outside answers (numbers from 20:
--- 000's Example 1.27, 004's 4.1 and 4.2, a tie of latest ends), windows that are too short (from 30), members that can be spared (Item 7, from 50) and
--- the ends of sure parts (Item 5, from 60: the last time of one, the first of one, and the new ends after a move of side 0 and of side 1).
--- Of narrowing: capacity, jobs as e, l, p, r, the log's room in records; then the answer, each job's e and l, and the words of the counted records. Every
--- word of a log is 9 before. Of the overload check: the jobs, and the pair or none.
-use Prim.Native.Nat.{ℕ, _*_}
+-- 000's Example 1.27, 004's 4.1 and 4.2, a tie of latest ends), windows that are too short (from 30), members that can be spared (Item 7, from 50), the
+-- ends of sure parts (Item 5, from 60: the last time of one, the first of one, and the new ends after a move of side 0 and of side 1), and the order of
+-- work with a job that draws nothing (from 70).
+use Prim.Native.Nat.{_*_}
 use mathlib.Core.List.{List, [], _∷_, _++_}
 use lib.ListN.{replicate}
-use Rattle.answers.specs.Said.{Word, Said, said}
 use Rattle.journal.specs.Journal.{recordWords}
-use Rattle.timetable.specs.Table.{Call, call, After, leaves, narrowed}
-use Rattle.readhead.specs.Promise.{checked}
-use Rattle.worked.specs.Rows.{Row, Job, job, windows, durations, draws, Span, span, spans, line, upon}
-
-abbrev pub lent : ℕ → List Job → ℕ → Call
-lent cap js room = call (windows js) (durations js) (draws js) cap (upon room [])
-
-abbrev pub settles : ℕ → ℕ → List Job → ℕ → ℕ → List Span → List ℕ → Row After
-settles number cap js room count xs ws =
-    record { number = number; done = narrowed (lent cap js room); due = leaves (said Word.settled (count ∷ [])) (spans xs) (upon room ws) }
-
-abbrev pub clashes : ℕ → ℕ → List Job → ℕ → ℕ → ℕ → List ℕ → Row After
-clashes number cap js room count j ws =
-    record { number = number; done = narrowed (lent cap js room); due = leaves (said Word.clash (count ∷ j ∷ [])) (windows js) (upon room ws) }
-
--- a clash without a record: job j's window is too short
-abbrev pub tooShort : ℕ → ℕ → List Job → ℕ → ℕ → Row After
-tooShort number cap js room j = clashes number cap js room 0 j []
-
-abbrev pub refuses : ℕ → ℕ → List Job → ℕ → ℕ → List ℕ → Row After
-refuses number cap js room k log =
-    record { number = number; done = narrowed (lent cap js room); due = leaves (said Word.refused (k ∷ [])) (windows js) log }
-
--- a log of so many words, cleared
-abbrev pub ragged : ℕ → ℕ → List Job → ℕ → ℕ → Row After
-ragged number cap js words k =
-    record {
-      number = number;
-      done = narrowed (call (windows js) (durations js) (draws js) cap (replicate words 9));
-      due = leaves (said Word.refused (k ∷ [])) (windows js) (replicate words 0);
-    }
-
--- the overload check leaves the windows alone, and looks at no demand
-abbrev pub heads : ℕ → List Job → Said → Row After
-heads number js a = record { number = number; done = leaves (checked (windows js) (durations js)) (windows js) []; due = leaves a (windows js) [] }
-
-abbrev pub overloaded : ℕ → List Job → ℕ → ℕ → Row After
-overloaded number js a b = heads number js (said Word.overload (a ∷ b ∷ []))
-
-abbrev pub fine : ℕ → List Job → Row After
-fine number js = heads number js (said Word.none [])
+use Rattle.timetable.specs.Table.{After}
+use Rattle.worked.specs.Rows.{Row, Job, job, span, line}
+use Rattle.worked.specs.Runs.{settles, clashes, tooShort, refuses, ragged, overloaded, fine}
 
 -- a job with a wide window beside three side by side: at its beginning, with the greatest of them first, and at its end
 abbrev pub crowd : List Job
@@ -116,4 +76,12 @@ runs =
     settles 61 1 (job 0 5 2 1 ∷ job 4 5 1 1 ∷ []) 2 1 (span 0 4 ∷ span 4 5 ∷ []) (line 0 1 4 1 2) ∷
     settles 62 1 (job 0 5 3 1 ∷ job 0 1 1 1 ∷ job 2 9 2 1 ∷ []) 2 2 (span 1 5 ∷ span 0 1 ∷ span 4 9 ∷ []) (line 0 0 0 1 2 ++ line 2 0 3 1 1) ∷
     settles 63 1 (job 0 5 3 1 ∷ job 4 5 1 1 ∷ job 0 2 1 1 ∷ []) 3 3 (span 1 4 ∷ span 4 5 ∷ span 0 1 ∷ []) (line 0 1 4 1 2 ++ (line 2 1 1 1 1 ++ line 0 0 0 1 4)) ∷
+    -- a job with r = 0 is not moved, however much the others draw; of two jobs on one time the later one alone exceeds the capacity, and moves again where
+    -- it stood; side 1 of the first job comes before side 0 of the second, again and again
+    clashes 70 1 (job 0 5 3 0 ∷ job 2 4 2 2 ∷ []) 3 1 1 (line 1 0 3 0 0) ∷
+    clashes 71 1 (job 3 7 2 1 ∷ job 4 6 1 2 ∷ []) 3 2 1 (line 1 0 4 0 0 ++ line 1 0 5 0 0) ∷
+    clashes 72 1 (job 1 4 1 1 ∷ job 3 5 2 2 ∷ []) 3 2 1 (line 0 1 3 1 2 ++ line 1 0 4 0 0) ∷
+    clashes 73 1 (job 2 5 1 1 ∷ job 3 6 3 2 ∷ job 5 8 3 1 ∷ []) 3 3 1 (line 0 1 4 1 2 ++ (line 0 1 3 1 2 ++ line 1 0 5 0 0)) ∷
+    -- the work stops at the first record that closes a window
+    clashes 74 1 (job 0 1 1 2 ∷ job 0 9 1 0 ∷ []) 2 1 0 (line 0 0 0 0 0) ∷
     []

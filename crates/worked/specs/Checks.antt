@@ -1,27 +1,11 @@
--- Logs by hand for the checker: what holds, what clashes, refusal 6 and each code 20 to 27 (document 01, 'Answer table'; document 02, Items 3 and 7). A row's
--- number is 40 for holds, 41 for clash, the refusal's or the code else; then the capacity, the jobs, the claimed records and the log.
+-- Logs by hand for the checker: what holds, what clashes, refusal 6 and each code 20 to 27 (document 01, 'Answer table'; document 02, Items 3 and 7): the
+-- capacity, the jobs, the claimed records and the log.
 use Prim.Native.Nat.{ℕ}
 use mathlib.Core.List.{List, [], _∷_, _++_}
-use Rattle.answers.specs.Said.{Word, said}
-use Rattle.timetable.specs.Table.{Call, call}
-use Rattle.replay.specs.Replay.{Checked, finds, checked}
+use lib.ListN.{replicate}
+use Rattle.worked.specs.Rows.{Job, job, span, line, lineAt}
 use Rattle.worked.specs.Cases.{crowd, first, late}
-use Rattle.worked.specs.Rows.{Row, Job, job, windows, durations, draws, Span, span, spans, line}
-
-abbrev pub with : ℕ → List Job → List ℕ → Call
-with cap js log = call (windows js) (durations js) (draws js) cap log
-
-abbrev pub holding : ℕ → List Job → ℕ → List ℕ → List Span → Row Checked
-holding cap js count log xs = record { number = 40; done = checked (with cap js log) count; due = finds (said Word.holds (count ∷ [])) (spans xs) }
-
-abbrev pub clashing : ℕ → List Job → ℕ → List ℕ → ℕ → Row Checked
-clashing cap js count log j = record { number = 41; done = checked (with cap js log) count; due = finds (said Word.clash (count ∷ j ∷ [])) (windows js) }
-
-abbrev pub refusing : ℕ → ℕ → List Job → ℕ → List ℕ → Row Checked
-refusing k cap js count log = record { number = k; done = checked (with cap js log) count; due = finds (said Word.refused (k ∷ [])) (windows js) }
-
-abbrev pub rejecting : ℕ → ℕ → ℕ → List Job → ℕ → List ℕ → Row Checked
-rejecting code place cap js count log = record { number = code; done = checked (with cap js log) count; due = finds (said Word.rejected (place ∷ code ∷ [])) (windows js) }
+use Rattle.worked.specs.Logs.{Log, holding, clashing, refusing, rejecting}
 
 -- cases 2 and 4 of the runs on the record, and Example 4.1 of 004
 abbrev pub two : List Job
@@ -33,7 +17,11 @@ four = job 0 2 2 1 ∷ job 0 2 2 1 ∷ []
 abbrev pub pair : List Job
 pair = job 3 7 2 1 ∷ job 2 7 3 2 ∷ []
 
-abbrev pub checks : List (Row Checked)
+-- a job with a wide window beside so many that draw nothing at its beginning, and one that fills the supply there
+abbrev pub behind : ℕ → List Job
+behind n = job 0 4 1 3 ∷ (replicate n (job 0 9 1 1) ++ (job 0 1 1 3 ∷ []))
+
+abbrev pub checks : List Log
 checks =
     holding 5 two 0 [] (span 2 10 ∷ span 2 7 ∷ span 2 8 ∷ []) ∷
     holding 5 two 1 (line 0 0 4 2 6) (span 5 10 ∷ span 2 7 ∷ span 2 8 ∷ []) ∷
@@ -85,4 +73,19 @@ checks =
     rejecting 23 0 5 crowd 1 (line 0 0 0 2 14) ∷
     rejecting 25 0 5 crowd 1 (line 0 0 1 3 14) ∷
     rejecting 26 1 5 crowd 2 (line 0 0 0 2 12 ++ line 0 0 0 3 14) ∷
+    -- the greatest time that is in range, and the greatest that can be true
+    rejecting 25 0 1 (job 999999 1000000 1 1 ∷ job 999999 1000000 1 1 ∷ []) 1 (line 0 0 1000000 1 2) ∷
+    clashing 1 (job 999999 1000000 1 1 ∷ job 999999 1000000 1 1 ∷ []) 1 (line 0 1 999999 1 2) 0 ∷
+    -- a member above 31, and the last one of all
+    holding 5 (behind 32) 1 (lineAt 1 0 0 0 1 2) (span 1 4 ∷ (replicate 32 (span 0 9) ++ (span 0 1 ∷ []))) ∷
+    holding 5 (behind 254) 1 (lineAt 7 0 0 0 1 2147483648) (span 1 4 ∷ (replicate 254 (span 0 9) ++ (span 0 1 ∷ []))) ∷
+    -- a member with p = 0, one with r = 0; a moved job with p = 0
+    rejecting 22 0 5 (job 2 10 3 2 ∷ job 4 4 0 2 ∷ job 2 8 4 2 ∷ []) 1 (line 0 0 4 2 6) ∷
+    rejecting 22 0 3 (job 2 10 3 2 ∷ job 2 7 3 0 ∷ job 2 8 4 2 ∷ []) 1 (line 0 0 4 2 6) ∷
+    rejecting 22 0 5 (job 4 4 0 2 ∷ job 2 7 3 2 ∷ job 2 8 4 2 ∷ []) 1 (line 0 0 4 2 6) ∷
+    -- 25 by the moved job alone, on side 1; by a member alone, on each side; 26 on side 1
+    rejecting 25 0 5 (job 0 4 1 3 ∷ job 0 4 1 1 ∷ job 2 3 1 2 ∷ job 2 3 1 2 ∷ []) 1 (line 0 1 2 2 12) ∷
+    rejecting 25 0 5 (job 2 10 3 2 ∷ job 2 7 3 2 ∷ job 2 8 2 2 ∷ []) 1 (line 0 0 4 2 6) ∷
+    rejecting 25 0 5 (job 0 4 2 3 ∷ job 3 4 1 1 ∷ job 2 3 1 2 ∷ job 3 4 1 2 ∷ []) 1 (line 0 1 2 2 12) ∷
+    rejecting 26 1 5 late 2 (line 0 1 3 2 12 ++ line 0 1 3 2 12) ∷
     []

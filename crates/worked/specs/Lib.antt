@@ -1,3 +1,5 @@
 pub mod Rows
+pub mod Runs
 pub mod Cases
+pub mod Logs
 pub mod Checks

@@ -50,6 +50,10 @@ spans xs = win (map (λ (x : Span). x .from) xs) (map (λ (x : Span). x .to) xs)
 abbrev pub line : ℕ → ℕ → ℕ → ℕ → ℕ → List ℕ
 line j s t n w = j ∷ s ∷ t ∷ n ∷ w ∷ replicate (setWords - 1) 0
 
+-- the same where the members are all in word w of the set
+abbrev pub lineAt : ℕ → ℕ → ℕ → ℕ → ℕ → ℕ → List ℕ
+lineAt w j s t n x = j ∷ s ∷ t ∷ n ∷ (replicate w 0 ++ (x ∷ replicate (setWords - 1 - w) 0))
+
 -- the words counted, and the rest of a log of nines as before
 abbrev pub upon : ℕ → List ℕ → List ℕ
 upon room ws = ws ++ drop (length ws) (replicate (room * recordWords) 9)
