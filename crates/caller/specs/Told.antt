@@ -1,12 +1,34 @@
--- What `settles` tells of a job list and the windows that it leaves, in the words of the desk's promise.
+-- What a user's three functions tell, in the words of the desk's promises alone: each has the contract of the call that it makes, in every lent word, and its
+-- result exactly where that call's word is the one asked for.
+use Prim.Native.Nat.{ℕ, _<_}
 use mathlib.Core.Path.{_≡_}
 use mathlib.Core.Bool.{Bool, true}
 use mathlib.Core.List.{List}
-use Prim.Native.Nat.{ℕ}
-use Rattle.desk.specs.Promise.{Call, Good, Win, Scheduled, LargestIn}
+use mathlib.Core.Logic.{_↔_}
+use Rattle.answers.specs.Said.{Word, Said}
+use Rattle.desk.specs.Lists.{Win, Long, jobs, slack, roomOf}
+use Rattle.desk.specs.Narrowing.{Call, Good, StableIn, NoneIn, leaves, Narrows}
+use Rattle.desk.specs.Checking.{finds, Checks}
+use Rattle.desk.specs.Reading.{Lent, TextCall, windows, Reads}
 
-pub record Told (c : Call) (U : Win) (r : Bool) : Type 0 where
-  -- every schedule within the submitted windows is still there
-  pub kept : (s : List ℕ) → Scheduled c (c .win) s → Scheduled c U s
-  -- where it says so, no narrower windows are to be had by time-tabling
-  pub largest : r ≡ true → Good c → LargestIn c U
+-- whether the windows of a job list could be narrowed
+pub record Settles (c : Call) (U : Win) (log : List ℕ) (r : Bool) : Type 0 where
+  pub says : Said
+  pub narrows : Narrows c (leaves says U log)
+  pub settled : (r ≡ true) ↔ (says .word ≡ Word.settled)
+  -- with more room than the sum of l - e - p, exactly when there are stable windows, and else there are none
+  pub free : Good c → slack (c .p) (c .win) (jobs (c .win)) < roomOf (c .log) → ((r ≡ true) ↔ ((W : Win) × StableIn c W)) × ((r ≡ true → ⊥) → NoneIn c)
+
+-- whether a log of claimed records holds
+pub record Holds (c : Call) (count : ℕ) (U : Win) (r : Bool) : Type 0 where
+  pub says : Said
+  pub checks : Checks c count (finds says U)
+  pub holds : (r ≡ true) ↔ (says .word ≡ Word.holds)
+
+-- whether a project text could be read
+pub record ReadsText (c : TextCall) (L : Lent) (r : Bool) : Type 0 where
+  pub says : Said
+  pub reads : Reads c (record { says = says; lent = L })
+  pub read : (r ≡ true) ↔ (says .word ≡ Word.read)
+  -- narrowing then finds no window that is too short
+  pub long : r ≡ true → Long (jobs (windows L)) (L .dur) (windows L)

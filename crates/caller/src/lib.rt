@@ -1,7 +1,11 @@
-// A user of the desk: it names `desk answers` and nothing else, and is proved like the rest.
+// A user of the desk: it names `desk answers` and nothing else, and is proved like the rest, from the contracts of the desk's calls.
 use answers::Answer;
-ghost use Rattle.desk.specs.Promise.{call, win};
-ghost use Rattle.caller.specs.Told.{Told};
+use answers::CheckAnswer;
+use answers::ReadAnswer;
+ghost use Rattle.desk.specs.Lists.{win};
+ghost use Rattle.desk.specs.Narrowing.{call};
+ghost use Rattle.desk.specs.Reading.{patterson};
+ghost use Rattle.caller.specs.Told.{Settles, Holds, ReadsText};
 
 // Whether the windows of a job list could be narrowed, with room in the log for the reasons.
 pub fn settles(
@@ -12,11 +16,56 @@ pub fn settles(
     cap: u32,
     log: &mut [u32],
 ) -> bool
-    ensures { λ r. ⌜ Told (call (win (now (est .entry)) (now (lct .entry))) (now (dur .entry)) (now (dem .entry)) cap (now (log .entry))) (win (now (est .exit)) (now (lct .exit))) r ⌝ }
+    ensures { λ r. ⌜ Settles (call (win (now (est .entry)) (now (lct .entry))) (now (dur .entry)) (now (dem .entry)) cap (now (log .entry))) (win (now (est .exit)) (now (lct .exit))) (now (log .exit)) r ⌝ }
 {
     let answer = desk::narrow(est, lct, dur, dem, cap, log);
     match answer {
         Answer::Settled(_) => true,
-        _ => false,
+        Answer::Clash(_, _) => false,
+        Answer::Refused(_) => false,
+    }
+}
+
+// Whether all claimed records of a log are good and close no window; the windows are then those that they reach.
+pub fn holds(
+    est: &mut [u32],
+    lct: &mut [u32],
+    dur: &[u32],
+    dem: &[u32],
+    cap: u32,
+    log: &[u32],
+    count: usize,
+) -> bool
+    ensures { λ r. ⌜ Holds (call (win (now (est .entry)) (now (lct .entry))) (now (dur .entry)) (now (dem .entry)) cap (now (log .entry))) count (win (now (est .exit)) (now (lct .exit))) r ⌝ }
+{
+    let answer = desk::check_log(est, lct, dur, dem, cap, log, count);
+    match answer {
+        CheckAnswer::Holds(_) => true,
+        CheckAnswer::Clash(_, _) => false,
+        CheckAnswer::Rejected(_, _) => false,
+        CheckAnswer::Refused(_) => false,
+    }
+}
+
+// Whether a text of the Patterson layout could be read, for its first resource; the lists are then filled.
+pub fn reads(
+    text: &[u8],
+    horizon: u32,
+    est: &mut [u32],
+    lct: &mut [u32],
+    dur: &mut [u32],
+    dem: &mut [u32],
+    jobs: &mut [u32],
+    successors: &mut [u32],
+) -> bool
+    ensures { λ r. ⌜ ReadsText
+        (record { text = patterson (now (text .entry)); resource = 0; horizon = horizon; lent = record { est = now (est .entry); lct = now (lct .entry); dur = now (dur .entry); dem = now (dem .entry); jobs = now (jobs .entry); successors = now (successors .entry) } })
+        (record { est = now (est .exit); lct = now (lct .exit); dur = now (dur .exit); dem = now (dem .exit); jobs = now (jobs .exit); successors = now (successors .exit) })
+        r ⌝ }
+{
+    let answer = desk::read_patterson(text, 0, horizon, est, lct, dur, dem, jobs, successors);
+    match answer {
+        ReadAnswer::Read(_, _) => true,
+        ReadAnswer::Refused(_) => false,
     }
 }

@@ -1,9 +1,8 @@
--- `caller::settles` tells what it says, from narrowing's promise alone.
-use Prim.Native.Nat.{ℕ}
+-- `caller::settles` tells what it says, from the desk's promise alone: each answer's word is the one asked for, or another.
 use native.Mathlib.Omega.{arith}
-use mathlib.Core.Path.{_≡_, ap}
-use Rattle.answers.specs.declared.Answer.{Answer}
-use Rattle.answers.specs.Said.{says}
+use Rattle.answers.specs.Said.{Word}
+use Rattle.answers.proofs.Same.{not-said}
+use Rattle.caller.proofs.Telling.{settles-yes, settles-no}
 use borrow.Author.Needs.{needs}
 use Rattle.caller.proofs.settles.Statement.{statement}
 use Rattle.caller.proofs.settles.Tie as tie
@@ -13,6 +12,12 @@ narrow-requires c κs = search needs
 
 enum-told : tie.Need-enum-told
 enum-told c = search needs
+
+enum-told-2 : tie.Need-enum-told-2
+enum-told-2 c = search needs
+
+enum-told-3 : tie.Need-enum-told-3
+enum-told-3 c = search needs
 
 same-length : tie.Need-same-length
 same-length c = search needs
@@ -25,8 +30,7 @@ same-length-3 c = search needs
 
 returns : tie.Need-returns
 returns c =
-    let f = c .before .before .before .before .before .before .before .before .narrow .ensures in
-    record { kept = f .kept .schedules; largest = λ z g. f .largest g .settled (ap (λ (x : Answer). says x .word) (c .enum-told .given .1)) }
+    settles-yes _ _ _ _ (c .before .before .before .before .before .before .before .before .narrow .ensures) _ (c .enum-told .given .1)
 
 same-length-4 : tie.Need-same-length-4
 same-length-4 c = search needs
@@ -39,8 +43,20 @@ same-length-6 c = search needs
 
 returns-2 : tie.Need-returns-2
 returns-2 c =
-    let f = c .before .before .before .before .before .before .before .narrow .ensures in
-    record { kept = f .kept .schedules; largest = λ z g. absurd (let q : _≡_ {A = ℕ} 0 1 = cc in omega arith) }
+    settles-no _ _ _ _ (c .before .before .before .before .before .before .before .before .narrow .ensures) _ (not-said Word.clash Word.settled (λ z. omega arith)) (c .enum-told2 .given .1)
+
+same-length-7 : tie.Need-same-length-7
+same-length-7 c = search needs
+
+same-length-8 : tie.Need-same-length-8
+same-length-8 c = search needs
+
+same-length-9 : tie.Need-same-length-9
+same-length-9 c = search needs
+
+returns-3 : tie.Need-returns-3
+returns-3 c =
+    settles-no _ _ _ _ (c .before .before .before .before .before .before .before .before .narrow .ensures) _ (not-said Word.refused Word.settled (λ z. omega arith)) (c .enum-told3 .given .1)
 
 pub settles-spec : {M : Type 1} → statement M
 settles-spec =
@@ -48,6 +64,8 @@ settles-spec =
     (tie.spec
     narrow-requires
     enum-told
+    enum-told-2
+    enum-told-3
     same-length
     same-length-2
     same-length-3
@@ -55,4 +73,8 @@ settles-spec =
     same-length-4
     same-length-5
     same-length-6
-    returns-2)
+    returns-2
+    same-length-7
+    same-length-8
+    same-length-9
+    returns-3)

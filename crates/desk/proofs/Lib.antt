@@ -1,0 +1,5 @@
+pub mod Narrowing
+pub mod Checking
+pub mod Overloads
+pub mod Reading
+pub mod Writing

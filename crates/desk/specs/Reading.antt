@@ -1,0 +1,12 @@
+-- The words of the readers' contract, handed on: what a text says in either layout, the tests and their order, the lists that are filled.
+pub use Rattle.chains.specs.Paths.{Pair, Precedes, Listed, Below, Path, Cycle, Chain, Longest, Back, Longer}
+pub use Rattle.texts.specs.Tokens.{Token}
+pub use Rattle.texts.specs.Readings.{Read, good, bad}
+pub use Rattle.rows.specs.Projects.{Row, Project, pairsOf, durations, demandsOn}
+pub use Rattle.rows.specs.Patterson.{patterson}
+pub use Rattle.psplib.specs.Psplib.{psplib}
+pub use Rattle.layouts.specs.Calls.{Lent, TextCall, TextAfter, Order, durationOf}
+pub use Rattle.layouts.specs.Tests.{Fitting, Fits, Unfit, TooLong, Tested, Refusal}
+pub use Rattle.layouts.specs.Table.{Filled, Taken, Answered}
+pub use Rattle.layouts.specs.Promise.{windows, ListedIn, Respects, capacity, count, Reads}
+pub use Rattle.layouts.specs.When.{Meets, AboveLimit, Says, NoResource, NoRoom, Cyclic, ChainTooLong, Readable}
