@@ -16,7 +16,7 @@ use Rattle.narrowing.proofs.Moves.{side-early, side-late}
 use Rattle.timetable.specs.Time.{Jobs, load, Crowded}
 use Rattle.timetable.specs.Search.{best}
 use Rattle.timetable.specs.Table.{jobsOf}
-use Rattle.timetable.proofs.Law.{best-early, best-late}
+use Rattle.timetable.proofs.Law.{greatest-crowded, least-crowded}
 use Rattle.tabling.specs.Asked.{asked, Workable}
 use Rattle.tabling.proofs.Good.{durations-sized, window-long}
 use Rattle.profile.specs.declared.kept.Outline.{Outline}
@@ -51,8 +51,8 @@ module _ (e l p r : List ℕ) (cap j : ℕ) where
 
   -- what has been found is what the definition finds
   answers : (side : ℕ) (v : Side) → sideOf side ≡ v → (x : Option ℕ) → Is v x → found x ≡ found (nextTime (asked e l p r cap) j (sideOf side))
-  answers side early q x h = rw q (ap found (greatest-one (Crowded J (win e l) j) (e ! j) (p ! j) x (best J (win e l) j early) h (best-early J (win e l) j)))
-  answers side late q x h = rw q (ap found (least-one (Crowded J (win e l) j) s (p ! j) x (best J (win e l) j late) h (best-late J (win e l) j)))
+  answers side early q x h = rw q (ap found (greatest-one (Crowded J (win e l) j) (e ! j) (p ! j) x (best J (win e l) j early) h (greatest-crowded J (win e l) j)))
+  answers side late q x h = rw q (ap found (least-one (Crowded J (win e l) j) s (p ! j) x (best J (win e l) j late) h (least-crowded J (win e l) j)))
 
   -- nothing is crowded for the job
   pub rests : (side : ℕ) → ((t : ℕ) → Crowded J (win e l) j t → ⊥) → Found.Nothing ≡ found (nextTime (asked e l p r cap) j (sideOf side))

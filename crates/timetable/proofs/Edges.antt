@@ -18,7 +18,7 @@ use Rattle.timetable.specs.Search.{Member, member, best}
 use Rattle.timetable.specs.Edges.{Edge, PartEdge, Looked, MovesAt}
 use Rattle.timetable.proofs.Facts.{member-yes, yes-member}
 use Rattle.timetable.proofs.Lean.{members-load}
-use Rattle.timetable.proofs.Law.{best-early, best-late, best-is}
+use Rattle.timetable.proofs.Law.{greatest-crowded, least-crowded, best-is}
 
 -- a job has one edge on a side, so that there are no more to look at than jobs
 pub edge-one : (s : Side) (p : List ℕ) (W : Win) (k t u : ℕ) → Edge s p W k t → Edge s p W k u → t ≡ u
@@ -99,15 +99,15 @@ module _ (J : Jobs) (W : Win) (j : ℕ) where
             )
 
     pub best-next : (s : Side) (t : ℕ) → best J W j s ≡ some t → MovesAt J W j s t
-    best-next early t e = early-next (best J W j early) (best-early J W j) t e
-    best-next late t e = late-next (best J W j late) (best-late J W j) t e
+    best-next early t e = early-next (best J W j early) (greatest-crowded J W j) t e
+    best-next late t e = late-next (best J W j late) (least-crowded J W j) t e
 
     pub next-best : (s : Side) (t : ℕ) → MovesAt J W j s t → best J W j s ≡ some t
     next-best early t n =
-        greatest-one (Crowded J W j) (W .e ! j) (J .p ! j) (best J W j early) (some t) (best-early J W j)
+        greatest-one (Crowded J W j) (W .e ! j) (J .p ! j) (best J W j early) (some t) (greatest-crowded J W j)
         (record { from = n .0 .from; to = n .0 .to; has = n .0 .crowded }, λ u i. n .1 u (record { from = i .from; to = i .to; crowded = i .has }))
     next-best late t n =
-        least-one (Crowded J W j) (W .l ! j - J .p ! j) (J .p ! j) (best J W j late) (some t) (best-late J W j) (
+        least-one (Crowded J W j) (W .l ! j - J .p ! j) (J .p ! j) (best J W j late) (some t) (least-crowded J W j) (
           record { from = omega (arith, n .0 .from); to = omega (arith, n .0 .to); has = n .0 .crowded },
           λ u i. n .1 u (record { from = omega (arith, i .from); to = omega (arith, i .to); crowded = i .has }),
         )

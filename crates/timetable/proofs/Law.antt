@@ -1,4 +1,5 @@
--- Time-tabling is a lawful family; its searches find the greatest time on side 0 and the least on side 1, and a rule wherever one applies.
+-- Time-tabling is a lawful family; its searches find the greatest crowded time on side 0 and the least on side 1, and, where every window is long enough, a
+-- rule wherever one applies.
 use Prim.Native.Nat.{ℕ, suc, _-_, _≤_, _<_}
 use native.Mathlib.Omega.{arith}
 use mathlib.Core.Path.{_≡_}
@@ -50,15 +51,16 @@ lawful J = record { tighter = λ W j s b h a. tighter J W j s b a; again = λ U 
 -- ---- the searches
 
 module _ (J : Jobs) (W : Win) (j : ℕ) where
-  -- side 0: the greatest time at which the rule applies, or none
-  pub best-early : Greatest (Crowded J W j) (W .e ! j) (J .p ! j) (best J W j early)
+  -- as the search counts: side 0, the greatest crowded time of p times from e on, or none
+  pub greatest-crowded : Greatest (Crowded J W j) (W .e ! j) (J .p ! j) (best J W j early)
   unfolding best
-  best-early = greatest-is (Crowded J W j) (crowded J W j) (λ t h. crowded-yes J W j t h) (λ t h. yes-crowded J W j t h) (W .e ! j) (J .p ! j)
+  greatest-crowded = greatest-is (Crowded J W j) (crowded J W j) (λ t h. crowded-yes J W j t h) (λ t h. yes-crowded J W j t h) (W .e ! j) (J .p ! j)
 
-  -- side 1: the least, or none
-  pub best-late : Least (Crowded J W j) (W .l ! j - J .p ! j) (J .p ! j) (best J W j late)
+  -- side 1, the least of p times from l - p on, which stops at 0: only where l is p or more are these the times of the rule, and there `Edges best-next,
+  -- next-best` say it by the rule itself
+  pub least-crowded : Least (Crowded J W j) (W .l ! j - J .p ! j) (J .p ! j) (best J W j late)
   unfolding best
-  best-late = least-is (Crowded J W j) (crowded J W j) (λ t h. crowded-yes J W j t h) (λ t h. yes-crowded J W j t h) (J .p ! j) (W .l ! j - J .p ! j)
+  least-crowded = least-is (Crowded J W j) (crowded J W j) (λ t h. crowded-yes J W j t h) (λ t h. yes-crowded J W j t h) (J .p ! j) (W .l ! j - J .p ! j)
 
   early-found : (x : Option ℕ) → Greatest (Crowded J W j) (W .e ! j) (J .p ! j) x → Found (Applies J W j early) (bound early) x
   early-found none d = none-early
@@ -72,8 +74,8 @@ module _ (J : Jobs) (W : Win) (j : ℕ) where
   late-found h (some t) d = record { from = omega (arith, d .0 .from); to = omega (arith, d .0 .to); crowded = d .0 .has }
 
   pub best-is : (s : Side) → J .p ! j ≤ W .l ! j → Found (Applies J W j s) (bound s) (best J W j s)
-  best-is early h = early-found (best J W j early) best-early
-  best-is late h = late-found h (best J W j late) best-late
+  best-is early h = early-found (best J W j early) greatest-crowded
+  best-is late h = late-found h (best J W j late) least-crowded
 
 pub searches : (J : Jobs) → Searches (search J) (Applies J)
 unfolding Long
