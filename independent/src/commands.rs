@@ -9,7 +9,7 @@ use std::str::FromStr;
 pub const USAGE: &str = "usage:
   independent answer                           answers each line of the input
   independent cases                            the runs on the record
-  independent calls SEED COUNT                 calls from a seed
+  independent calls SEED COUNT                 calls of every full size, then COUNT from a seed
   independent instance FILE RESOURCE HORIZON   calls for a resource (from 0) of an instance
   independent jobshop FILE HORIZON             calls for the machines of a job-shop
   independent chain FILE                       the longest chain of either kind of file

@@ -4,7 +4,7 @@
 use crate::joblist::{Supply, Times, MOST_DEMAND, MOST_JOBS, MOST_TIME};
 use crate::random::Random;
 
-fn lists<'a>(times: &'a mut Times, supply: &'a mut Supply) -> [&'a mut Vec<u32>; 4] {
+pub fn lists<'a>(times: &'a mut Times, supply: &'a mut Supply) -> [&'a mut Vec<u32>; 4] {
     [
         &mut times.est,
         &mut times.lct,

@@ -32,7 +32,7 @@ fn scaled(random: &mut Random, supply: &mut Supply) {
     }
 }
 
-fn drawn(random: &mut Random, shape: &Shape) -> (Times, Supply) {
+pub fn drawn(random: &mut Random, shape: &Shape) -> (Times, Supply) {
     let mut times = Times::default();
     let mut supply = Supply {
         cap: shape.cap,
@@ -62,7 +62,7 @@ fn first_fit(load: &[u32], from: usize, duration: usize, most: u32) -> usize {
 
 /// Windows around a schedule that is packed as the capacity allows, so that
 /// rules apply and none closes a window.
-fn packed(random: &mut Random, shape: &Shape) -> (Times, Supply) {
+pub fn packed(random: &mut Random, shape: &Shape) -> (Times, Supply) {
     let (mut times, mut supply) = drawn(random, shape);
     let ticks = shape.start as usize + (shape.jobs + 1) * shape.duration as usize;
     let mut load = vec![0; ticks];

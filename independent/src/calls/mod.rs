@@ -5,6 +5,7 @@ mod checking;
 pub mod crowds;
 mod faults;
 mod foreign;
+mod last;
 mod lists;
 mod naming;
 mod narrowing;
@@ -12,6 +13,7 @@ pub mod odd;
 mod others;
 mod shapes;
 mod short;
+pub mod sizes;
 
 use crate::lines::Call;
 use crate::random::Random;
@@ -38,7 +40,15 @@ fn line(random: &mut Random) -> Vec<u8> {
     }
 }
 
-pub fn lines(seed: u64, count: u64) -> impl Iterator<Item = Vec<u8>> {
+/// Calls of any size.
+pub fn drawn(seed: u64, count: u64) -> impl Iterator<Item = Vec<u8>> {
     let mut random = Random::new(seed);
     (0..count).map(move |_| line(&mut random))
+}
+
+/// The calls of every full size, and then so many of any size.
+pub fn lines(seed: u64, count: u64) -> impl Iterator<Item = Vec<u8>> {
+    let sizes = sizes::calls(&mut Random::new(seed)).into_iter();
+    let sizes = sizes.map(|call| call.line().into_bytes());
+    sizes.chain(drawn(seed, count))
 }

@@ -12,7 +12,7 @@ use crate::timetable::narrow;
 const MOST_RECORDS: usize = 150;
 
 /// The records of the run on these lists, if it needs no more than are followed.
-fn own_records(times: &Times, supply: &Supply) -> Option<Vec<Record>> {
+pub fn own_records(times: &Times, supply: &Supply) -> Option<Vec<Record>> {
     let mut log = vec![0; MOST_RECORDS * RECORD_WORDS];
     match narrow(&mut times.clone(), supply, &mut log) {
         Answer::Settled(count) | Answer::Clash(count, _) => {
@@ -25,7 +25,7 @@ fn own_records(times: &Times, supply: &Supply) -> Option<Vec<Record>> {
 
 /// Lists drawn in this way, with the records of their run; more often than not
 /// there are some.
-fn busy(
+pub fn busy(
     random: &mut Random,
     draw: impl Fn(&mut Random) -> (Times, Supply),
 ) -> (Times, Supply, Vec<Record>) {

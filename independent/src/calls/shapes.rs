@@ -42,6 +42,11 @@ fn large(random: &mut Random) -> Shape {
     let most = MOST_JOBS as u32;
     let any = random.between(1, most);
     let jobs = random.pick(&[any, any, any, any, any, most]);
+    of(random, jobs)
+}
+
+/// For so many jobs.
+pub fn of(random: &mut Random, jobs: u32) -> Shape {
     let cap = random.between(4, 14);
     Shape {
         jobs: jobs as usize,
@@ -83,6 +88,11 @@ pub fn for_one(random: &mut Random) -> Shape {
         2..=14 => random.between(13, 40),
         _ => random.between(0, 12),
     };
+    for_one_of(random, jobs)
+}
+
+/// For one job at a time, and so many jobs.
+pub fn for_one_of(random: &mut Random, jobs: u32) -> Shape {
     let per_job = random.between(0, 3);
     Shape {
         jobs: jobs as usize,

@@ -1,6 +1,6 @@
 //! That calls from a seed reach everything they should and cost little.
 
-use crate::calls::lines;
+use crate::calls::drawn;
 use crate::joblist::{good_jobs, lowest_too_short, Times};
 use crate::lines::{answer, read, Call};
 use std::collections::BTreeSet;
@@ -9,7 +9,7 @@ const SEED: u64 = 1;
 const COUNT: u64 = 6_000;
 
 /// The kind of call, the word of the answer, and its refusal or code.
-fn kind(line: &[u8]) -> String {
+pub fn kind(line: &[u8]) -> String {
     let answer = answer(line);
     let words: Vec<&str> = answer.split(' ').collect();
     let answered = match words[..] {
@@ -52,20 +52,20 @@ fn wanted() -> BTreeSet<String> {
 
 #[test]
 fn every_answer_refusal_and_code_comes_up() {
-    let found: BTreeSet<String> = lines(SEED, COUNT).map(|line| kind(&line)).collect();
+    let found: BTreeSet<String> = drawn(SEED, COUNT).map(|line| kind(&line)).collect();
     assert_eq!(found, wanted());
 }
 
 #[test]
 fn the_same_seed_makes_the_same_calls() {
-    let some: Vec<Vec<u8>> = lines(SEED, 50).collect();
-    assert!(lines(SEED, 50).eq(some.iter().cloned()));
-    assert!(!lines(SEED + 1, 50).eq(some));
+    let some: Vec<Vec<u8>> = drawn(SEED, 50).collect();
+    assert!(drawn(SEED, 50).eq(some.iter().cloned()));
+    assert!(!drawn(SEED + 1, 50).eq(some));
 }
 
 #[test]
 fn no_call_holds_a_line_feed() {
-    assert!(lines(SEED, COUNT).all(|line| !line.contains(&b'\n')));
+    assert!(drawn(SEED, COUNT).all(|line| !line.contains(&b'\n')));
 }
 
 fn steps(times: &Times) -> u64 {
@@ -75,7 +75,7 @@ fn steps(times: &Times) -> u64 {
 
 #[test]
 fn no_call_is_long_work() {
-    for line in lines(SEED, COUNT) {
+    for line in drawn(SEED, COUNT) {
         if let Some(Call::Narrow(times, supply, _)) = read(&line) {
             let jobs = good_jobs(&times, &supply);
             if jobs.is_ok_and(|jobs| lowest_too_short(&jobs).is_none()) {

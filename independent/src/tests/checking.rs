@@ -84,6 +84,14 @@ fn other_members_or_another_time_hold_too() {
 }
 
 #[test]
+fn the_first_record_of_a_run_holds_alone() {
+    let (mut times, supply) = lists(2, &[(3, 7, 2, 1), (2, 7, 3, 2)]);
+    let first = [0, 0, 4, 1, 2, 0, 0, 0, 0, 0, 0, 0];
+    assert_eq!(check(&mut times, &supply, 1, &first), Answer::Holds(1));
+    assert_eq!(windows(&times), [(5, 7), (2, 7)]);
+}
+
+#[test]
 fn a_record_is_shown_as_a_part_of_the_log() {
     let log: Vec<u32> = (0..35).collect();
     assert_eq!(shown(0, &log), &log[..12]);

@@ -2,7 +2,7 @@
 //! could hide a mistake about them.
 
 use crate::answers::Answer;
-use crate::calls::lines;
+use crate::calls::drawn;
 use crate::joblist::{good_jobs, Job, Supply, Times};
 use crate::lines::{read, Call};
 use crate::reasons::{full, lean, Naming};
@@ -149,7 +149,7 @@ const OFTEN: [(&str, usize); 15] = [
 #[test]
 fn every_use_comes_up_often() {
     let mut counts: BTreeMap<String, usize> = BTreeMap::new();
-    for found in lines(SEED, COUNT).flat_map(|line| uses(&line)) {
+    for found in drawn(SEED, COUNT).flat_map(|line| uses(&line)) {
         *counts.entry(found).or_default() += 1;
     }
     assert_eq!(counts.get("check 24 and spare"), None);

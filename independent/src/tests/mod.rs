@@ -22,6 +22,7 @@ mod psplib_headings;
 mod reading;
 mod short;
 mod short_calls;
+mod sizes;
 mod spare;
 mod text_lines;
 mod texts;

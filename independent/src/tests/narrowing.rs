@@ -4,6 +4,7 @@
 use super::{run, windows};
 use crate::answers::Answer;
 use crate::joblist::{lists, Supply, Times};
+use crate::record::RECORD_WORDS;
 use crate::timetable::narrow;
 
 #[test]
@@ -46,6 +47,33 @@ fn running_example_of_document_002() {
     assert_eq!(answer, Answer::Settled(1));
     assert_eq!(windows(&narrowed), [(5, 10), (2, 7), (2, 8)]);
     assert_eq!(log[..12], [0, 0, 4, 2, 6, 0, 0, 0, 0, 0, 0, 0]);
+}
+
+/// The jobs, the answer and the first three words of each record: jobs that draw
+/// more than there is, by themselves or beside one that has to leave them.
+#[test]
+fn runs_by_hand_on_a_capacity_of_one() {
+    type Run<'a> = (&'a [(u32, u32, u32, u32)], usize, usize, &'a [[u32; 3]]);
+    let runs: [Run; 5] = [
+        (&[(0, 5, 3, 0), (2, 4, 2, 2)], 1, 1, &[[1, 0, 3]]),
+        (&[(3, 7, 2, 1), (4, 6, 1, 2)], 2, 1, &[[1, 0, 4], [1, 0, 5]]),
+        (&[(1, 4, 1, 1), (3, 5, 2, 2)], 2, 1, &[[0, 1, 3], [1, 0, 4]]),
+        (
+            &[(2, 5, 1, 1), (3, 6, 3, 2), (5, 8, 3, 1)],
+            3,
+            1,
+            &[[0, 1, 4], [0, 1, 3], [1, 0, 5]],
+        ),
+        (&[(0, 1, 1, 2), (0, 9, 1, 0)], 1, 0, &[[0, 0, 0]]),
+    ];
+    for (jobs, count, closed, records) in runs {
+        let (times, supply) = lists(1, jobs);
+        let (answer, after, log) = run(&times, &supply);
+        assert_eq!(answer, Answer::Clash(count, closed));
+        assert_eq!(after, times);
+        let heads = log.chunks_exact(RECORD_WORDS).map(|record| &record[..3]);
+        assert!(heads.take(count).eq(records));
+    }
 }
 
 /// The lists are refused so, and neither windows nor log are touched.

@@ -2,7 +2,7 @@
 //! with all that could hide a mistake about them.
 
 use crate::answers::Answer;
-use crate::calls::lines;
+use crate::calls::drawn;
 use crate::joblist::{Supply, Times};
 use crate::lines::{answer, read, Call};
 use crate::overload::overload;
@@ -171,7 +171,7 @@ const OFTEN: [(&str, usize); 37] = [
 #[test]
 fn every_use_comes_up_often() {
     let mut counts: BTreeMap<String, usize> = BTreeMap::new();
-    for found in lines(SEED, COUNT).flat_map(|line| uses(&line)) {
+    for found in drawn(SEED, COUNT).flat_map(|line| uses(&line)) {
         *counts.entry(found).or_default() += 1;
     }
     for (wanted, least) in OFTEN {
