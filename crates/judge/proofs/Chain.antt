@@ -14,10 +14,10 @@ use Rattle.members.specs.Members.{onesOf}
 use Rattle.journal.specs.Journal.{countWord, recordWords, setOfRecord, jobOf, timeOf}
 use Rattle.timetable.specs.Reason.{named}
 use Rattle.timetable.specs.Table.{call, Good}
-use Rattle.judge.specs.Facts.{side, InRange}
-use Rattle.judge.specs.Codes.{inRange, takesPart, partners, statedTrue, tightens, lean, code}
-use Rattle.judge.specs.Lent.{jobsIn, Timed, Drawn, Placed}
-use Rattle.judge.proofs.Codes.{range-judged, partners-judged}
+use Rattle.codes.specs.Facts.{side, InRange}
+use Rattle.codes.specs.Codes.{inRange, takesPart, partners, statedTrue, tightens, lean, code}
+use Rattle.exam.specs.Lent.{jobsIn, Timed, Drawn, Placed}
+use Rattle.codes.proofs.Codes.{range-judged, partners-judged}
 
 -- ---- the chain from each code on, each test over what it looks at
 

@@ -1,131 +1,37 @@
-// What a record has to be on the windows reached so far (document 01, 'Answer table', codes 21 to 26; document 02, Item 7, code 27): a function
-// for each test, in their order.
-mod demands;
-mod facts;
-
+// The code of a record: the first test that it fails.
 ghost use mathlib.Core.Path.{_≡_};
-ghost use mathlib.Core.Bool.{not};
 ghost use mathlib.Core.List.{[]};
-ghost use Prim.Native.Nat.{_+_, _*_, _<_};
-ghost use lib.Dec.{eqb};
 ghost use lib.ListN.{length};
-ghost use Rattle.lists.specs.Lists.{_!_};
-ghost use Rattle.lists.specs.Tests.{both, where?};
 ghost use Rattle.narrowing.specs.Windows.{win};
-ghost use Rattle.members.specs.Members.{has, onesOf};
-ghost use Rattle.journal.specs.Journal.{countWord, recordWords, setOfRecord, jobOf, timeOf};
+ghost use Rattle.journal.specs.Journal.{recordWords};
 ghost use Rattle.timetable.specs.Table.{call, Good};
-ghost use Rattle.judge.specs.Facts.{side};
-ghost use Rattle.judge.specs.Codes.{inRange, takesPart, partners, tightens, code};
-ghost use Rattle.judge.specs.Lent.{jobsIn};
-
-// 21: the job is in a list of n jobs, the side is 0 or 1, and the time is within its limit.
-fn in_range(n: usize, words: &[u32]) -> bool
-    requires { ⌜ length (now words) ≡ recordWords ⌝ }
-    ensures { λ r. ⌜ r ≡ inRange (jobsIn n [] [] 0) (now (words .entry)) ⌝ }
-{
-    if n <= (words[journal::JOB] as usize) {
-        return false;
-    }
-    if 1 < words[journal::SIDE] {
-        return false;
-    }
-    words[journal::TIME] <= joblist::TIME
-}
-
-// Whether k is in the list, with a duration and a demand.
-fn takes_part(dur: &[u32], dem: &[u32], k: usize) -> bool
-    requires { ⌜ length (now dem) ≡ length (now dur) ⌝ }
-    ensures { λ r. ⌜ r ≡ takesPart (jobsIn (length (now (dur .entry))) (now (dur .entry)) (now (dem .entry)) 0) k ⌝ }
-{
-    if dur.len() <= k {
-        return false;
-    }
-    if dur[k] < 1 {
-        return false;
-    }
-    1 <= dem[k]
-}
-
-// Whether k, if it is a member, takes part and is not the moved job.
-fn partner(dur: &[u32], dem: &[u32], job: usize, set: &[u32], k: usize) -> bool
-    requires { ⌜ length (now dem) ≡ length (now dur) ⌝ }
-    ensures { λ r. ⌜ r ≡ where? (has (now (set .entry)) k) (both (takesPart (jobsIn (length (now (dur .entry))) (now (dur .entry)) (now (dem .entry)) 0) k) (not (eqb k job))) ⌝ }
-{
-    if !members::has(set, k) {
-        return true;
-    }
-    if !takes_part(dur, dem, k) {
-        return false;
-    }
-    k != job
-}
-
-// 22: the moved job and every member take part, and the moved job is no member. Every bit of the set is looked at.
-fn partners(dur: &[u32], dem: &[u32], words: &[u32]) -> bool
-    requires { ⌜ (length (now dem) ≡ length (now dur)) × (length (now words) ≡ recordWords) ⌝ }
-    ensures { λ r. ⌜ r ≡ partners (jobsIn (length (now (dur .entry))) (now (dur .entry)) (now (dem .entry)) 0) (now (words .entry)) ⌝ }
-{
-    let job = words[journal::JOB] as usize;
-    if !takes_part(dur, dem, job) {
-        return false;
-    }
-    let set = journal::set_of(words);
-    let mut k = 0;
-    while k < members::BITS * set.len() {
-        if !partner(dur, dem, job, set, k) {
-            return false;
-        }
-        k += 1;
-    }
-    true
-}
-
-// 23: the count word is the number of ones.
-fn counted(words: &[u32]) -> bool
-    requires { ⌜ length (now words) ≡ recordWords ⌝ }
-    ensures { λ r. ⌜ r ≡ eqb (now (words .entry) ! countWord) (onesOf (setOfRecord (now (words .entry)))) ⌝ }
-{
-    let ones = members::count(journal::set_of(words));
-    words[journal::COUNT] == ones
-}
-
-// 26: the change tightens.
-fn tightens(est: &[u32], lct: &[u32], words: &[u32]) -> bool
-    requires { ⌜ (length (now words) ≡ recordWords) × (jobOf (now words) < length (now est)) × (jobOf (now words) < length (now lct)) ⌝ }
-    ensures { λ r. ⌜ r ≡ tightens (win (now (est .entry)) (now (lct .entry))) (jobOf (now (words .entry))) (side (now (words .entry))) (timeOf (now (words .entry))) ⌝ }
-{
-    let job = words[journal::JOB] as usize;
-    if words[journal::SIDE] == 0 {
-        return est[job] <= words[journal::TIME];
-    }
-    words[journal::TIME] < lct[job]
-}
+ghost use Rattle.codes.specs.Codes.{code};
+ghost use Rattle.exam.specs.Lent.{jobsIn};
 
 // The code of the first test that a record fails on the windows reached, and 0 where it is good.
 pub fn code_of(est: &[u32], lct: &[u32], dur: &[u32], dem: &[u32], cap: u32, words: &[u32]) -> u32
     requires { ⌜ Good (call (win (now est) (now lct)) (now dur) (now dem) cap []) × (length (now words) ≡ recordWords) ⌝ }
     ensures { λ r. ⌜ r ≡ code (jobsIn (length (now (dur .entry))) (now (dur .entry)) (now (dem .entry)) cap) (win (now (est .entry)) (now (lct .entry))) (now (words .entry)) ⌝ }
 {
-    if !in_range(dur.len(), words) {
+    if !exam::in_range(dur.len(), words) {
         return 21;
     }
-    if !partners(dur, dem, words) {
+    if !exam::partners(dur, dem, words) {
         return 22;
     }
-    if !counted(words) {
+    if !exam::counted(words) {
         return 23;
     }
-    if !demands::exceeds(dem, cap, words) {
+    if !exam::demands::exceeds(dem, cap, words) {
         return 24;
     }
-    if !facts::stated_true(est, lct, dur, words) {
+    if !exam::facts::stated_true(est, lct, dur, words) {
         return 25;
     }
-    if !tightens(est, lct, words) {
+    if !exam::tightens(est, lct, words) {
         return 26;
     }
-    if !demands::lean(dem, cap, words) {
+    if !exam::demands::lean(dem, cap, words) {
         return 27;
     }
     0

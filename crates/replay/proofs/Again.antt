@@ -21,9 +21,9 @@ use Rattle.timetable.specs.Promise.{Narrows}
 use Rattle.timetable.proofs.Entries.{entries-are, entries-count}
 use Rattle.timetable.proofs.Law.{lawful}
 use Rattle.timetable.proofs.Again.{same-jobs, good-again, long-again, word}
-use Rattle.judge.specs.Codes.{Coded}
-use Rattle.judge.specs.Facts.{side, OwnTrue, StatedTrue, Passes, GoodRecord}
-use Rattle.judge.specs.Faults.{Idles}
+use Rattle.codes.specs.Codes.{Coded}
+use Rattle.codes.specs.Facts.{side, OwnTrue, StatedTrue, Passes, GoodRecord}
+use Rattle.codes.specs.Faults.{Idles}
 use Rattle.replay.specs.Replay.{rejected, Checked, finds}
 use Rattle.verdicts.specs.Fate as fate
 use Rattle.replay.specs.Fate.{reached, nth}

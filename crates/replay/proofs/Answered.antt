@@ -16,7 +16,7 @@ use Rattle.tabling.proofs.Good.{durations-sized}
 use Rattle.replay.specs.declared.Ended.{Ended}
 use Rattle.replay.specs.Replay.{Verdict, holds, clashes, rejected, replay, verdictOn, Checked, finds, judged, refuses, rows, checked}
 use Rattle.replay.specs.Promise.{Checks}
-use Rattle.judge.specs.Lent.{jobsIn}
+use Rattle.exam.specs.Lent.{jobsIn}
 use Rattle.replay.specs.Ended.{verdict}
 use Rattle.replay.proofs.Meaning.{checks}
 use Rattle.replay.proofs.Rows.{good-judged}

@@ -17,11 +17,11 @@ use Rattle.timetable.specs.Time.{bound}
 use Rattle.timetable.specs.Table.{call, Good}
 use Rattle.tabling.proofs.Good.{durations-sized, end-most}
 use Rattle.tabling.proofs.Moves.{moved-good}
-use Rattle.judge.specs.Facts.{side, InRange}
-use Rattle.judge.specs.Codes.{code}
+use Rattle.codes.specs.Facts.{side, InRange}
+use Rattle.codes.specs.Codes.{code}
 use Rattle.replay.specs.Replay.{changed, Verdict, holds, clashes, rejected, closing, orBad, orClosed, replay}
-use Rattle.judge.specs.Lent.{jobsIn}
-use Rattle.judge.proofs.Codes.{good-record}
+use Rattle.exam.specs.Lent.{jobsIn}
+use Rattle.codes.proofs.Codes.{good-record}
 
 pub record Going (p r : List ℕ) (cap : ℕ) (log : List ℕ) (count : ℕ) (from W : Win) (i : ℕ) : Type 0 where
   pub within : i ≤ count

@@ -12,7 +12,7 @@ use Rattle.answers.proofs.Same.{check-same}
 use Rattle.journal.specs.Journal.{jobOf, timeOf, roomOf, records}
 use Rattle.timetable.specs.Time.{bound}
 use Rattle.timetable.specs.Table.{Call, jobsOf, asks, Good}
-use Rattle.judge.specs.Facts.{side}
+use Rattle.codes.specs.Facts.{side}
 use Rattle.verdicts.proofs.Rows as general
 use Rattle.replay.specs.Replay.{changed, trial, Verdict, verdictOn, Checked, finds, judged, checked}
 use Rattle.replay.specs.Fate.{Fate}

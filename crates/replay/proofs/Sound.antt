@@ -26,8 +26,8 @@ use Rattle.timetable.proofs.Facts.{yes-runs, yes-member}
 use Rattle.timetable.proofs.Law.{lawful}
 use Rattle.timetable.proofs.Exact.{exact}
 use Rattle.timetable.proofs.Lean.{members-load}
-use Rattle.judge.specs.Facts.{side, OwnTrue, Tightens, Passes, GoodRecord}
-use Rattle.judge.proofs.Codes.{code-exactly, good-record, record-good}
+use Rattle.codes.specs.Facts.{side, OwnTrue, Tightens, Passes, GoodRecord}
+use Rattle.codes.proofs.Codes.{code-exactly, good-record, record-good}
 use Rattle.verdicts.specs.Promise.{Judges}
 use Rattle.replay.specs.Replay.{changed, ReasonedOn, trial}
 

@@ -7,8 +7,8 @@ use mathlib.Core.List.{[], _∷_}
 use mathlib.Core.Logic.{inl, inr, _↔_}
 use Rattle.answers.specs.Said.{Word, said}
 use Rattle.timetable.specs.Table.{Call, jobsOf}
-use Rattle.judge.specs.Faults.{OnlySpare}
-use Rattle.judge.proofs.Codes.{spare-exactly}
+use Rattle.codes.specs.Faults.{OnlySpare}
+use Rattle.codes.proofs.Codes.{spare-exactly}
 use Rattle.replay.specs.Replay.{Checked, rejected}
 use Rattle.replay.specs.Fate.{nth, reached, Open, Fate}
 use Rattle.replay.specs.Promise.{Claimed, Exactly}

@@ -17,7 +17,7 @@ use Rattle.timetable.specs.Table.{Call, jobsOf, asks}
 use Rattle.timetable.proofs.Facts.{crowded-at}
 use Rattle.timetable.proofs.Entries.{entry-length}
 use Rattle.timetable.proofs.Lean.{lean-member, entry-lean}
-use Rattle.judge.specs.Facts.{side, OwnTrue, Tightens, GoodRecord}
+use Rattle.codes.specs.Facts.{side, OwnTrue, Tightens, GoodRecord}
 use Rattle.verdicts.specs.Promise.{Writes}
 use Rattle.replay.specs.Replay.{changed, trial}
 

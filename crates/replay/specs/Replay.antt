@@ -7,8 +7,8 @@ use Rattle.journal.specs.Journal.{jobOf, timeOf, isMember}
 use Rattle.timetable.specs.Time.{Jobs, bound}
 use Rattle.timetable.specs.Reason.{Stated, Implied, Within, LeanRecord}
 use Rattle.timetable.specs.Table.{Call, jobsOf, asks, refusalOf}
-use Rattle.judge.specs.Facts.{side, GoodRecord}
-use Rattle.judge.specs.Codes.{code, Coded}
+use Rattle.codes.specs.Facts.{side, GoodRecord}
+use Rattle.codes.specs.Codes.{code, Coded}
 use Rattle.verdicts.specs.Replay.{Trial}
 pub use Rattle.verdicts.specs.Replay.{Verdict, holds, clashes, rejected, closing, orBad, orClosed, Checked, finds}
 use Rattle.verdicts.specs.Replay as verdicts

@@ -10,7 +10,7 @@ ghost use Rattle.journal.specs.Journal.{roomOf, records};
 ghost use Rattle.timetable.specs.Table.{call, Good};
 ghost use Rattle.replay.specs.Replay.{replay, finds, judged};
 ghost use Rattle.replay.specs.Promise.{Checks};
-ghost use Rattle.judge.specs.Lent.{jobsIn};
+ghost use Rattle.exam.specs.Lent.{jobsIn};
 ghost use Rattle.replay.specs.Ended.{verdict};
 
 // The code of a record where a window was closed before it.

@@ -9,9 +9,9 @@ use lib.ListN.{length}
 use borrow.Author.Needs.{needs}
 use borrow.Author.Tests.{not-true, not-false}
 use Rattle.narrowing.specs.Windows.{Win, win}
-use Rattle.judge.specs.Facts.{InRange}
-use Rattle.judge.specs.Codes.{inRange, code}
-use Rattle.judge.specs.Lent.{jobsIn, Drawn, Placed}
+use Rattle.codes.specs.Facts.{InRange}
+use Rattle.codes.specs.Codes.{inRange, code}
+use Rattle.exam.specs.Lent.{jobsIn, Drawn, Placed}
 use Rattle.judge.proofs.Chain.{from21, from22, from23, from24, from25, from26, from27, code-is, ranged, placed, drawn, timed}
 use Rattle.judge.proofs.code_of.Statement.{statement}
 use Rattle.judge.proofs.code_of.Tie as tie

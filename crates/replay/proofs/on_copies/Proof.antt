@@ -14,7 +14,7 @@ use Rattle.journal.specs.Journal.{records}
 use Rattle.timetable.specs.Table.{Call, call}
 use Rattle.tabling.proofs.Good.{ends-sized}
 use Rattle.replay.specs.Replay.{Verdict, replay}
-use Rattle.judge.specs.Lent.{jobsIn}
+use Rattle.exam.specs.Lent.{jobsIn}
 use Rattle.replay.specs.Ended.{verdict}
 use Rattle.replay.proofs.Answered.{row-holds, row-clash, row-rejected, kept-length}
 use Rattle.replay.proofs.on_copies.Statement.{statement}

@@ -10,9 +10,9 @@ use Rattle.journal.specs.Journal.{recordWords}
 use Rattle.journal.proofs.Records.{record-length}
 use Rattle.timetable.specs.Time.{Jobs}
 use Rattle.tabling.proofs.Good.{durations-sized, ends-sized}
-use Rattle.judge.specs.Facts.{InRange}
-use Rattle.judge.specs.Codes.{code}
-use Rattle.judge.specs.Lent.{jobsIn}
+use Rattle.codes.specs.Facts.{InRange}
+use Rattle.codes.specs.Codes.{code}
+use Rattle.exam.specs.Lent.{jobsIn}
 use Rattle.replay.proofs.Going.{Going, going-start, going-bad, going-on, going-last, going-more, going-end, taken-range}
 use Rattle.replay.proofs.replayed.Statement.{statement}
 use Rattle.replay.proofs.replayed.Tie as tie
