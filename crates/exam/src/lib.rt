@@ -1,8 +1,4 @@
-// What a record has to be on the windows reached so far (document 01, 'Answer table', codes 21 to 26; document 02, Item 7, code 27): a function
-// for each test, in their order.
-pub mod demands;
-pub mod facts;
-
+// What a record has to be (document 01, 'Answer table'), a function for each test: codes 21, 22, 23 and 26. `draws` has 24 and 27, `stated` 25.
 ghost use mathlib.Core.Path.{_≡_};
 ghost use mathlib.Core.Bool.{not};
 ghost use mathlib.Core.List.{[]};

@@ -22,16 +22,16 @@ pub fn code_of(est: &[u32], lct: &[u32], dur: &[u32], dem: &[u32], cap: u32, wor
     if !exam::counted(words) {
         return 23;
     }
-    if !exam::demands::exceeds(dem, cap, words) {
+    if !draws::exceeds(dem, cap, words) {
         return 24;
     }
-    if !exam::facts::stated_true(est, lct, dur, words) {
+    if !stated::stated_true(est, lct, dur, words) {
         return 25;
     }
     if !exam::tightens(est, lct, words) {
         return 26;
     }
-    if !exam::demands::lean(dem, cap, words) {
+    if !draws::lean(dem, cap, words) {
         return 27;
     }
     0
