@@ -25,7 +25,7 @@ pub fn in_range(n: usize, words: &[u32]) -> bool
     if 1 < words[journal::SIDE] {
         return false;
     }
-    words[journal::TIME] <= joblist::TIME
+    words[journal::TIME] <= screen::MOST_TIME
 }
 
 // Whether k is in the list, with a duration and a demand.

@@ -11,7 +11,7 @@ ghost use Rattle.rows.specs.Parsed.{comes, first};
 ghost use Rattle.layouts.specs.Parts.{Lessened, Roomy, Wrote};
 
 // The horizon less each chain.
-pub fn latest(tails: &[u32; joblist::MOST], h: u32, to: &mut [u32])
+pub fn latest(tails: &[u32; screen::MOST_JOBS], h: u32, to: &mut [u32])
     requires { ⌜ (length (now tails) ≡ mostJobs) × (length (now to) ≤ mostJobs) × ((j : ℕ) → now tails ! j ≤ h) ⌝ }
     ensures { λ _. ⌜ Lessened (now (tails .entry)) h (now (to .entry)) (now (to .exit)) ⌝ }
 {

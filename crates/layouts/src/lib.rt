@@ -29,8 +29,8 @@ pub fn read_patterson(
         (record { text = patterson (now (text .entry)); resource = resource; horizon = horizon; lent = record { est = now (est .entry); lct = now (lct .entry); dur = now (dur .entry); dem = now (dem .entry); jobs = now (jobs .entry); successors = now (successors .entry) } })
         (record { says = saysRead a; lent = record { est = now (est .exit); lct = now (lct .exit); dur = now (dur .exit); dem = now (dem .exit); jobs = now (jobs .exit); successors = now (successors .exit) } }) ⌝ }
 {
-    let mut d = [0u32; joblist::MOST];
-    let mut q = [0u32; joblist::MOST];
+    let mut d = [0u32; screen::MOST_JOBS];
+    let mut q = [0u32; screen::MOST_JOBS];
     let parsed = rows::parse(text, resource, &mut d, &mut q);
     read_parsed(
         text,
@@ -64,8 +64,8 @@ pub fn read_psplib(
         (record { text = psplib (now (text .entry)); resource = resource; horizon = horizon; lent = record { est = now (est .entry); lct = now (lct .entry); dur = now (dur .entry); dem = now (dem .entry); jobs = now (jobs .entry); successors = now (successors .entry) } })
         (record { says = saysRead a; lent = record { est = now (est .exit); lct = now (lct .exit); dur = now (dur .exit); dem = now (dem .exit); jobs = now (jobs .exit); successors = now (successors .exit) } }) ⌝ }
 {
-    let mut d = [0u32; joblist::MOST];
-    let mut q = [0u32; joblist::MOST];
+    let mut d = [0u32; screen::MOST_JOBS];
+    let mut q = [0u32; screen::MOST_JOBS];
     let parsed = psplib::parse(text, resource, &mut d, &mut q);
     read_parsed(
         text,

@@ -26,8 +26,8 @@ pub fn read_parsed(
     resource: u32,
     horizon: u32,
     parsed: Parsed,
-    d: &[u32; joblist::MOST],
-    q: &[u32; joblist::MOST],
+    d: &[u32; screen::MOST_JOBS],
+    q: &[u32; screen::MOST_JOBS],
     est: &mut [u32],
     lct: &mut [u32],
     dur: &mut [u32],
@@ -40,7 +40,7 @@ pub fn read_parsed(
         (record { text = r; resource = resource; horizon = horizon; lent = record { est = now (est .entry); lct = now (lct .entry); dur = now (dur .entry); dem = now (dem .entry); jobs = now (jobs .entry); successors = now (successors .entry) } })
         (record { says = saysRead a; lent = record { est = now (est .exit); lct = now (lct .exit); dur = now (dur .exit); dem = now (dem .exit); jobs = now (jobs .exit); successors = now (successors .exit) } })) ⌝ }
 {
-    if joblist::TIME < horizon {
+    if screen::MOST_TIME < horizon {
         return ReadAnswer::Refused(31);
     }
     match parsed {
@@ -68,8 +68,8 @@ fn read_whole(
     resource: u32,
     horizon: u32,
     z: Shape,
-    d: &[u32; joblist::MOST],
-    q: &[u32; joblist::MOST],
+    d: &[u32; screen::MOST_JOBS],
+    q: &[u32; screen::MOST_JOBS],
     est: &mut [u32],
     lct: &mut [u32],
     dur: &mut [u32],
@@ -98,16 +98,16 @@ fn read_whole(
     ) {
         return ReadAnswer::Refused(38);
     }
-    let mut heads = [0u32; joblist::MOST];
-    let mut tails = [0u32; joblist::MOST];
+    let mut heads = [0u32; screen::MOST_JOBS];
+    let mut tails = [0u32; screen::MOST_JOBS];
     let c = order::longest_chains(text, z.n, table, z.at, d, horizon, &mut heads, &mut tails);
     if c != 0 {
         return ReadAnswer::Refused(c);
     }
-    joblist::restore(&heads, est);
+    windows::restore(&heads, est);
     latest(&tails, horizon, lct);
-    joblist::restore(d, dur);
-    joblist::restore(q, dem);
+    windows::restore(d, dur);
+    windows::restore(q, dem);
     write_pairs(text, z.n, table, z.at, jobs, successors);
     ReadAnswer::Read(z.cap, z.pairs)
 }

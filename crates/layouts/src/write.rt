@@ -17,7 +17,7 @@ pub fn write_patterson(
         (record { cap = cap; dur = now (dur .entry); dem = now (dem .entry); jobs = now (jobs .entry); successors = now (successors .entry); buffer = now (buffer .entry) })
         (record { says = saysWrite a; buffer = now (buffer .exit) }) ⌝ }
 {
-    let number = joblist::refusal_of_two(dur, dem, cap);
+    let number = screen::refusal_of_two(dur, dem, cap);
     if number != 0 {
         return WriteAnswer::Refused(number);
     }

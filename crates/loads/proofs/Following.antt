@@ -13,11 +13,11 @@ use Rattle.lists.proofs.Tests.{counts-empty, counts-cut}
 use Rattle.narrowing.specs.Windows.{win, Side, early, late, moved}
 use Rattle.joblist.specs.Limits.{jobs, mostTime}
 use Rattle.timetable.specs.Time.{Jobs, load}
-use Rattle.timetable.specs.Table.{jobsOf}
+use Rattle.timetable.specs.Table.{jobsOf, Workable}
 use Rattle.timetable.proofs.Loads.{load-moved}
-use Rattle.tabling.specs.Asked.{asked, Workable}
-use Rattle.tabling.proofs.Moves.{moved-size}
-use Rattle.tabling.proofs.Good.{durations-sized, ends-sized, demand-most}
+use Rattle.tabling.specs.Asked.{asked}
+use Rattle.timetable.proofs.Moves.{moved-size}
+use Rattle.timetable.proofs.Good.{durations-sized, ends-sized, demand-most}
 use Rattle.profile.specs.declared.kept.Outline.{Outline}
 use Rattle.profile.specs.Numbers.{IsLesser, IsGreater}
 use Rattle.profile.specs.Raises.{raised, mostLevel}

@@ -6,7 +6,8 @@ ghost use Prim.Native.Nat.{_<_, _≤_};
 ghost use lib.ListN.{length};
 ghost use Rattle.narrowing.specs.Windows.{win, moved, sideOf, Respects};
 ghost use Rattle.joblist.specs.Limits.{mostTime};
-ghost use Rattle.tabling.specs.Asked.{asked, Workable};
+ghost use Rattle.tabling.specs.Asked.{asked};
+ghost use Rattle.timetable.specs.Table.{Workable};
 ghost use Rattle.loads.specs.Loads.{Spacious, Loaded, LoadedAs};
 
 // Job by job, each one's sure part raised by its demand.

@@ -62,17 +62,17 @@ pub fn longest_chains(
     n: u32,
     table: Table,
     at: usize,
-    dur: &[u32; joblist::MOST],
+    dur: &[u32; screen::MOST_JOBS],
     h: u32,
-    heads: &mut [u32; joblist::MOST],
-    tails: &mut [u32; joblist::MOST],
+    heads: &mut [u32; screen::MOST_JOBS],
+    tails: &mut [u32; screen::MOST_JOBS],
 ) -> u32
     requires { ⌜ (n ≤ mostJobs) × (length (now dur) ≡ mostJobs) × (now heads ≡ replicate mostJobs 0) × (now tails ≡ replicate mostJobs 0) × (h ≤ mostTime) ⌝ }
     requires { ⌜ ((j : ℕ) → now dur ! j ≤ mostTime) ⌝ }
     ensures { λ r. ⌜ ((ps : List Pair) (end : List Token) → comes n table (now (text .entry)) (first at) ≡ good ps end → Below n (Precedes ps) → OrderSays ps n (now (dur .entry)) h (now (heads .exit)) (now (tails .exit)) r) × (length (now (heads .exit)) ≡ mostJobs) × (length (now (tails .exit)) ≡ mostJobs) ⌝ }
 {
-    let ones = [1u32; joblist::MOST];
-    let mut levels = [0u32; joblist::MOST];
+    let ones = [1u32; screen::MOST_JOBS];
+    let mut levels = [0u32; screen::MOST_JOBS];
     if !settle(text, n, table, at, &ones, false, n, &mut levels) {
         return 33;
     }

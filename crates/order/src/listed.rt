@@ -62,7 +62,7 @@ pub fn rising(jobs: &[u32], successors: &[u32], n: u32) -> bool
 }
 
 // One round over the pairs: a step counts 1, and n is the limit.
-fn round_listed(jobs: &[u32], successors: &[u32], n: u32, v: &mut [u32; joblist::MOST]) -> Round
+fn round_listed(jobs: &[u32], successors: &[u32], n: u32, v: &mut [u32; screen::MOST_JOBS]) -> Round
     requires { ⌜ (n ≤ mostJobs) × (length (now successors) ≡ length (now jobs)) × (length (now v) ≡ mostJobs) ⌝ }
     requires { ⌜ ((i : ℕ) → i < length (now jobs) → InRange n (now jobs) (now successors) i) × ((j : ℕ) → now v ! j ≤ n) ⌝ }
     ensures { λ r. ⌜ RoundSays (good (paired (now (jobs .entry)) (now (successors .entry))) []) (replicate mostJobs 1) false n (now (v .entry)) (now (v .exit)) r × (length (now (v .exit)) ≡ mostJobs) ⌝ }
@@ -95,7 +95,7 @@ pub fn has_cycle(jobs: &[u32], successors: &[u32], n: u32) -> bool
     requires { ⌜ ((i : ℕ) → i < length (now jobs) → InRange n (now jobs) (now successors) i) ⌝ }
     ensures { λ r. ⌜ CycleSays (now (jobs .entry)) (now (successors .entry)) r ⌝ }
 {
-    let mut levels = [0u32; joblist::MOST];
+    let mut levels = [0u32; screen::MOST_JOBS];
     loop {
         match round_listed(jobs, successors, n, &mut levels) {
             Round::Same => {

@@ -28,7 +28,7 @@ pub enum Round {
 }
 
 // Raises the value at b to the one at a plus x, up to `top`.
-pub fn lift(v: &mut [u32; joblist::MOST], a: u32, b: u32, x: u32, top: u32) -> Rise
+pub fn lift(v: &mut [u32; screen::MOST_JOBS], a: u32, b: u32, x: u32, top: u32) -> Rise
     requires { ⌜ (a < mostJobs) × (b < mostJobs) × (length (now v) ≡ mostJobs) × (now v ! a ≤ mostTime) × (x ≤ mostTime) ⌝ }
     ensures { λ r. ⌜ RiseSays (now (v .entry)) (now (v .exit)) a b x top r × (length (now (v .exit)) ≡ mostJobs) ⌝ }
 {
@@ -61,10 +61,10 @@ fn relax(
     n: u32,
     table: Table,
     at: usize,
-    p: &[u32; joblist::MOST],
+    p: &[u32; screen::MOST_JOBS],
     back: bool,
     top: u32,
-    v: &mut [u32; joblist::MOST],
+    v: &mut [u32; screen::MOST_JOBS],
 ) -> Round
     requires { ⌜ (n ≤ mostJobs) × (length (now p) ≡ mostJobs) × (length (now v) ≡ mostJobs) × (top ≤ mostTime) ⌝ }
     requires { ⌜ ((j : ℕ) → now p ! j ≤ mostTime) × ((j : ℕ) → now v ! j ≤ top) ⌝ }
@@ -111,10 +111,10 @@ pub fn settle(
     n: u32,
     table: Table,
     at: usize,
-    p: &[u32; joblist::MOST],
+    p: &[u32; screen::MOST_JOBS],
     back: bool,
     top: u32,
-    v: &mut [u32; joblist::MOST],
+    v: &mut [u32; screen::MOST_JOBS],
 ) -> bool
     requires { ⌜ (n ≤ mostJobs) × (length (now p) ≡ mostJobs) × (now v ≡ replicate mostJobs 0) × (top ≤ mostTime) ⌝ }
     requires { ⌜ ((j : ℕ) → now p ! j ≤ mostTime) ⌝ }
@@ -134,7 +134,7 @@ pub fn settle(
 }
 
 // Whether some value plus its job's duration is above h.
-pub fn exceeds(v: &[u32; joblist::MOST], p: &[u32; joblist::MOST], n: u32, h: u32) -> bool
+pub fn exceeds(v: &[u32; screen::MOST_JOBS], p: &[u32; screen::MOST_JOBS], n: u32, h: u32) -> bool
     requires { ⌜ (n ≤ mostJobs) × (length (now v) ≡ mostJobs) × (length (now p) ≡ mostJobs) ⌝ }
     requires { ⌜ ((j : ℕ) → now v ! j ≤ mostTime) × ((j : ℕ) → now p ! j ≤ mostTime) ⌝ }
     ensures { λ r. ⌜ ExceedsSays (now (v .entry)) (now (p .entry)) n h r ⌝ }

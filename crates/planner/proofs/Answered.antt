@@ -13,7 +13,7 @@ use Rattle.answers.specs.Said.{Word, said, says}
 use Rattle.journal.specs.Journal.{cleared}
 use Rattle.joblist.specs.Limits.{jobs, fourLists, supply}
 use Rattle.joblist.specs.GoodList.{refusal}
-use Rattle.joblist.proofs.Copies.{over, over-whole}
+use Rattle.windows.proofs.Copies.{over, over-whole}
 use Rattle.timetable.specs.Search.{leanMember}
 use Rattle.timetable.specs.Table.{Call, call, Good, TooShort, refusalOf, leaves, ended, tabled, narrowed, narrowedBy}
 use Rattle.timetable.specs.Promise.{Narrows}

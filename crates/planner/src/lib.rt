@@ -4,9 +4,8 @@ use answers::Answer;
 ghost use mathlib.Core.Path.{_≡_};
 ghost use Rattle.narrowing.specs.Windows.{win};
 ghost use Rattle.answers.specs.Said.{says};
-ghost use Rattle.timetable.specs.Table.{call, leaves};
+ghost use Rattle.timetable.specs.Table.{call, leaves, Workable};
 ghost use Rattle.timetable.specs.Promise.{Narrows};
-ghost use Rattle.tabling.specs.Asked.{Workable};
 
 // Narrowing of a good list whose windows are long enough. The work is done on copies of the windows, and the caller's are written only where it settles.
 fn narrow_good(
@@ -25,8 +24,8 @@ fn narrow_good(
     let end = rounds::work(e, l, dur, dem, cap, log);
     match end {
         Answer::Settled(count) => {
-            joblist::copy(e, est);
-            joblist::copy(l, lct);
+            windows::copy(e, est);
+            windows::copy(l, lct);
             Answer::Settled(count)
         }
         Answer::Clash(count, job) => Answer::Clash(count, job),
@@ -48,18 +47,18 @@ pub fn narrow(
 ) -> Answer
     ensures { λ r. ⌜ Narrows (call (win (now (est .entry)) (now (lct .entry))) (now (dur .entry)) (now (dem .entry)) cap (now (log .entry))) (leaves (says r) (win (now (est .exit)) (now (lct .exit))) (now (log .exit))) ⌝ }
 {
-    let number = joblist::refusal(est, lct, dur, dem, cap);
+    let number = screen::refusal(est, lct, dur, dem, cap);
     if number != 0 {
         return Answer::Refused(number);
     }
-    let short = joblist::lowest_too_short(est, lct, dur);
+    let short = windows::lowest_too_short(est, lct, dur);
     if short < est.len() {
         return Answer::Clash(0, short);
     }
     let n = est.len();
-    let mut e = [0u32; joblist::MOST];
-    let mut l = [0u32; joblist::MOST];
-    joblist::save(est, &mut e);
-    joblist::save(lct, &mut l);
+    let mut e = [0u32; screen::MOST_JOBS];
+    let mut l = [0u32; screen::MOST_JOBS];
+    windows::save(est, &mut e);
+    windows::save(lct, &mut l);
     narrow_good(est, lct, &mut e[..n], &mut l[..n], dur, dem, cap, log)
 }

@@ -30,8 +30,8 @@ struct Tables {
 pub fn parse(
     text: &[u8],
     res: u32,
-    dur: &mut [u32; joblist::MOST],
-    dem: &mut [u32; joblist::MOST],
+    dur: &mut [u32; screen::MOST_JOBS],
+    dem: &mut [u32; screen::MOST_JOBS],
 ) -> Parsed
     requires { ⌜ (length (now dur) ≡ mostJobs) × (length (now dem) ≡ mostJobs) × ((j : ℕ) → now dur ! j ≤ mostTime) ⌝ }
     ensures { λ r. ⌜ ParsedSays (psplib (now (text .entry))) (now (text .entry)) res (now (dur .exit)) (now (dem .exit)) r × (length (now (dur .exit)) ≡ mostJobs) × (length (now (dem .exit)) ≡ mostJobs) × ((j : ℕ) → now (dur .exit) ! j ≤ mostTime) ⌝ }
@@ -40,9 +40,9 @@ pub fn parse(
     if !headings::find(text, &mut places) {
         return Parsed::Broken(35);
     }
-    match headings::count_at(text, places[0], joblist::MOST as u32) {
+    match headings::count_at(text, places[0], screen::MOST_JOBS as u32) {
         Count::Not(c) => Parsed::Broken(c),
-        Count::Is(n) => match headings::count_at(text, places[1], joblist::RESOURCES) {
+        Count::Is(n) => match headings::count_at(text, places[1], screen::MOST_RESOURCES) {
             Count::Not(c) => Parsed::Broken(c),
             Count::Is(k) => read_tables(
                 text,
@@ -68,8 +68,8 @@ fn read_tables(
     k: u32,
     from: Tables,
     res: u32,
-    dur: &mut [u32; joblist::MOST],
-    dem: &mut [u32; joblist::MOST],
+    dur: &mut [u32; screen::MOST_JOBS],
+    dem: &mut [u32; screen::MOST_JOBS],
 ) -> Parsed
     requires { ⌜ (n ≤ mostJobs) × (length (now dur) ≡ mostJobs) × (length (now dem) ≡ mostJobs) × ((j : ℕ) → now dur ! j ≤ mostTime) ⌝ }
     ensures { λ r. ⌜ ParsedSays (tables n k (drop (from .relations) (now (text .entry))) (drop (from .requests) (now (text .entry))) (drop (from .capacities) (now (text .entry)))) (now (text .entry)) res (now (dur .exit)) (now (dem .exit)) r × (length (now (dur .exit)) ≡ mostJobs) × (length (now (dem .exit)) ≡ mostJobs) × ((j : ℕ) → now (dur .exit) ! j ≤ mostTime) ⌝ }
@@ -83,7 +83,7 @@ fn read_tables(
                 Found::Not(c) => Parsed::Broken(c),
                 Found::All(_, _) => {
                     let capacities = headings::behind_lines(text, from.capacities, BEHIND_NAMES);
-                    match rows::read_many(text, capacities, k, joblist::DRAW, res) {
+                    match rows::read_many(text, capacities, k, screen::MOST_DEMAND, res) {
                         Got::Bad(c) => Parsed::Broken(c),
                         Got::Good(cap, _) => Parsed::Entire(Shape {
                             n,

@@ -15,7 +15,7 @@ ghost use Rattle.readhead.specs.Overload.{overload, foundSaid};
 ghost use Rattle.readhead.specs.Promise.{Good, Overloads};
 
 // The most jobs, and so the number of the tree's leaves.
-const MOST: usize = joblist::MOST;
+const MOST: usize = screen::MOST_JOBS;
 
 // The tree's nodes: 1 is the root, 2v and 2v + 1 are v's children, 0 is none.
 const NODES: usize = 2 * MOST;
@@ -42,7 +42,7 @@ fn find(est: &[u32], lct: &[u32], dur: &[u32]) -> OverloadAnswer
 pub fn overload(est: &[u32], lct: &[u32], dur: &[u32]) -> OverloadAnswer
     ensures { λ r. ⌜ Overloads (win (now (est .entry)) (now (lct .entry))) (now (dur .entry)) (saysOverload r) ⌝ }
 {
-    let refusal = joblist::refusal_of_three(est, lct, dur);
+    let refusal = screen::refusal_of_three(est, lct, dur);
     if refusal != 0 {
         return OverloadAnswer::Refused(refusal);
     }

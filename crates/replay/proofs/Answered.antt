@@ -12,7 +12,7 @@ use Rattle.joblist.specs.Limits.{jobs}
 use Rattle.answers.specs.Said.{Word, said}
 use Rattle.journal.specs.Journal.{roomOf, records}
 use Rattle.timetable.specs.Table.{Call, Good, AllLong, refusalOf}
-use Rattle.tabling.proofs.Good.{durations-sized}
+use Rattle.timetable.proofs.Good.{durations-sized}
 use Rattle.replay.specs.declared.Ended.{Ended}
 use Rattle.replay.specs.Replay.{Verdict, holds, clashes, rejected, replay, verdictOn, Checked, finds, judged, refuses, rows, checked}
 use Rattle.replay.specs.Promise.{Checks}

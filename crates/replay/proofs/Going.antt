@@ -15,8 +15,8 @@ use Rattle.joblist.specs.Limits.{mostTime}
 use Rattle.journal.specs.Journal.{jobOf, timeOf, recordAt, records}
 use Rattle.timetable.specs.Time.{bound}
 use Rattle.timetable.specs.Table.{call, Good}
-use Rattle.tabling.proofs.Good.{durations-sized, end-most}
-use Rattle.tabling.proofs.Moves.{moved-good}
+use Rattle.timetable.proofs.Good.{durations-sized, end-most}
+use Rattle.timetable.proofs.Moves.{moved-good}
 use Rattle.codes.specs.Facts.{side, InRange}
 use Rattle.codes.specs.Codes.{code}
 use Rattle.replay.specs.Replay.{changed, Verdict, holds, clashes, rejected, closing, orBad, orClosed, replay}

@@ -44,9 +44,9 @@ fn replayed(
             return Ended::Rejected(i, code);
         }
         let job = words[journal::JOB] as usize;
-        tabling::shift(est, lct, job, words[journal::SIDE], words[journal::TIME]);
+        windows::shift(est, lct, job, words[journal::SIDE], words[journal::TIME]);
         i += 1;
-        if joblist::closed(est, lct, dur, job) {
+        if windows::closed(est, lct, dur, job) {
             if i < count {
                 return Ended::Rejected(i, CLOSED);
             }
@@ -70,15 +70,15 @@ fn on_copies(
     ensures { λ r. ⌜ finds (saysCheck r) (win (now (est .exit)) (now (lct .exit))) ≡ judged (call (win (now (est .entry)) (now (lct .entry))) (now (dur .entry)) (now (dem .entry)) cap (now (log .entry))) count (replay (jobsIn (length (now (dur .entry))) (now (dur .entry)) (now (dem .entry)) cap) (win (now (est .entry)) (now (lct .entry))) 0 (records (now (log .entry)) 0 count)) ⌝ }
 {
     let n = est.len();
-    let mut starts = [0u32; joblist::MOST];
-    let mut ends = [0u32; joblist::MOST];
-    joblist::save(est, &mut starts);
-    joblist::save(lct, &mut ends);
+    let mut starts = [0u32; screen::MOST_JOBS];
+    let mut ends = [0u32; screen::MOST_JOBS];
+    windows::save(est, &mut starts);
+    windows::save(lct, &mut ends);
     let end = replayed(&mut starts[..n], &mut ends[..n], dur, dem, cap, log, count);
     match end {
         Ended::Holds => {
-            joblist::restore(&starts, est);
-            joblist::restore(&ends, lct);
+            windows::restore(&starts, est);
+            windows::restore(&ends, lct);
             CheckAnswer::Holds(count)
         }
         Ended::Clashes(job) => CheckAnswer::Clash(count, job),
@@ -101,14 +101,14 @@ pub fn check_log(
 ) -> CheckAnswer
     ensures { λ r. ⌜ Checks (call (win (now (est .entry)) (now (lct .entry))) (now (dur .entry)) (now (dem .entry)) cap (now (log .entry))) count (finds (saysCheck r) (win (now (est .exit)) (now (lct .exit)))) ⌝ }
 {
-    let number = joblist::refusal(est, lct, dur, dem, cap);
+    let number = screen::refusal(est, lct, dur, dem, cap);
     if number != 0 {
         return CheckAnswer::Refused(number);
     }
     if journal::room(log) < count {
         return CheckAnswer::Refused(6);
     }
-    let short = joblist::lowest_too_short(est, lct, dur);
+    let short = windows::lowest_too_short(est, lct, dur);
     if short < est.len() {
         if 0 < count {
             return CheckAnswer::Rejected(0, CLOSED);

@@ -9,10 +9,10 @@ use Rattle.narrowing.specs.Windows.{Win, win, Side, early, late, moved, sideOf,
 use Rattle.narrowing.proofs.Moves.{side-early, side-late}
 use Rattle.joblist.specs.Limits.{jobs, mostTime}
 use Rattle.timetable.specs.Time.{Applies, bound}
-use Rattle.timetable.specs.Table.{Call, call, jobsOf}
-use Rattle.tabling.specs.Asked.{asked, Workable}
-use Rattle.tabling.proofs.Good.{ends-sized, start-most, end-most}
-use Rattle.tabling.proofs.Moves.{best-applies}
+use Rattle.timetable.specs.Table.{Call, call, jobsOf, Workable}
+use Rattle.tabling.specs.Asked.{asked}
+use Rattle.timetable.proofs.Good.{ends-sized, start-most, end-most}
+use Rattle.timetable.proofs.Moves.{best-applies}
 use Rattle.tabling.proofs.Steps.{good-cap}
 use Rattle.profile.specs.declared.kept.Outline.{Outline}
 use Rattle.loads.specs.Loads.{Loaded}

@@ -15,9 +15,8 @@ use Rattle.journal.specs.Journal.{roomOf, logged}
 use Rattle.journal.proofs.Records.{room-length, logged-none, rewritten-length}
 use Rattle.timetable.specs.Time.{Jobs, bound}
 use Rattle.timetable.specs.Search.{best, search, leanMember, entry}
-use Rattle.timetable.specs.Table.{Call, call, jobsOf}
-use Rattle.tabling.specs.Asked.{Workable}
-use Rattle.tabling.proofs.Moves.{moved-size, best-applies, workable-after}
+use Rattle.timetable.specs.Table.{Call, call, jobsOf, Workable}
+use Rattle.timetable.proofs.Moves.{moved-size, best-applies, workable-after}
 use Rattle.turns.specs.declared.Place.{Place}
 use Rattle.turns.specs.declared.Turn.{Turn}
 use Rattle.turns.specs.Places.{place, firstPlace, onwardOf}

@@ -6,8 +6,7 @@ ghost use mathlib.Core.Path.{_≡_};
 ghost use Prim.Native.Nat.{_<_};
 ghost use lib.ListN.{length};
 ghost use Rattle.narrowing.specs.Windows.{win, sideOf};
-ghost use Rattle.timetable.specs.Table.{call};
-ghost use Rattle.tabling.specs.Asked.{Workable};
+ghost use Rattle.timetable.specs.Table.{call, Workable};
 ghost use Rattle.rounds.specs.Work.{boundAt, Works};
 
 // The refusal where the work needs more records than the log has room for.
@@ -15,7 +14,7 @@ const SHORT: u32 = 5;
 
 // The points that the kept load has room for: about twice as many as the windows of any list need. A move adds two at most, and none is taken away until
 // the load is built anew.
-const POINTS: usize = 4 * joblist::MOST;
+const POINTS: usize = 4 * screen::MOST_JOBS;
 
 // The earliest start for side 0, the latest end for side 1.
 fn bound_at(est: &[u32], lct: &[u32], job: usize, side: u32) -> u32

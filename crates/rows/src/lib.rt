@@ -112,8 +112,8 @@ pub fn validate(
     n: u32,
     table: Table,
     res: u32,
-    dur: &mut [u32; joblist::MOST],
-    dem: &mut [u32; joblist::MOST],
+    dur: &mut [u32; screen::MOST_JOBS],
+    dem: &mut [u32; screen::MOST_JOBS],
 ) -> Found
     requires { ⌜ (n ≤ mostJobs) × (length (now dur) ≡ mostJobs) × (length (now dem) ≡ mostJobs) × ((j : ℕ) → now dur ! j ≤ mostTime) ⌝ }
     ensures { λ r. ⌜ FoundSays (seeing n table res 0 0 (tokens (drop at (now (text .entry))))) (now (text .entry)) n (now (dur .exit)) (now (dem .exit)) r × (length (now (dur .exit)) ≡ mostJobs) × (length (now (dem .exit)) ≡ mostJobs) × ((j : ℕ) → now (dur .exit) ! j ≤ mostTime) ⌝ }
@@ -151,8 +151,8 @@ pub fn validate(
 pub fn parse(
     text: &[u8],
     res: u32,
-    dur: &mut [u32; joblist::MOST],
-    dem: &mut [u32; joblist::MOST],
+    dur: &mut [u32; screen::MOST_JOBS],
+    dem: &mut [u32; screen::MOST_JOBS],
 ) -> Parsed
     requires { ⌜ (length (now dur) ≡ mostJobs) × (length (now dem) ≡ mostJobs) × ((j : ℕ) → now dur ! j ≤ mostTime) ⌝ }
     ensures { λ r. ⌜ ParsedSays (patterson (now (text .entry))) (now (text .entry)) res (now (dur .exit)) (now (dem .exit)) r × (length (now (dur .exit)) ≡ mostJobs) × (length (now (dem .exit)) ≡ mostJobs) × ((j : ℕ) → now (dur .exit) ! j ≤ mostTime) ⌝ }

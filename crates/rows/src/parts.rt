@@ -79,9 +79,9 @@ pub fn read_many(text: &[u8], at: usize, m: u32, top: u32, res: u32) -> Got
 fn read_head(text: &[u8], at: usize, n: u32, k: u32, res: u32) -> HeadGot
     ensures { λ r. ⌜ HeadSays (head n k (tokens (drop at (now (text .entry))))) (now (text .entry)) res r ⌝ }
 {
-    match texts::next_up_to(text, at, joblist::TIME, 31) {
+    match texts::next_up_to(text, at, screen::MOST_TIME, 31) {
         Got::Bad(c) => HeadGot::NoLine(c),
-        Got::Good(d, a) => match read_many(text, a, k, joblist::DRAW, res) {
+        Got::Good(d, a) => match read_many(text, a, k, screen::MOST_DEMAND, res) {
             Got::Bad(c) => HeadGot::NoLine(c),
             Got::Good(q, b) => match texts::next_up_to(text, b, n, 31) {
                 Got::Bad(c) => HeadGot::NoLine(c),
@@ -123,9 +123,9 @@ fn read_request(text: &[u8], at: usize, k: u32, j: u32, res: u32) -> HeadGot
 {
     match read_numbered(text, at, j) {
         Got::Bad(c) => HeadGot::NoLine(c),
-        Got::Good(_, duration) => match texts::next_up_to(text, duration, joblist::TIME, 31) {
+        Got::Good(_, duration) => match texts::next_up_to(text, duration, screen::MOST_TIME, 31) {
             Got::Bad(c) => HeadGot::NoLine(c),
-            Got::Good(d, demands) => match read_many(text, demands, k, joblist::DRAW, res) {
+            Got::Good(d, demands) => match read_many(text, demands, k, screen::MOST_DEMAND, res) {
                 Got::Bad(c) => HeadGot::NoLine(c),
                 Got::Good(q, e) => HeadGot::Line(d, q, 0, e),
             },
@@ -149,11 +149,11 @@ pub fn read_front(text: &[u8], at: usize, n: u32, table: Table, j: u32, res: u32
 pub fn open_text(text: &[u8], res: u32) -> Opened
     ensures { λ r. ⌜ OpenSays (opening (tokens (now (text .entry)))) (now (text .entry)) res r ⌝ }
 {
-    match texts::next_up_to(text, 0, joblist::MOST as u32, 31) {
+    match texts::next_up_to(text, 0, screen::MOST_JOBS as u32, 31) {
         Got::Bad(c) => Opened::Closed(c),
-        Got::Good(n, a) => match texts::next_up_to(text, a, joblist::RESOURCES, 31) {
+        Got::Good(n, a) => match texts::next_up_to(text, a, screen::MOST_RESOURCES, 31) {
             Got::Bad(c) => Opened::Closed(c),
-            Got::Good(k, b) => match read_many(text, b, k, joblist::DRAW, res) {
+            Got::Good(k, b) => match read_many(text, b, k, screen::MOST_DEMAND, res) {
                 Got::Bad(c) => Opened::Closed(c),
                 Got::Good(cap, at) => Opened::Ready(n, k, cap, at),
             },

@@ -15,10 +15,10 @@ use Rattle.narrowing.specs.Windows.{win, Side, early, late, sideOf}
 use Rattle.narrowing.proofs.Moves.{side-early, side-late}
 use Rattle.timetable.specs.Time.{Jobs, load, Crowded}
 use Rattle.timetable.specs.Search.{best}
-use Rattle.timetable.specs.Table.{jobsOf}
+use Rattle.timetable.specs.Table.{jobsOf, Workable}
 use Rattle.timetable.proofs.Law.{greatest-crowded, least-crowded}
-use Rattle.tabling.specs.Asked.{asked, Workable}
-use Rattle.tabling.proofs.Good.{durations-sized, window-long}
+use Rattle.tabling.specs.Asked.{asked}
+use Rattle.timetable.proofs.Good.{durations-sized, window-long}
 use Rattle.profile.specs.declared.kept.Outline.{Outline}
 use Rattle.loads.specs.Loads.{fullLoad, Loaded}
 use Rattle.loads.proofs.Full.{load-full}

@@ -1,11 +1,8 @@
-// Code 25 (document 01, 'Log records'): what a record states of the starts, held against the windows reached so far. The lower limits t - p + 1 may
-// lie below zero; they are signed, and are then no restriction.
+// Code 25 (document 01, 'Log records'): what a record states of the starts, held against the windows reached so far.
 ghost use mathlib.Core.Path.{_≡_};
 ghost use mathlib.Core.Bool.{true};
 ghost use mathlib.Core.List.{[]};
-ghost use Prim.Native.Nat.{_+_, _*_, _≤_, _<_};
-ghost use lib.Dec.{leb, ltb};
-ghost use lib.IntN.{pos, _+ℤ_, _-ℤ_};
+ghost use Prim.Native.Nat.{_*_, _≤_, _<_};
 ghost use lib.ListN.{length};
 ghost use Rattle.lists.specs.Tests.{where?};
 ghost use Rattle.narrowing.specs.Windows.{win, sideOf};
@@ -15,39 +12,15 @@ ghost use Rattle.timetable.specs.Time.{sure};
 ghost use Rattle.codes.specs.Codes.{ownTrue, statedTrue};
 ghost use Rattle.exam.specs.Lent.{jobsIn, Timed, Placed};
 
-// The lower limit t - p + 1 of a start.
-fn low(t: u32, p: u32) -> i32
-    requires { ⌜ (t ≤ mostTime) × (p ≤ mostTime) ⌝ }
-    ensures { λ r. ⌜ r ≡ (pos t -ℤ pos p) +ℤ pos 1 ⌝ }
-{
-    (t as i32) - (p as i32) + 1
-}
-
-// Whether an earliest start e is no earlier than t - p + 1.
-fn no_earlier(e: u32, t: u32, p: u32) -> bool
-    requires { ⌜ (e ≤ mostTime) × (t ≤ mostTime) × (p ≤ mostTime) ⌝ }
-    ensures { λ r. ⌜ r ≡ ltb t (e + p) ⌝ }
-{
-    low(t, p) <= (e as i32)
-}
-
-// Whether a latest start l - p is no later than t.
-fn no_later(l: u32, t: u32, p: u32) -> bool
-    requires { ⌜ (t ≤ mostTime) × (p ≤ mostTime) ⌝ }
-    ensures { λ r. ⌜ r ≡ leb l (t + p) ⌝ }
-{
-    l <= t + p
-}
-
 // The moved job's own fact: on side 0 it starts no earlier than t - p + 1, on side 1 no later than t.
 fn own_true(est: &[u32], lct: &[u32], dur: &[u32], job: usize, side: u32, t: u32) -> bool
     requires { ⌜ Timed (win (now est) (now lct)) (now dur) × (job < length (now dur)) × (t ≤ mostTime) ⌝ }
     ensures { λ r. ⌜ r ≡ ownTrue (now (dur .entry)) (win (now (est .entry)) (now (lct .entry))) job (sideOf side) t ⌝ }
 {
     if side == 0 {
-        return no_earlier(est[job], t, dur[job]);
+        return windows::no_earlier(est[job], t, dur[job]);
     }
-    no_later(lct[job], t, dur[job])
+    windows::no_later(lct[job], t, dur[job])
 }
 
 // Whether job k starts no earlier than t - p + 1 and no later than t: its sure part holds t.
@@ -55,10 +28,7 @@ fn sure(est: &[u32], lct: &[u32], dur: &[u32], k: usize, t: u32) -> bool
     requires { ⌜ Timed (win (now est) (now lct)) (now dur) × (k < length (now dur)) × (t ≤ mostTime) ⌝ }
     ensures { λ r. ⌜ r ≡ sure (now (dur .entry)) (win (now (est .entry)) (now (lct .entry))) k t ⌝ }
 {
-    if !no_later(lct[k], t, dur[k]) {
-        return false;
-    }
-    no_earlier(est[k], t, dur[k])
+    windows::sure(est[k], lct[k], dur[k], t)
 }
 
 // Whether k, if it is a member, does so.

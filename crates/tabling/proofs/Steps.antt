@@ -1,4 +1,4 @@
--- The definitions, one step at a time, as the code takes them: the load with one job more, and a move by the number of its side.
+-- The load, one step at a time, as the code takes it: with one job more.
 use Prim.Native.Nat.{ℕ, zero, suc, _+_, _*_, _≤_}
 use native.Mathlib.Omega.{arith}
 use native.Mathlib.Numerals.{add-one}
@@ -6,20 +6,19 @@ use mathlib.Core.Path.{_≡_, refl}
 use mathlib.Core.Bool.{not}
 use mathlib.Core.List.{List, [], _∷_}
 use lib.Dec.{leb, ltb, eqb}
-use lib.ListN.{set, length}
+use lib.ListN.{length}
 use Rattle.lists.specs.Lists.{_!_}
 use Rattle.lists.specs.Tests.{both, only}
 use Rattle.lists.specs.Sums.{total}
 use Rattle.lists.specs.Sets.{totalOf}
 use Rattle.lists.proofs.Sets.{totalOf-limit}
 use Rattle.lists.proofs.Sums.{total-zero, total-suc}
-use Rattle.narrowing.specs.Windows.{Win, win, moved, sideOf}
-use Rattle.narrowing.proofs.Moves.{side-late}
+use Rattle.narrowing.specs.Windows.{Win, win}
 use Rattle.joblist.specs.Limits.{mostDemand, mostJobs}
-use Rattle.timetable.specs.Time.{Jobs, sure, load, bound}
+use Rattle.timetable.specs.Time.{Jobs, sure, load}
 use Rattle.timetable.specs.Table.{jobsOf, Good}
 use Rattle.tabling.specs.Asked.{asked, loadOf}
-use Rattle.tabling.proofs.Good.{demand-most}
+use Rattle.timetable.proofs.Good.{demand-most}
 
 -- ---- the load
 
@@ -62,11 +61,3 @@ good-cap e l p r cap g = record { sized = g .sized; few = g .few; within = g .wi
     none-above : (k : ℕ) → (0 ∷ []) ! k ≤ mostDemand
     none-above zero = omega arith
     none-above (suc k) = omega arith
-
--- ---- a move, by the number of its side
-
-pub shift-early : (e l : List ℕ) (j s t : ℕ) → s ≡ 0 → win (set e j (t + 1)) l ≡ moved (win e l) j (sideOf s) (bound (sideOf s) t)
-shift-early e l j s t h = rw (h, add-one)
-
-pub shift-late : (e l : List ℕ) (j s t : ℕ) → (s ≡ 0 → ⊥) → win e (set l j t) ≡ moved (win e l) j (sideOf s) (bound (sideOf s) t)
-shift-late e l j s t h = rw (side-late s h)

@@ -1,6 +1,8 @@
 pub mod Facts
 pub mod Calls
 pub mod Law
+pub mod Good
+pub mod Moves
 pub mod Exact
 pub mod Order
 pub mod Entries

@@ -30,8 +30,8 @@ abbrev pub jobsOf : Call → Jobs
 jobsOf c = record { n = jobs (c .win); p = c .p; r = c .r; cap = c .cap }
 
 -- the call as one of narrowing by rules, with records that name M's
-abbrev pub asked : Names → Call → Ask
-asked M c =
+abbrev pub asksNaming : Names → Call → Ask
+asksNaming M c =
     let J = jobsOf c in
     record {
       win = c .win;
@@ -49,7 +49,7 @@ asked M c =
 
 -- and with the writer's own
 abbrev pub asks : Call → Ask
-asks = asked leanMember
+asks = asksNaming leanMember
 
 -- it has a good list, in facts; and the number of its refusal by tests 1 to 3
 abbrev pub Good : Call → Type 0
@@ -66,18 +66,23 @@ AllLong c = Long (jobs (c .win)) (c .p) (c .win)
 abbrev pub TooShort : Call → ℕ → Type 0
 TooShort c j = LowestTooShort (jobs (c .win)) (c .p) (c .win) j
 
+-- a good list whose windows are all long enough, so that no latest start lies below its earliest
+pub record Workable (c : Call) : Type 0 where
+  pub good : Good c
+  pub long : AllLong c
+
 -- the rows of a run's end; those of refusals 1 to 3, else the run's; what narrowing answers and leaves: by whom its records name
 unfoldable pub ended : Names → Call → Out → After
 unfolding table.ended naming
-ended M c o = table.ended (asked M c) o
+ended M c o = table.ended (asksNaming M c) o
 
 unfoldable pub tabled : Names → Call → ℕ → After
 unfolding table.tabled ended best roomOf
-tabled M c k = table.tabled (asked M c) k
+tabled M c k = table.tabled (asksNaming M c) k
 
 unfoldable pub narrowedBy : Names → Call → After
 unfolding table.narrowed tabled refusalOf
-narrowedBy M c = table.narrowed (asked M c)
+narrowedBy M c = table.narrowed (asksNaming M c)
 
 -- and with the writer's own
 abbrev pub narrowed : Call → After

@@ -8,11 +8,11 @@ use Rattle.narrowing.specs.Windows.{Win, win, moved, sideOf}
 use Rattle.joblist.specs.Limits.{mostTime, jobs}
 use Rattle.journal.specs.Journal.{roomOf, rewritten}
 use Rattle.timetable.specs.Time.{bound}
-use Rattle.timetable.specs.Table.{Call, call}
+use Rattle.timetable.specs.Table.{Call, call, Workable}
 use Rattle.searches.specs.declared.Found.{Found}
 use Rattle.searches.specs.Found.{found}
-use Rattle.tabling.specs.Asked.{asked, Workable}
-use Rattle.tabling.proofs.Moves.{best-applies, time-small}
+use Rattle.tabling.specs.Asked.{asked}
+use Rattle.timetable.proofs.Moves.{best-applies, time-small}
 use Rattle.searches.proofs.Answers.{found-some}
 use Rattle.writer.specs.Record.{recordOf}
 use Rattle.turns.specs.declared.Place.{Place}

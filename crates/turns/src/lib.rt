@@ -5,8 +5,7 @@ ghost use mathlib.Core.Path.{_≡_};
 ghost use Prim.Native.Nat.{_<_, _≤_};
 ghost use lib.ListN.{length};
 ghost use Rattle.narrowing.specs.Windows.{win};
-ghost use Rattle.timetable.specs.Table.{call};
-ghost use Rattle.tabling.specs.Asked.{Workable};
+ghost use Rattle.timetable.specs.Table.{call, Workable};
 ghost use Rattle.loads.specs.Loads.{Loaded};
 ghost use Rattle.turns.specs.Places.{onwardOf};
 ghost use Rattle.turns.specs.Moves.{TurnSays};
@@ -88,8 +87,8 @@ pub fn take_turn(
                 return Turn::Full;
             }
             writer::note(est, lct, dur, dem, cap, job, side, t, log, count);
-            tabling::shift(est, lct, job, side, t);
-            if joblist::closed(est, lct, dur, job) {
+            windows::shift(est, lct, job, side, t);
+            if windows::closed(est, lct, dur, job) {
                 return Turn::Closed;
             }
             Turn::Moved

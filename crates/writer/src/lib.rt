@@ -23,10 +23,7 @@ fn is_member(k: usize, j: usize, e: u32, l: u32, p: u32, r: u32, t: u32) -> bool
     if r == 0 {
         return false;
     }
-    if t + p < l {
-        return false;
-    }
-    t < e + p
+    windows::sure(e, l, p, t)
 }
 
 // The set of the jobs that a record of the job at time t names: 01's members, gone through by rising number, less each one without whom the demands still

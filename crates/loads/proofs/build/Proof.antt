@@ -4,7 +4,7 @@ use Prim.Native.Nat.{_-_}
 use native.Mathlib.Omega.{arith}
 use lib.ListN.{length}
 use borrow.Author.Needs.{needs}
-use Rattle.tabling.proofs.Good.{durations-sized, demands-sized, ends-sized}
+use Rattle.timetable.proofs.Good.{durations-sized, demands-sized, ends-sized}
 use Rattle.loads.proofs.Building.{Building, building-start, building-end, ends-within, building-asks, building-step, building-pass}
 use Rattle.loads.proofs.build.Statement.{statement}
 use Rattle.loads.proofs.build.Tie as tie

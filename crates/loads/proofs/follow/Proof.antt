@@ -7,7 +7,7 @@ use Prim.Native.Nat.{_+_, _≤_}
 use native.Mathlib.Omega.{arith}
 use Rattle.lists.specs.Lists.{_!_}
 use Rattle.narrowing.proofs.Moves.{side-early, side-late}
-use Rattle.tabling.proofs.Good.{window-within, duration-most}
+use Rattle.timetable.proofs.Good.{window-within, duration-most}
 use Rattle.loads.proofs.Following.{follow-asks, followed-early, followed-late}
 use borrow.Author.Needs.{needs}
 use Rattle.loads.proofs.follow.Statement.{statement}

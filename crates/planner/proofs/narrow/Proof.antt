@@ -8,10 +8,9 @@ use lib.ListN.{length}
 use lib.Seq.{length-take-le}
 use Rattle.narrowing.specs.Windows.{win}
 use Rattle.joblist.specs.Limits.{mostJobs}
-use Rattle.joblist.proofs.Copies.{saved-back}
-use Rattle.joblist.proofs.TooShort.{answer-too-short, answer-long}
-use Rattle.timetable.specs.Table.{Call, call, Good}
-use Rattle.tabling.specs.Asked.{Workable}
+use Rattle.windows.proofs.Copies.{saved-back}
+use Rattle.windows.proofs.TooShort.{answer-too-short, answer-long}
+use Rattle.timetable.specs.Table.{Call, call, Good, Workable}
 use Rattle.planner.proofs.Answered.{accepted, refused, clashed}
 use Rattle.planner.proofs.narrow.Statement.{statement}
 use Rattle.planner.proofs.narrow.Tie as tie

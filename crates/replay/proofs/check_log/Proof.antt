@@ -4,7 +4,7 @@ use native.Mathlib.Omega.{arith}
 use mathlib.Core.Path.{sym, _∙_}
 use borrow.Author.Needs.{needs}
 use Rattle.narrowing.specs.Windows.{win}
-use Rattle.joblist.proofs.TooShort.{answer-too-short, answer-long}
+use Rattle.windows.proofs.TooShort.{answer-too-short, answer-long}
 use Rattle.journal.specs.Journal.{roomOf}
 use Rattle.timetable.proofs.Calls.{good-call, call-good}
 use Rattle.timetable.specs.Table.{Call, call, Good, refusalOf}

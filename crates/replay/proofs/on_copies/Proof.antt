@@ -9,10 +9,10 @@ use lib.Seq.{take-at}
 use borrow.Author.Needs.{needs}
 use Rattle.narrowing.specs.Windows.{win}
 use Rattle.joblist.specs.Limits.{mostJobs}
-use Rattle.joblist.proofs.Copies.{saved-back}
+use Rattle.windows.proofs.Copies.{saved-back}
 use Rattle.journal.specs.Journal.{records}
 use Rattle.timetable.specs.Table.{Call, call}
-use Rattle.tabling.proofs.Good.{ends-sized}
+use Rattle.timetable.proofs.Good.{ends-sized}
 use Rattle.replay.specs.Replay.{Verdict, replay}
 use Rattle.exam.specs.Lent.{jobsIn}
 use Rattle.replay.specs.Ended.{verdict}

@@ -9,7 +9,7 @@ use Rattle.narrowing.specs.Windows.{Win, win}
 use Rattle.journal.specs.Journal.{recordWords}
 use Rattle.journal.proofs.Records.{record-length}
 use Rattle.timetable.specs.Time.{Jobs}
-use Rattle.tabling.proofs.Good.{durations-sized, ends-sized}
+use Rattle.timetable.proofs.Good.{durations-sized, ends-sized}
 use Rattle.codes.specs.Facts.{InRange}
 use Rattle.codes.specs.Codes.{code}
 use Rattle.exam.specs.Lent.{jobsIn}

@@ -9,7 +9,7 @@ use lib.ListN.{length}
 use Rattle.narrowing.specs.Windows.{win}
 use Rattle.journal.specs.Journal.{roomOf}
 use Rattle.timetable.specs.Table.{call}
-use Rattle.tabling.proofs.Good.{durations-sized, ends-sized}
+use Rattle.timetable.proofs.Good.{durations-sized, ends-sized}
 use Rattle.loads.specs.Loads.{Loaded}
 use Rattle.turns.specs.declared.Place.{Place}
 use Rattle.rounds.proofs.Going.{weight, weight-move, weight-rest}

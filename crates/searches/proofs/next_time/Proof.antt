@@ -4,7 +4,7 @@ use Prim.Native.Nat.{_+_, _≤_}
 use Rattle.lists.specs.Lists.{_!_}
 use Rattle.joblist.specs.Limits.{mostTime}
 use native.Mathlib.Omega.{arith}
-use Rattle.tabling.proofs.Good.{window-within}
+use Rattle.timetable.proofs.Good.{window-within}
 use Rattle.searches.proofs.Answers.{rests, early-rests, early-moves, late-rests, late-moves}
 use borrow.Author.Needs.{needs}
 use Rattle.searches.proofs.next_time.Statement.{statement}

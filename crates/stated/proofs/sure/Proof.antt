@@ -1,64 +1,45 @@
--- `judge::facts::sure` meets its contract: the two limits of a start, as the sure part has them.
-use mathlib.Core.Path.{sym, _∙_}
-use borrow.Author.Needs.{needs}
-use borrow.Author.Tests.{not-true, not-false}
+-- `stated::sure` meets its contract: the window and the duration of job k.
 use Rattle.timetable.specs.Time.{sure}
+use borrow.Author.Needs.{needs}
 use Rattle.stated.proofs.sure.Statement.{statement}
 use Rattle.stated.proofs.sure.Tie as tie
 
-mul-no-later : tie.Need-mul-no-later
-mul-no-later c = search needs
+mul-sure : tie.Need-mul-sure
+mul-sure c = search needs
 
-shared-slice-read-no-later : tie.Need-shared-slice-read-no-later
-shared-slice-read-no-later c = search needs
+shared-slice-read-sure : tie.Need-shared-slice-read-sure
+shared-slice-read-sure c = search needs
 
-mul-no-later-2 : tie.Need-mul-no-later-2
-mul-no-later-2 c = search needs
+mul-sure-2 : tie.Need-mul-sure-2
+mul-sure-2 c = search needs
 
-shared-slice-read-no-later-2 : tie.Need-shared-slice-read-no-later-2
-shared-slice-read-no-later-2 c = search needs
+shared-slice-read-sure-2 : tie.Need-shared-slice-read-sure-2
+shared-slice-read-sure-2 c = search needs
 
-no-later-requires : tie.Need-no-later-requires
-no-later-requires c κs = (c .before .before .before .before .before .pre .2, c .before .before .before .before .before .pre .0 .within .1 .1 .0 (c .before .before .before .before .before .args .k))
+mul-sure-3 : tie.Need-mul-sure-3
+mul-sure-3 c = search needs
+
+shared-slice-read-sure-3 : tie.Need-shared-slice-read-sure-3
+shared-slice-read-sure-3 c = search needs
+
+sure-requires : tie.Need-sure-requires
+sure-requires c κs =
+    let h = c .before .before .before .before .before .before in
+    (h .pre .0 .within .0 (h .args .k), h .pre .0 .within .1 .1 .0 (h .args .k), h .pre .2)
 
 returns : tie.Need-returns
 unfolding sure
-returns c = rw (sym (c .before .no-later .ensures) ∙ not-true _ (c .if1 .taken))
-
-mul-no-earlier : tie.Need-mul-no-earlier
-mul-no-earlier c = search needs
-
-shared-slice-read-no-earlier : tie.Need-shared-slice-read-no-earlier
-shared-slice-read-no-earlier c = search needs
-
-mul-no-earlier-2 : tie.Need-mul-no-earlier-2
-mul-no-earlier-2 c = search needs
-
-shared-slice-read-no-earlier-2 : tie.Need-shared-slice-read-no-earlier-2
-shared-slice-read-no-earlier-2 c = search needs
-
-no-earlier-requires : tie.Need-no-earlier-requires
-no-earlier-requires c κs =
-    let g = c .before .before .before .before .before .before .before .before .before .pre .0 .within in
-    (g .0 (c .before .before .before .before .before .before .before .before .before .args .k), c .before .before .before .before .before .before .before .before .before .pre .2, g .1 .1 .0 (c .before .before .before .before .before .before .before .before .before .args .k))
-
-returns-2 : tie.Need-returns-2
-unfolding sure
-returns-2 c = c .no-earlier .ensures ∙ rw (sym (c .before .before .before .before .no-later .ensures) ∙ not-false _ (c .before .before .before .if1 .left))
+returns c = c .sure .ensures
 
 pub sure-spec : {M : Type 1} → statement M
 sure-spec =
     tie.close
     (tie.spec
-    mul-no-later
-    shared-slice-read-no-later
-    mul-no-later-2
-    shared-slice-read-no-later-2
-    no-later-requires
-    returns
-    mul-no-earlier
-    shared-slice-read-no-earlier
-    mul-no-earlier-2
-    shared-slice-read-no-earlier-2
-    no-earlier-requires
-    returns-2)
+    mul-sure
+    shared-slice-read-sure
+    mul-sure-2
+    shared-slice-read-sure-2
+    mul-sure-3
+    shared-slice-read-sure-3
+    sure-requires
+    returns)

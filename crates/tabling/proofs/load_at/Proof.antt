@@ -8,7 +8,7 @@ use borrow.Author.Needs.{needs}
 use Rattle.narrowing.specs.Windows.{win}
 use Rattle.timetable.specs.Table.{jobsOf}
 use Rattle.tabling.specs.Asked.{asked}
-use Rattle.tabling.proofs.Good.{start-most, ends-sized, durations-sized, demands-sized, duration-most}
+use Rattle.timetable.proofs.Good.{start-most, ends-sized, durations-sized, demands-sized, duration-most}
 use Rattle.tabling.proofs.Steps.{loadBelow, load-zero, load-more, load-all, load-fits}
 use Rattle.tabling.proofs.load_at.Statement.{statement}
 use Rattle.tabling.proofs.load_at.Tie as tie

@@ -15,7 +15,7 @@ use Rattle.members.proofs.Writing.{below-none}
 use Rattle.timetable.specs.Time.{Jobs}
 use Rattle.timetable.specs.Table.{jobsOf}
 use Rattle.tabling.specs.Asked.{asked}
-use Rattle.tabling.proofs.Good.{demands-sized, demand-most}
+use Rattle.timetable.proofs.Good.{demands-sized, demand-most}
 use Rattle.tabling.proofs.Steps.{load-small, good-cap}
 use Rattle.writer.proofs.Named.{member-at, gathered, still, still-first, named-yet, gathered-drop, gathered-put, gathered-skip, gathered-all}
 use Rattle.writer.proofs.gather.Statement.{statement}

@@ -1,7 +1,8 @@
 -- `writer::is_member` meets its contract: each return is one test of the definition that fails, and the last test decides.
 use Prim.Native.Nat.{_≤_}
 use native.Mathlib.Omega.{arith}
-use borrow.Author.Tests.{eq-eqb, ne-eqb, le-leb, lt-leb}
+use mathlib.Core.Path.{_∙_}
+use borrow.Author.Tests.{eq-eqb, ne-eqb, le-leb}
 use borrow.Author.Needs.{needs}
 use Rattle.writer.proofs.is_member.Statement.{statement}
 use Rattle.writer.proofs.is_member.Tie as tie
@@ -12,23 +13,14 @@ returns c = rw (eq-eqb _ _ (c .if1 .taken))
 returns-2 : tie.Need-returns-2
 returns-2 c = rw (ne-eqb _ _ (c .before .if1 .left), c .if2 .taken)
 
-add-if3 : tie.Need-add-if3
-add-if3 c = search needs
+sure-requires : tie.Need-sure-requires
+sure-requires c κs = search needs
 
 returns-3 : tie.Need-returns-3
 returns-3 c =
     let s = c .before .before .before .args in
-    let h : 1 ≤ s .r = omega arith in
-    simp (ne-eqb _ _ (c .before .before .if1 .left), le-leb 1 (s .r) h, lt-leb _ _ (c .if3 .taken))
-
-add-result : tie.Need-add-result
-add-result c = search needs
-
-returns-4 : tie.Need-returns-4
-returns-4 c =
-    let s = c .before .before .before .args in
-    let h : 1 ≤ s .r = omega arith in
-    simp (ne-eqb _ _ (c .before .before .if1 .left), le-leb 1 (s .r) h, le-leb _ _ (c .if3 .left))
+    let h : 1 ≤ s .r = omega (arith, c .before .if2 .left) in
+    c .sure .ensures ∙ rw (ne-eqb _ _ (c .before .before .if1 .left), le-leb 1 (s .r) h)
 
 pub is-member-spec : {M : Type 1} → statement M
-is-member-spec = tie.close (tie.spec returns returns-2 add-if3 returns-3 add-result returns-4)
+is-member-spec = tie.close (tie.spec returns returns-2 sure-requires returns-3)

@@ -2,7 +2,7 @@
 use mathlib.Core.Path.{_∙_}
 use borrow.Author.Needs.{needs}
 use Rattle.timetable.specs.Search.{naming}
-use Rattle.tabling.proofs.Moves.{number-of-side}
+use Rattle.timetable.proofs.Moves.{number-of-side}
 use Rattle.writer.proofs.note.Statement.{statement}
 use Rattle.writer.proofs.note.Tie as tie
 

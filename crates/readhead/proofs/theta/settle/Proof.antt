@@ -5,10 +5,9 @@ use native.Mathlib.Omega.{arith}
 use mir.Facts.{toZ-ofZ}
 use mir.Syntax.{w64}
 use lib.ListN.{set}
-use borrow.Author.Needs.{sfits-of}
+use borrow.Author.Needs.{sfits-of, needs}
 use Rattle.joblist.specs.Limits.{mostJobs}
 use Rattle.readhead.proofs.Climbs.{child-sums, end-under, end-fits}
-use borrow.Author.Needs.{needs}
 use Rattle.readhead.proofs.theta.settle.Statement.{statement}
 use Rattle.readhead.proofs.theta.settle.Tie as tie
 

@@ -1,0 +1,3 @@
+pub mod TooShort
+pub mod Copies
+pub mod Steps
