@@ -1,5 +1,5 @@
--- When a PSPLIB text is refused, in facts: its headings; one of the two counts; one of the three tables, those before it good. The counts go on in
--- `headings: Facts`, rows in `rows: Exactly`, numbers and several readings one after the other in `texts: Exactly` and `texts: Given`.
+-- When a PSPLIB text is refused, in facts: its headings; one of the two counts; a row or a number of one of the three tables, those before it good. What
+-- makes a row one that is refused stands in `rows: Exactly`, numbers and several readings one after the other in `texts: Exactly` and `texts: Given`.
 use Prim.Native.Nat.{ℕ, _<_}
 use native.Mathlib.Omega.{arith}
 use mathlib.Core.Path.{_≡_, refl, sym, ap}
@@ -10,12 +10,13 @@ use Rattle.lists.proofs.Sets.{clash}
 use Rattle.joblist.specs.Limits.{mostDemand, mostJobs, mostResources}
 use Rattle.texts.specs.Tokens.{Token, tokens}
 use Rattle.texts.specs.Readings.{Read, bad, times, many}
-use Rattle.texts.proofs.Exactly.{First, first-refused, last-refused}
-use Rattle.headings.specs.Lines.{behindLines, counted}
+use Rattle.texts.proofs.Exactly.{OneRefused, First, first-refused, last-refused, Behind, times-refused, ManyRefused, many-refused}
+use Rattle.headings.specs.Lines.{line, behind, behindLines, counted}
 use Rattle.headings.specs.Headings.{Mark, marks, inOrder, section}
-use Rattle.headings.proofs.Facts.{in-order-which}
+use Rattle.headings.proofs.Facts.{in-order-which, counted-refused}
 use Rattle.rows.specs.Projects.{Project}
 use Rattle.rows.specs.Tables.{relation, request}
+use Rattle.rows.proofs.Exactly.{RelationRefused, relation-refused, RequestRefused, request-refused}
 use Rattle.rows.proofs.Takes.{OfText}
 use Rattle.psplib.specs.Psplib.{join, tables, sections, psplib}
 use Rattle.psplib.proofs.Limits.{sections-codes, psplib-codes}
@@ -24,16 +25,23 @@ use Rattle.psplib.proofs.Limits.{sections-codes, psplib-codes}
 abbrev pub Headed : List ℕ → Type 0
 Headed s = map (λ (m : Mark). m .which) (marks s) ≡ 0 ∷ 1 ∷ 2 ∷ 3 ∷ 4 ∷ []
 
--- a table
+-- the number after the colon of the line: 30 where none stands there, 31 where it is above its limit
+abbrev pub CountRefused : ℕ → ℕ → List ℕ → Type 0
+CountRefused top c s = OneRefused top 31 c (tokens (behind 58 (line s)))
+
+-- a row of relations, a row of requests, a capacity
 abbrev pub TablesRefused : ℕ → ℕ → List ℕ → List ℕ → List ℕ → ℕ → Type 0
 TablesRefused n k relations requests capacities c =
-    First c (times (relation n) 0 n (tokens (behindLines 2 relations))) (λ sss t₁.
-    First c (times (request k) 0 n (tokens (behindLines 3 requests))) (λ qs t₂.
-    many mostDemand k (tokens (behindLines 2 capacities)) ≡ bad c))
+    First (Behind (relation n) (RelationRefused n c) 0 n (tokens (behindLines 2 relations))) (times (relation n) 0 n (tokens (behindLines 2 relations))) (λ sss t₁.
+    First (Behind (request k) (RequestRefused k c) 0 n (tokens (behindLines 3 requests))) (times (request k) 0 n (tokens (behindLines 3 requests))) (λ qs t₂.
+    ManyRefused mostDemand k c (tokens (behindLines 2 capacities))))
 
 -- a count, or a table behind both
 abbrev pub SectionsRefused : (ℕ → List ℕ) → ℕ → Type 0
-SectionsRefused part c = First c (counted mostJobs (part 0)) (λ n t₁. First c (counted mostResources (part 1)) (λ k t₂. TablesRefused n k (part 2) (part 3) (part 4) c))
+SectionsRefused part c =
+    First (CountRefused mostJobs c (part 0)) (counted mostJobs (part 0)) (λ n t₁.
+    First (CountRefused mostResources c (part 1)) (counted mostResources (part 1)) (λ k t₂.
+    TablesRefused n k (part 2) (part 3) (part 4) c))
 
 -- the headings, or what stands in their sections
 abbrev pub PsplibRefused : List ℕ → ℕ → Type 0
@@ -43,15 +51,15 @@ module _ (c : ℕ) where
   tables-refused : (n k : ℕ) (relations requests capacities : List ℕ) → (tables n k relations requests capacities ≡ bad c) ↔ TablesRefused n k relations requests capacities c
   unfolding tables
   tables-refused n k relations requests capacities =
-      first-refused (times (relation n) 0 n (tokens (behindLines 2 relations))) _ _ c (λ sss t₁.
-      first-refused (times (request k) 0 n (tokens (behindLines 3 requests))) _ _ c (λ qs t₂.
-      last-refused (many mostDemand k (tokens (behindLines 2 capacities))) (λ cs t₃. record { capacities = cs; rows = join sss qs }) (λ cs t₃. []) c))
+      first-refused (times (relation n) 0 n (tokens (behindLines 2 relations))) _ _ _ c (times-refused (relation n) (RelationRefused n c) c (relation-refused c n) 0 n _) (λ sss t₁.
+      first-refused (times (request k) 0 n (tokens (behindLines 3 requests))) _ _ _ c (times-refused (request k) (RequestRefused k c) c (request-refused c k) 0 n _) (λ qs t₂.
+      last-refused (many mostDemand k (tokens (behindLines 2 capacities))) _ (λ cs t₃. record { capacities = cs; rows = join sss qs }) (λ cs t₃. []) c (many-refused mostDemand k c _)))
 
   sections-refused : (part : ℕ → List ℕ) → (sections part ≡ bad c) ↔ SectionsRefused part c
   unfolding sections
   sections-refused part =
-      first-refused (counted mostJobs (part 0)) _ _ c (λ n t₁.
-      first-refused (counted mostResources (part 1)) _ _ c (λ k t₂.
+      first-refused (counted mostJobs (part 0)) _ _ _ c (counted-refused mostJobs (part 0) c) (λ n t₁.
+      first-refused (counted mostResources (part 1)) _ _ _ c (counted-refused mostResources (part 1) c) (λ k t₂.
       tables-refused n k (part 2) (part 3) (part 4)))
 
   pub psplib-refused : (s : List ℕ) → (psplib s ≡ bad c) ↔ PsplibRefused s c

@@ -1,5 +1,5 @@
--- When a text is refused, in facts: a successor, a row of PSPLIB's tables, and a whole text of the Patterson layout. The parts between, numbers up to a limit and several
--- readings one after the other, have theirs in `texts: Exactly`.
+-- When a text is refused, in facts: a successor, a row of PSPLIB's tables, and a text of the Patterson layout with its opening and its rows, down to the
+-- number that is missing, is none or is too large (document 02, Item 1). Numbers and several readings one after the other have theirs in `texts: Exactly`.
 use Prim.Native.Nat.{ℕ, _+_, _-_, _≤_, _<_}
 use native.Mathlib.Omega.{arith}
 use mathlib.Core.Path.{_≡_, refl}
@@ -8,15 +8,15 @@ use mathlib.Core.List.{List, _∷_}
 use mathlib.Core.Logic.{_⊎_, inl, inr, _↔_}
 use lib.Dec.{eqb}
 use borrow.Author.Tests.{eqb-true, eq-eqb}
-use Rattle.joblist.specs.Limits.{mostTime, mostDemand}
-use Rattle.texts.specs.Tokens.{Token, number, tokens}
-use Rattle.texts.specs.Readings.{Read, bad, good, andThen, one, exactly, times, many, nothingMore}
+use Rattle.joblist.specs.Limits.{mostTime, mostDemand, mostJobs, mostResources}
+use Rattle.texts.specs.Tokens.{Token, tokens}
+use Rattle.texts.specs.Readings.{bad, good, one, exactly, times, many}
 use Rattle.texts.proofs.Readings.{bad-not-good}
-use Rattle.texts.proofs.Exactly.{NoNumber, NumberThat, OneRefused, one-refused, one-read, then-refused, First, first-refused, last-refused, over-refused}
+use Rattle.texts.proofs.Exactly.{NoNumber, NumberThat, OneRefused, one-refused, one-read, then-refused, First, first-refused, first-within, last-refused, over-refused, Behind, times-refused, ManyRefused, many-refused}
 use Rattle.texts.proofs.Given.{ExactlyRefused, exactly-refused}
-use Rattle.rows.specs.Tables.{numbered, relation, Need, request}
-use Rattle.rows.specs.Projects.{Row, Project, link}
-use Rattle.rows.specs.Patterson.{row, Opening, opening, project, patterson}
+use Rattle.rows.specs.Tables.{numbered, relation, request}
+use Rattle.rows.specs.Projects.{link}
+use Rattle.rows.specs.Patterson.{row, opening, patterson}
 
 -- ---- a successor: 30 where no number stands, 32 where it is 0 or above n
 
@@ -55,62 +55,96 @@ module _ (n c : ℕ) (ts : List Token) where
   pub link-refused : (link n ts ≡ bad c) ↔ LinkRefused n c ts
   link-refused = (link-to, link-from)
 
--- ---- the rows of PSPLIB's tables: 30 where the job's number or the 1 behind it is not that, then what stands behind them
+-- m successors: one of them, behind others that are good
+abbrev pub LinksRefused : ℕ → ℕ → ℕ → List Token → Type 0
+LinksRefused n m c ts = Behind (λ i. link n) (λ i. LinkRefused n c) 0 m ts
 
+pub links-refused : (n m c : ℕ) (ts : List Token) → (times (λ i. link n) 0 m ts ≡ bad c) ↔ LinksRefused n m c ts
+links-refused n m c ts = times-refused (λ i. link n) (λ i. LinkRefused n c) c (λ i u. link-refused n c u) 0 m ts
+
+-- ---- the rows of PSPLIB's tables
+
+-- 30 where the job's number, or the 1 behind it, is not that
 abbrev pub NumberedRefused : ℕ → ℕ → List Token → Type 0
-NumberedRefused j c ts = First c (exactly (j + 1) ts) (λ a rest. ExactlyRefused 1 c rest)
+NumberedRefused j c ts = First (ExactlyRefused (j + 1) c ts) (exactly (j + 1) ts) (λ a rest. ExactlyRefused 1 c rest)
+
+-- then a successor count that is no number, 30, or above the jobs, 31, or a successor
+abbrev pub RelationRefused : ℕ → ℕ → ℕ → List Token → Type 0
+RelationRefused n c j ts =
+    First (NumberedRefused j c ts) (numbered j ts) (λ a t₁.
+    First (OneRefused n 31 c t₁) (one n 31 t₁) (λ m t₂.
+    LinksRefused n m c t₂))
+
+-- then a duration, or one of the demands on k resources: 30 where it is no number, 31 where it is above its limit
+abbrev pub RequestRefused : ℕ → ℕ → ℕ → List Token → Type 0
+RequestRefused k c j ts =
+    First (NumberedRefused j c ts) (numbered j ts) (λ a t₁.
+    First (OneRefused mostTime 31 c t₁) (one mostTime 31 t₁) (λ d t₂.
+    ManyRefused mostDemand k c t₂))
 
 module _ (c : ℕ) where
   pub numbered-refused : (j : ℕ) (ts : List Token) → (numbered j ts ≡ bad c) ↔ NumberedRefused j c ts
   unfolding numbered
-  numbered-refused j ts = first-refused (exactly (j + 1) ts) _ _ c (λ a rest. exactly-refused 1 c rest)
+  numbered-refused j ts = first-refused (exactly (j + 1) ts) _ _ _ c (exactly-refused (j + 1) c ts) (λ a rest. exactly-refused 1 c rest)
 
-  pub relation-refused : (n j : ℕ) (ts : List Token) → (relation n j ts ≡ bad c) ↔ First c (numbered j ts) (λ a t₁. First c (one n 31 t₁) (λ m t₂. times (λ i. link n) 0 m t₂ ≡ bad c))
+  pub relation-refused : (n j : ℕ) (ts : List Token) → (relation n j ts ≡ bad c) ↔ RelationRefused n c j ts
   unfolding relation
-  relation-refused n j ts = first-refused (numbered j ts) _ _ c (λ a t₁. first-refused (one n 31 t₁) _ _ c (λ m t₂. (λ e. e, λ e. e)))
+  relation-refused n j ts =
+      first-refused (numbered j ts) _ _ _ c (numbered-refused j ts) (λ a t₁.
+      first-refused (one n 31 t₁) _ _ _ c (one-refused n 31 c t₁) (λ m t₂.
+      links-refused n m c t₂))
 
-  pub request-refused : (k j : ℕ) (ts : List Token) → (request k j ts ≡ bad c) ↔ First c (numbered j ts) (λ a t₁. First c (one mostTime 31 t₁) (λ d t₂. many mostDemand k t₂ ≡ bad c))
+  pub request-refused : (k j : ℕ) (ts : List Token) → (request k j ts ≡ bad c) ↔ RequestRefused k c j ts
   unfolding request
   request-refused k j ts =
-      first-refused (numbered j ts) _ _ c (λ a t₁.
-      first-refused (one mostTime 31 t₁) _ _ c (λ d t₂.
-      last-refused (many mostDemand k t₂) (λ qs t₃. record { duration = d; demands = qs }) (λ qs t₃. t₃) c))
+      first-refused (numbered j ts) _ _ _ c (numbered-refused j ts) (λ a t₁.
+      first-refused (one mostTime 31 t₁) _ _ _ c (one-refused mostTime 31 c t₁) (λ d t₂.
+      last-refused (many mostDemand k t₂) _ (λ qs t₃. record { duration = d; demands = qs }) (λ qs t₃. t₃) c (many-refused mostDemand k c t₂)))
 
--- ---- the whole text: its opening, one of its rows, or text left over
+-- ---- the Patterson layout
 
-abbrev rowsOf : Opening → List Token → Read (List Row)
-rowsOf o ts = times (row (o .jobs) (o .resources)) 0 (o .jobs) ts
+-- job count, resource count, one of the capacities: 30 where it is no number, 31 where it is above its limit
+abbrev pub OpeningRefused : ℕ → List Token → Type 0
+OpeningRefused c ts =
+    First (OneRefused mostJobs 31 c ts) (one mostJobs 31 ts) (λ n t₁.
+    First (OneRefused mostResources 31 c t₁) (one mostResources 31 t₁) (λ k t₂.
+    ManyRefused mostDemand k c t₂))
 
-abbrev made : Opening → List Row → Project
-made o rs = record { capacities = o .capacities; rows = rs }
+-- duration, one of the demands on k resources, successor count: 30 where it is no number, 31 where it is above its limit, which is n for the count; then
+-- one of the successors
+abbrev pub RowRefused : ℕ → ℕ → ℕ → List Token → Type 0
+RowRefused n k c ts =
+    First (OneRefused mostTime 31 c ts) (one mostTime 31 ts) (λ d t₁.
+    First (ManyRefused mostDemand k c t₁) (many mostDemand k t₁) (λ qs t₂.
+    First (OneRefused n 31 c t₂) (one n 31 t₂) (λ m t₃.
+    LinksRefused n m c t₃)))
 
-abbrev pub TextRefused : List Token → ℕ → Type 0
-TextRefused ts c =
-    (opening ts ≡ bad c)
-    ⊎ ((o : Opening) × (u : List Token) × (opening ts ≡ good o u)
-    × ((times (row (o .jobs) (o .resources)) 0 (o .jobs) u ≡ bad c)
-    ⊎ ((rs : List Row) × (v : List Token) × (times (row (o .jobs) (o .resources)) 0 (o .jobs) u ≡ good rs v) × (c ≡ 30) × ((t : Token) × (rest : List Token) × (v ≡ t ∷ rest)))))
+-- the opening, one of the rows behind rows that are good, or text left over: 30
+abbrev pub PattersonRefused : ℕ → List Token → Type 0
+PattersonRefused c ts =
+    First (OpeningRefused c ts) (opening ts) (λ o t₁.
+    First (Behind (row (o .jobs) (o .resources)) (λ j. RowRefused (o .jobs) (o .resources) c) 0 (o .jobs) t₁) (times (row (o .jobs) (o .resources)) 0 (o .jobs) t₁) (λ rs t₂.
+    (c ≡ 30) × ((t : Token) × (rest : List Token) × (t₂ ≡ t ∷ rest))))
 
-module _ (s : List ℕ) (c : ℕ) where
-  text-to : patterson s ≡ bad c → TextRefused (tokens s) c
-  unfolding patterson project
-  text-to e = go (then-refused (opening (tokens s)) (λ o u. andThen (rowsOf o u) (λ rs v. nothingMore (made o rs) v)) c .0 e)
-    where
-      go : (opening (tokens s) ≡ bad c) ⊎ ((o : Opening) × (u : List Token) × (opening (tokens s) ≡ good o u) × (andThen (rowsOf o u) (λ rs v. nothingMore (made o rs) v) ≡ bad c))
-          → TextRefused (tokens s) c
-      go (inl q) = inl q
-      go (inr (o, u, q, p)) = inr (o, u, q, behind (then-refused (rowsOf o u) (λ rs v. nothingMore (made o rs) v) c .0 p))
-        where
-          behind : (rowsOf o u ≡ bad c) ⊎ ((rs : List Row) × (v : List Token) × (rowsOf o u ≡ good rs v) × (nothingMore (made o rs) v ≡ bad c))
-              → (rowsOf o u ≡ bad c) ⊎ ((rs : List Row) × (v : List Token) × (rowsOf o u ≡ good rs v) × (c ≡ 30) × ((t : Token) × (rest : List Token) × (v ≡ t ∷ rest)))
-          behind (inl y) = inl y
-          behind (inr (rs, v, y, w)) = let z = over-refused (made o rs) v c .0 w in inr (rs, v, y, z .0, z .1)
+module _ (c : ℕ) where
+  pub opening-refused : (ts : List Token) → (opening ts ≡ bad c) ↔ OpeningRefused c ts
+  unfolding opening
+  opening-refused ts =
+      first-refused (one mostJobs 31 ts) _ _ _ c (one-refused mostJobs 31 c ts) (λ n t₁.
+      first-refused (one mostResources 31 t₁) _ _ _ c (one-refused mostResources 31 c t₁) (λ k t₂.
+      last-refused (many mostDemand k t₂) _ (λ cs t₃. record { jobs = n; resources = k; capacities = cs }) (λ cs t₃. t₃) c (many-refused mostDemand k c t₂)))
 
-  text-from : TextRefused (tokens s) c → patterson s ≡ bad c
-  unfolding patterson project
-  text-from (inl q) = rw q
-  text-from (inr (o, u, q, inl p)) = rw (q, p)
-  text-from (inr (o, u, q, inr (rs, v, p, e, (t, rest, l)))) = rw (q, p, l, e)
+  pub row-refused : (n k j : ℕ) (ts : List Token) → (row n k j ts ≡ bad c) ↔ RowRefused n k c ts
+  unfolding row
+  row-refused n k j ts =
+      first-within (one mostTime 31 ts) _ _ _ _ c (one-refused mostTime 31 c ts) (λ d t₁.
+      first-within (many mostDemand k t₁) _ _ _ _ c (many-refused mostDemand k c t₁) (λ qs t₂.
+      first-within (one n 31 t₂) _ _ _ _ c (one-refused n 31 c t₂) (λ m t₃.
+      last-refused (times (λ i. link n) 0 m t₃) _ (λ ss end. record { duration = d; demands = qs; successors = ss }) (λ ss end. end) c (links-refused n m c t₃))))
 
-  pub text-refused : (patterson s ≡ bad c) ↔ TextRefused (tokens s) c
-  text-refused = (text-to, text-from)
+  pub patterson-refused : (s : List ℕ) → (patterson s ≡ bad c) ↔ PattersonRefused c (tokens s)
+  unfolding patterson
+  patterson-refused s =
+      first-refused (opening (tokens s)) _ _ _ c (opening-refused (tokens s)) (λ o t₁.
+      first-refused (times (row (o .jobs) (o .resources)) 0 (o .jobs) t₁) _ _ _ c (times-refused (row (o .jobs) (o .resources)) _ c (row-refused (o .jobs) (o .resources)) 0 (o .jobs) t₁) (λ rs t₂.
+      over-refused (record { capacities = o .capacities; rows = rs }) t₂ c))

@@ -8,7 +8,7 @@ use mathlib.Core.Logic.{_⊎_, inl, inr, _↔_}
 use lib.Dec.{leb}
 use borrow.Author.Tests.{leb-true, leb-false, le-leb, lt-leb}
 use Rattle.texts.specs.Tokens.{Token, number, other}
-use Rattle.texts.specs.Readings.{Read, bad, good, andThen, one, times, nothingMore}
+use Rattle.texts.specs.Readings.{Read, bad, good, andThen, one, times, many, nothingMore}
 use Rattle.texts.proofs.Readings.{bad-not-good, good-same, then-good, then-bad}
 
 -- no number stands next: the tokens are at their end, or the next one is anything else
@@ -69,26 +69,33 @@ then-refused {A} {B} r f c = (then-bad r f c, from r)
     from r (inl e) = rw e
     from r (inr (a, rest, e, q)) = rw e q
 
--- the first of two readings that is refused: this one, or, behind it, another
-abbrev pub First : {A : Type 0} → ℕ → Read A → (A → List Token → Type 0) → Type 0
-First {A} c r Next = (r ≡ bad c) ⊎ ((a : A) × (rest : List Token) × (r ≡ good a rest) × Next a rest)
+-- of two readings one after the other: the first is refused, in the facts of that, or it is good and the second is
+abbrev pub First : {A : Type 0} → Type 0 → Read A → (A → List Token → Type 0) → Type 0
+First {A} Refused r Next = Refused ⊎ ((a : A) × (rest : List Token) × (r ≡ good a rest) × Next a rest)
 
-pub first-refused : {A B : Type 0} (r : Read A) (f : A → List Token → Read B) (Next : A → List Token → Type 0) (c : ℕ)
-    → ((a : A) (rest : List Token) → (f a rest ≡ bad c) ↔ Next a rest) → (andThen r f ≡ bad c) ↔ First c r Next
-first-refused {A} r f Next c h = (λ e. to (then-refused r f c .0 e), λ q. then-refused r f c .1 (from q))
+pub first-refused : {A B : Type 0} (r : Read A) (f : A → List Token → Read B) (Refused : Type 0) (Next : A → List Token → Type 0) (c : ℕ)
+    → (r ≡ bad c) ↔ Refused → ((a : A) (rest : List Token) → (f a rest ≡ bad c) ↔ Next a rest) → (andThen r f ≡ bad c) ↔ First Refused r Next
+first-refused {A} r f Refused Next c g h = (λ e. to (then-refused r f c .0 e), λ q. then-refused r f c .1 (from q))
   where
-    to : (r ≡ bad c) ⊎ ((a : A) × (rest : List Token) × (r ≡ good a rest) × (f a rest ≡ bad c)) → First c r Next
-    to (inl e) = inl e
+    to : (r ≡ bad c) ⊎ ((a : A) × (rest : List Token) × (r ≡ good a rest) × (f a rest ≡ bad c)) → First Refused r Next
+    to (inl e) = inl (g .0 e)
     to (inr (a, rest, e, q)) = inr (a, rest, e, h a rest .0 q)
 
-    from : First c r Next → (r ≡ bad c) ⊎ ((a : A) × (rest : List Token) × (r ≡ good a rest) × (f a rest ≡ bad c))
-    from (inl e) = inl e
+    from : First Refused r Next → (r ≡ bad c) ⊎ ((a : A) × (rest : List Token) × (r ≡ good a rest) × (f a rest ≡ bad c))
+    from (inl e) = inl (g .1 e)
     from (inr (a, rest, e, q)) = inr (a, rest, e, h a rest .1 q)
 
+-- the same where both together are the first of another
+pub first-within : {A B C : Type 0} (r : Read A) (f : A → List Token → Read B) (g : B → List Token → Read C) (Refused : Type 0) (Next : A → List Token → Type 0) (c : ℕ)
+    → (r ≡ bad c) ↔ Refused → ((a : A) (rest : List Token) → (andThen (f a rest) g ≡ bad c) ↔ Next a rest) → (andThen (andThen r f) g ≡ bad c) ↔ First Refused r Next
+first-within (bad d) f g Refused Next c = first-refused (bad d) (λ a rest. andThen (f a rest) g) Refused Next c
+first-within (good x u) f g Refused Next c = first-refused (good x u) (λ a rest. andThen (f a rest) g) Refused Next c
+
 -- the last of them, behind which nothing is refused
-pub last-refused : {A B : Type 0} (r : Read A) (f : A → List Token → B) (end : A → List Token → List Token) (c : ℕ) → (andThen r (λ a rest. good (f a rest) (end a rest)) ≡ bad c) ↔ (r ≡ bad c)
-last-refused (bad d) f end c = (λ e. cc, λ e. cc)
-last-refused (good a rest) f end c = ((λ e. bad-not-good (good (f a rest) (end a rest)) c (f a rest) (end a rest) e refl), (λ e. bad-not-good (good a rest) c a rest e refl))
+pub last-refused : {A B : Type 0} (r : Read A) (Refused : Type 0) (f : A → List Token → B) (end : A → List Token → List Token) (c : ℕ)
+    → (r ≡ bad c) ↔ Refused → (andThen r (λ a rest. good (f a rest) (end a rest)) ≡ bad c) ↔ Refused
+last-refused (bad d) Refused f end c g = ((λ e. g .0 cc), (λ q. let z = g .1 q in cc))
+last-refused (good a rest) Refused f end c g = ((λ e. bad-not-good (good (f a rest) (end a rest)) c (f a rest) (end a rest) e refl), (λ q. bad-not-good (good a rest) c a rest (g .1 q) refl))
 
 -- text is left over
 pub over-refused : {A : Type 0} (a : A) (ts : List Token) (c : ℕ) → (nothingMore a ts ≡ bad c) ↔ ((c ≡ 30) × ((t : Token) × (rest : List Token) × (ts ≡ t ∷ rest)))
@@ -101,35 +108,35 @@ over-refused {A} a ts c = (to ts, from ts)
     from : (ts : List Token) → (c ≡ 30) × ((t : Token) × (rest : List Token) × (ts ≡ t ∷ rest)) → nothingMore a ts ≡ bad c
     from ts (q, (t, rest, e)) = rw (e, q)
 
--- behind i readings that were good, the next is refused
-pub record Behind {A : Type 0} (f : ℕ → List Token → Read A) (j m c : ℕ) (ts : List Token) : Type 0 where
+-- behind i of m readings that were good, the next is refused, in the facts of that
+pub record Behind {A : Type 0} (f : ℕ → List Token → Read A) (Refused : ℕ → List Token → Type 0) (j m : ℕ) (ts : List Token) : Type 0 where
   pub i : ℕ
   pub before : i < m
   pub xs : List A
   pub rest : List Token
   pub read : times f j i ts ≡ good xs rest
-  pub refused : f (j + i) rest ≡ bad c
+  pub refused : Refused (j + i) rest
 
-module _ {A : Type 0} (f : ℕ → List Token → Read A) (c : ℕ) where
-  times-to : (j m : ℕ) (ts : List Token) → times f j m ts ≡ bad c → Behind f j m c ts
+module _ {A : Type 0} (f : ℕ → List Token → Read A) (Refused : ℕ → List Token → Type 0) (c : ℕ) (facts : (j : ℕ) (ts : List Token) → (f j ts ≡ bad c) ↔ Refused j ts) where
+  times-to : (j m : ℕ) (ts : List Token) → times f j m ts ≡ bad c → Behind f Refused j m ts
   unfolding times
   times-to j zero ts e = bad-not-good (good [] ts) c [] ts e refl
   times-to j (suc m) ts e = go (then-bad (f j ts) (λ a u. andThen (times f (suc j) m u) (λ ys end. good (a ∷ ys) end)) c e) (λ u q. times-to (suc j) m u q)
     where
-      here : f j ts ≡ bad c → Behind f j (suc m) c ts
-      here q = let z : j + 0 ≡ j = omega arith in record { i = 0; before = omega arith; xs = []; rest = ts; read = refl; refused = rw z q }
+      here : f j ts ≡ bad c → Behind f Refused j (suc m) ts
+      here q = let z : j + 0 ≡ j = omega arith in record { i = 0; before = omega arith; xs = []; rest = ts; read = refl; refused = rw z (facts j ts .0 q) }
 
-      later : (a : A) (u : List Token) → f j ts ≡ good a u → Behind f (suc j) m c u → Behind f j (suc m) c ts
+      later : (a : A) (u : List Token) → f j ts ≡ good a u → Behind f Refused (suc j) m u → Behind f Refused j (suc m) ts
       later a u q b =
           let z : j + suc (b .i) ≡ suc j + b .i = omega arith in
           record { i = suc (b .i); before = omega (arith, b .before); xs = a ∷ b .xs; rest = b .rest; read = rw (q, b .read); refused = rw z (b .refused) }
 
       go : (f j ts ≡ bad c) ⊎ ((a : A) × (u : List Token) × (f j ts ≡ good a u) × (andThen (times f (suc j) m u) (λ ys end. good (a ∷ ys) end) ≡ bad c))
-          → ((u : List Token) → times f (suc j) m u ≡ bad c → Behind f (suc j) m c u) → Behind f j (suc m) c ts
+          → ((u : List Token) → times f (suc j) m u ≡ bad c → Behind f Refused (suc j) m u) → Behind f Refused j (suc m) ts
       go (inl q) k = here q
       go (inr (a, u, q, p)) k = last (then-bad (times f (suc j) m u) (λ ys end. good (a ∷ ys) end) c p)
         where
-          last : (times f (suc j) m u ≡ bad c) ⊎ ((ys : List A) × (v : List Token) × (times f (suc j) m u ≡ good ys v) × (good (a ∷ ys) v ≡ bad c)) → Behind f j (suc m) c ts
+          last : (times f (suc j) m u ≡ bad c) ⊎ ((ys : List A) × (v : List Token) × (times f (suc j) m u ≡ good ys v) × (good (a ∷ ys) v ≡ bad c)) → Behind f Refused j (suc m) ts
           last (inl y) = later a u q (k u y)
           last (inr (ys, v, y, w)) = bad-not-good (good (a ∷ ys) v) c (a ∷ ys) v w refl
 
@@ -149,5 +156,13 @@ module _ {A : Type 0} (f : ℕ → List Token → Read A) (c : ℕ) where
       let w = times-from (suc j) m i (s .1) rest (t .0) (omega arith) (t .2 ∙ ap (good (t .0)) v) (subst (λ (k : ℕ). f k rest ≡ bad c) z q) in
       rw (s .2, w)
 
-  pub times-refused : (j m : ℕ) (ts : List Token) → (times f j m ts ≡ bad c) ↔ Behind f j m c ts
-  times-refused j m ts = (times-to j m ts, λ b. times-from j m (b .i) ts (b .rest) (b .xs) (b .before) (b .read) (b .refused))
+  pub times-refused : (j m : ℕ) (ts : List Token) → (times f j m ts ≡ bad c) ↔ Behind f Refused j m ts
+  times-refused j m ts = (times-to j m ts, λ b. times-from j m (b .i) ts (b .rest) (b .xs) (b .before) (b .read) (facts (j + b .i) (b .rest) .1 (b .refused)))
+
+-- numbers up to a limit: one of them is missing, is none, or is above it, behind numbers that are not
+abbrev pub ManyRefused : ℕ → ℕ → ℕ → List Token → Type 0
+ManyRefused top m c ts = Behind (λ j. one top 31) (λ j. OneRefused top 31 c) 0 m ts
+
+pub many-refused : (top m c : ℕ) (ts : List Token) → (many top m ts ≡ bad c) ↔ ManyRefused top m c ts
+unfolding many
+many-refused top m c ts = times-refused (λ j. one top 31) (λ j. OneRefused top 31 c) c (λ j u. one-refused top 31 c u) 0 m ts
