@@ -20,6 +20,16 @@ pub twice-named : patterson (50 ∷ 32 ∷ 49 ∷ 32 ∷ 53 ∷ 32 ∷ 51 ∷ 32
 unfolding patterson
 twice-named = refl
 
+-- duration, demand, capacity and successor count each at its limit: `1 2\n10000 0\n1000000 10000 0 1 1\n`
+pub at-limits : patterson (49 ∷ 32 ∷ 50 ∷ 10 ∷ 49 ∷ 48 ∷ 48 ∷ 48 ∷ 48 ∷ 32 ∷ 48 ∷ 10 ∷ 49 ∷ 48 ∷ 48 ∷ 48 ∷ 48 ∷ 48 ∷ 48 ∷ 32 ∷ 49 ∷ 48 ∷ 48 ∷ 48 ∷ 48 ∷ 32 ∷ 48 ∷ 32 ∷ 49 ∷ 32 ∷ 49 ∷ 10 ∷ []) ≡ good (record { capacities = 10000 ∷ 0 ∷ []; rows = record { duration = 1000000; demands = 10000 ∷ 0 ∷ []; successors = 0 ∷ [] } ∷ [] }) []
+unfolding patterson
+at-limits = refl
+
+-- eight resources: `0 8 1 2 3 4 5 6 7 8`
+pub eight-resources : patterson (48 ∷ 32 ∷ 56 ∷ 32 ∷ 49 ∷ 32 ∷ 50 ∷ 32 ∷ 51 ∷ 32 ∷ 52 ∷ 32 ∷ 53 ∷ 32 ∷ 54 ∷ 32 ∷ 55 ∷ 32 ∷ 56 ∷ []) ≡ good (record { capacities = 1 ∷ 2 ∷ 3 ∷ 4 ∷ 5 ∷ 6 ∷ 7 ∷ 8 ∷ []; rows = [] }) []
+unfolding patterson
+eight-resources = refl
+
 -- nothing at all: ``
 pub empty-text : patterson ([]) ≡ bad 30
 unfolding patterson
@@ -50,15 +60,45 @@ pub form-feed : patterson (50 ∷ 12 ∷ 49 ∷ []) ≡ bad 30
 unfolding patterson
 form-feed = refl
 
--- far too many jobs: `99999 1 5`
-pub many-jobs : patterson (57 ∷ 57 ∷ 57 ∷ 57 ∷ 57 ∷ 32 ∷ 49 ∷ 32 ∷ 53 ∷ []) ≡ bad 31
+-- 256 jobs are taken, and the text ends there: `256 1`
+pub most-jobs : patterson (50 ∷ 53 ∷ 54 ∷ 32 ∷ 49 ∷ []) ≡ bad 30
 unfolding patterson
-many-jobs = refl
+most-jobs = refl
 
--- far too many resources: `2 99999`
-pub many-resources : patterson (50 ∷ 32 ∷ 57 ∷ 57 ∷ 57 ∷ 57 ∷ 57 ∷ []) ≡ bad 31
+-- one job more is not: `257 1`
+pub one-job-more : patterson (50 ∷ 53 ∷ 55 ∷ 32 ∷ 49 ∷ []) ≡ bad 31
 unfolding patterson
-many-resources = refl
+one-job-more = refl
+
+-- nine resources: `2 9`
+pub nine-resources : patterson (50 ∷ 32 ∷ 57 ∷ []) ≡ bad 31
+unfolding patterson
+nine-resources = refl
+
+-- a capacity above its limit: `2 1 10001`
+pub large-capacity : patterson (50 ∷ 32 ∷ 49 ∷ 32 ∷ 49 ∷ 48 ∷ 48 ∷ 48 ∷ 49 ∷ []) ≡ bad 31
+unfolding patterson
+large-capacity = refl
+
+-- a duration above its limit, and a letter behind it: `2 1 5 1000001 x`
+pub long-duration : patterson (50 ∷ 32 ∷ 49 ∷ 32 ∷ 53 ∷ 32 ∷ 49 ∷ 48 ∷ 48 ∷ 48 ∷ 48 ∷ 48 ∷ 49 ∷ 32 ∷ 120 ∷ []) ≡ bad 31
+unfolding patterson
+long-duration = refl
+
+-- a letter, and a demand above its limit behind it: `2 1 5 x 10001`
+pub letter-first : patterson (50 ∷ 32 ∷ 49 ∷ 32 ∷ 53 ∷ 32 ∷ 120 ∷ 32 ∷ 49 ∷ 48 ∷ 48 ∷ 48 ∷ 49 ∷ []) ≡ bad 30
+unfolding patterson
+letter-first = refl
+
+-- a demand above its limit: `2 1 5 3 10001 0`
+pub large-demand : patterson (50 ∷ 32 ∷ 49 ∷ 32 ∷ 53 ∷ 32 ∷ 51 ∷ 32 ∷ 49 ∷ 48 ∷ 48 ∷ 48 ∷ 49 ∷ 32 ∷ 48 ∷ []) ≡ bad 31
+unfolding patterson
+large-demand = refl
+
+-- the same of the second resource: `2 2 5 9 3 1 10001 0`
+pub other-demand : patterson (50 ∷ 32 ∷ 50 ∷ 32 ∷ 53 ∷ 32 ∷ 57 ∷ 32 ∷ 51 ∷ 32 ∷ 49 ∷ 32 ∷ 49 ∷ 48 ∷ 48 ∷ 48 ∷ 49 ∷ 32 ∷ 48 ∷ []) ≡ bad 31
+unfolding patterson
+other-demand = refl
 
 -- the capacity of the second resource is above its limit: `2 2 5 99999`
 pub other-capacity : patterson (50 ∷ 32 ∷ 50 ∷ 32 ∷ 53 ∷ 32 ∷ 57 ∷ 57 ∷ 57 ∷ 57 ∷ 57 ∷ []) ≡ bad 31
