@@ -1,15 +1,2 @@
 pub mod Filling
-pub mod Tests
 pub mod Answering
-pub mod Meaning
-pub mod One
-pub mod When
-pub mod Exactly
-pub mod Computed
-pub mod WriteTests
-pub mod WriteWhen
-pub mod RoundTrip
-pub mod WriteBack
-pub mod Cases
-pub mod PsplibCases
-pub mod WriteCases

@@ -8,7 +8,7 @@ use Rattle.lists.specs.Lists.{_!_}
 use Rattle.chains.specs.Paths.{Pair}
 use Rattle.texts.specs.Tokens.{Token}
 use Rattle.texts.specs.Readings.{Read, good}
-use Rattle.layouts.specs.Tests.{Fitting, Misfit}
+use Rattle.exchange.specs.Tests.{Fitting, Misfit}
 
 -- whether the lengths of the six lists fit n jobs and m pairs
 abbrev pub RoomSays : ℕ → ℕ → ℕ → ℕ → ℕ → ℕ → ℕ → ℕ → Bool → Type 0

@@ -11,7 +11,7 @@ pub use write::write_patterson;
 ghost use Rattle.answers.specs.Said.{saysRead};
 ghost use Rattle.rows.specs.Patterson.{patterson};
 ghost use Rattle.psplib.specs.Psplib.{psplib};
-ghost use Rattle.layouts.specs.Promise.{Reads};
+ghost use Rattle.exchange.specs.Promise.{Reads};
 
 // Fills the six lists from a text of the Patterson layout, for one resource (from 0) and a horizon.
 pub fn read_patterson(

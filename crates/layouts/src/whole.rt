@@ -18,7 +18,7 @@ ghost use Rattle.joblist.specs.Limits.{mostTime, mostJobs};
 ghost use Rattle.texts.specs.Readings.{Read, good};
 ghost use Rattle.rows.specs.Projects.{Project};
 ghost use Rattle.rows.specs.Parsed.{Parsing, ParsedSays};
-ghost use Rattle.layouts.specs.Promise.{Reads};
+ghost use Rattle.exchange.specs.Promise.{Reads};
 
 // The call on a text that was parsed, with its durations and demands in d and q. The horizon comes first.
 pub fn read_parsed(

@@ -2,7 +2,7 @@
 use answers::WriteAnswer;
 use scribe::Outcome;
 ghost use Rattle.answers.specs.Said.{saysWrite};
-ghost use Rattle.layouts.specs.Write.{Writes};
+ghost use Rattle.exchange.specs.Write.{Writes};
 
 // Writes a project of one resource into the buffer, in our form of the Patterson layout.
 pub fn write_patterson(

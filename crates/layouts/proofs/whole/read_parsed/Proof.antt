@@ -1,8 +1,8 @@
 -- `layouts::read_parsed` meets its contract: the horizon, then what the text met, then what `read_whole` says.
 use borrow.Author.Needs.{needs}
 use Rattle.rows.proofs.Parsing.{parsed-within}
-use Rattle.layouts.proofs.Answering.{far, broken}
-use Rattle.layouts.proofs.Meaning.{reads-of}
+use Rattle.exchange.proofs.Asked.{far, broken}
+use Rattle.exchange.proofs.Meaning.{reads-of}
 use Rattle.layouts.proofs.whole.read_parsed.Statement.{statement}
 use Rattle.layouts.proofs.whole.read_parsed.Tie as tie
 

@@ -8,7 +8,7 @@ use Rattle.texts.proofs.Readings.{good-same}
 use Rattle.rows.specs.Projects.{Within}
 use Rattle.rows.proofs.Parsing.{parsing-range, parsing-few}
 use Rattle.layouts.proofs.Answering.{no-resource, no-room, no-order, taken}
-use Rattle.layouts.proofs.Meaning.{reads-of}
+use Rattle.exchange.proofs.Meaning.{reads-of}
 use Rattle.layouts.proofs.whole.read_whole.Statement.{statement}
 use Rattle.layouts.proofs.whole.read_whole.Tie as tie
 

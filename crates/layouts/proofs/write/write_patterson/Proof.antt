@@ -6,7 +6,7 @@ use lib.ListN.{length}
 use borrow.Author.Tests.{not-true, not-false}
 use Rattle.joblist.specs.Limits.{mostJobs}
 use Rattle.joblist.proofs.Refusals.{good}
-use Rattle.layouts.proofs.WriteBack.{lists-refused, pairs-uneven, not-rising, cyclic, too-short, wrote}
+use Rattle.exchange.proofs.WriteBack.{lists-refused, pairs-uneven, not-rising, cyclic, too-short, wrote}
 use Rattle.layouts.proofs.write.write_patterson.Statement.{statement}
 use Rattle.layouts.proofs.write.write_patterson.Tie as tie
 

@@ -14,12 +14,12 @@ use Rattle.texts.specs.Readings.{good}
 use Rattle.rows.specs.Projects.{Project, pairsFrom, Within}
 use Rattle.rows.specs.Patterson.{patterson}
 use Rattle.rows.proofs.Limits.{patterson-takes}
-use Rattle.layouts.specs.Calls.{Lent, TextAfter}
-use Rattle.layouts.specs.Tests.{Fits}
-use Rattle.layouts.specs.Promise.{Reads}
-use Rattle.layouts.proofs.Answering.{asked, refused, far, broken}
-use Rattle.layouts.proofs.One.{answered-one}
-use Rattle.layouts.proofs.Computed.{by-number, by-33, by-34, by-reading}
+use Rattle.exchange.specs.Calls.{Lent, TextAfter}
+use Rattle.exchange.specs.Tests.{Fits}
+use Rattle.exchange.specs.Promise.{Reads}
+use Rattle.exchange.proofs.Asked.{asked, refused, far, broken}
+use Rattle.exchange.proofs.One.{answered-one}
+use Rattle.exchange.proofs.Computed.{by-number, by-33, by-34, by-reading}
 
 -- what such a text says is within the limits
 limits : (s : List ℕ) (x : Project) → patterson s ≡ good x [] → Within x

@@ -24,12 +24,12 @@ use Rattle.rows.specs.Projects.{Project, pairsOf, durations, demandsOn, Within}
 use Rattle.order.specs.Rounds.{turned}
 use Rattle.order.proofs.Orders.{back-of, of-back}
 use Rattle.order.proofs.Settling.{below-turned}
-use Rattle.layouts.specs.Calls.{Lent, TextAfter, Order, durationOf}
-use Rattle.layouts.specs.Tests.{Fits, Tested}
-use Rattle.layouts.specs.Promise.{Reads}
-use Rattle.layouts.proofs.Tests.{refusal-of, none-tested}
-use Rattle.layouts.proofs.Answering.{asked, refused}
-use Rattle.layouts.proofs.One.{answered-one}
+use Rattle.exchange.specs.Calls.{Lent, TextAfter, Order, durationOf}
+use Rattle.exchange.specs.Tests.{Fits, Tested}
+use Rattle.exchange.specs.Promise.{Reads}
+use Rattle.exchange.proofs.Tests.{refusal-of, none-tested}
+use Rattle.exchange.proofs.Asked.{asked, refused}
+use Rattle.exchange.proofs.One.{answered-one}
 
 -- the longest chains before each job, and after it
 abbrev pub heads : Project → List ℕ

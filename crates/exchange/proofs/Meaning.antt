@@ -22,11 +22,11 @@ use Rattle.chains.proofs.Chains.{stable-most, stable-after, chain-on, chain-sta
 use Rattle.texts.specs.Tokens.{Token}
 use Rattle.texts.specs.Readings.{good}
 use Rattle.rows.specs.Projects.{Row, Project, pairsOf, durations, demandsOn, Within}
-use Rattle.layouts.specs.Calls.{Lent, TextCall, TextAfter, Order, durationOf}
-use Rattle.layouts.specs.Tests.{Refusal}
-use Rattle.layouts.specs.Table.{Filled, Taken, Leaves, Answered}
-use Rattle.layouts.specs.Promise.{windows, ListedIn, Respects, Reads}
-use Rattle.layouts.proofs.Tests.{Passed, refusal-none}
+use Rattle.exchange.specs.Calls.{Lent, TextCall, TextAfter, Order, durationOf}
+use Rattle.exchange.specs.Tests.{Refusal}
+use Rattle.exchange.specs.Table.{Filled, Taken, Leaves, Answered}
+use Rattle.exchange.specs.Promise.{windows, ListedIn, Respects, Reads}
+use Rattle.exchange.proofs.Tests.{Passed, refusal-none}
 
 -- a pair's place
 pub pair-place : (ps : List Pair) (a b : ℕ) → Precedes ps a b

@@ -9,8 +9,8 @@ use Rattle.chains.specs.Paths.{Cycle}
 use Rattle.texts.specs.Tokens.{Token}
 use Rattle.texts.specs.Readings.{bad, good}
 use Rattle.rows.specs.Projects.{Project}
-use Rattle.layouts.specs.Calls.{TextCall, Order}
-use Rattle.layouts.specs.Tests.{Fits, Unfit, TooLong}
+use Rattle.exchange.specs.Calls.{TextCall, Order}
+use Rattle.exchange.specs.Tests.{Fits, Unfit, TooLong}
 
 -- the horizon is within its limit, and the text meets k
 pub record Meets (c : TextCall) (k : ℕ) : Type 0 where

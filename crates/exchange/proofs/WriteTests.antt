@@ -15,9 +15,9 @@ use Rattle.joblist.proofs.Refusals.{sized-judged, limits-judged, refusal-exactl
 use Rattle.chains.specs.Paths.{Precedes, Cycle}
 use Rattle.chains.specs.Listed.{Rising, NotRising}
 use Rattle.chains.proofs.Listed.{rising-one}
-use Rattle.layouts.specs.Tests.{Unless, None}
-use Rattle.layouts.specs.Write.{WriteCall, WriteAfter, pairsIn, textOf, columns, alone, PairsTested, WriteRefusal, writeLeaves, WriteAnswered, Writes}
-use Rattle.layouts.proofs.Tests.{Alone, unless-alone, none-alone}
+use Rattle.exchange.specs.Tests.{Unless, None}
+use Rattle.exchange.specs.Write.{WriteCall, WriteAfter, pairsIn, textOf, columns, alone, PairsTested, WriteRefusal, writeLeaves, WriteAnswered, Writes}
+use Rattle.exchange.proofs.Tests.{Alone, unless-alone, none-alone}
 
 -- ---- one number alone
 

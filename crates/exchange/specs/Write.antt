@@ -14,9 +14,9 @@ use Rattle.rows.specs.Projects.{Project, pairsOf, durations, demandsOn}
 use Rattle.rows.specs.Patterson.{patterson}
 use Rattle.scribe.specs.Form.{written}
 use Rattle.scribe.specs.Made.{made}
-use Rattle.layouts.specs.Calls.{Lent, TextCall, TextAfter}
-use Rattle.layouts.specs.Tests.{Fitting, Unless, None}
-use Rattle.layouts.specs.Promise.{Reads}
+use Rattle.exchange.specs.Calls.{Lent, TextCall, TextAfter}
+use Rattle.exchange.specs.Tests.{Fitting, Unless, None}
+use Rattle.exchange.specs.Promise.{Reads}
 
 -- one resource's capacity, durations, demands, jobs and successors of the pairs, and the lent buffer
 pub record WriteCall : Type 0 where

@@ -3,9 +3,9 @@ use Prim.Native.Nat.{ℕ}
 use native.Mathlib.Omega.{arith}
 use mathlib.Core.Path.{_≡_, refl}
 use mathlib.Core.Logic.{_⊎_, inl, inr, _↔_}
-use Rattle.layouts.specs.Write.{WriteCall, WriteRefusal}
-use Rattle.layouts.specs.WriteWhen.{Uneven, TooMany, TooGreat, OutOfPlace, CyclicPairs, BufferShort, WritePassed}
-use Rattle.layouts.proofs.WriteTests.{behind-lists}
+use Rattle.exchange.specs.Write.{WriteCall, WriteRefusal}
+use Rattle.exchange.specs.WriteWhen.{Uneven, TooMany, TooGreat, OutOfPlace, CyclicPairs, BufferShort, WritePassed}
+use Rattle.exchange.proofs.WriteTests.{behind-lists}
 
 module _ (c : WriteCall) where
   pub write-1 : WriteRefusal c 1 ↔ Uneven c

@@ -18,13 +18,13 @@ use Rattle.rows.specs.Patterson.{patterson}
 use Rattle.scribe.specs.Form.{written}
 use Rattle.scribe.specs.Made.{made}
 use Rattle.scribe.proofs.Rows.{made-back, pairs-back, durations-back, demands-back}
-use Rattle.layouts.specs.Calls.{Lent, TextAfter}
-use Rattle.layouts.specs.Promise.{Reads}
-use Rattle.layouts.specs.Write.{WriteCall, WriteAfter, pairsIn, textOf, columns, alone, PairsTested, WriteRefusal, WriteAnswered, SaysSame, textLeft, readAgain, TakenAgain, Writes}
-use Rattle.layouts.specs.WriteWhen.{WritePassed}
-use Rattle.layouts.proofs.WriteTests.{by-lists, good-lists, behind-lists, left-by, written-exactly}
-use Rattle.layouts.proofs.WriteWhen.{write-none}
-use Rattle.layouts.proofs.RoundTrip.{given-back, taken-exactly}
+use Rattle.exchange.specs.Calls.{Lent, TextAfter}
+use Rattle.exchange.specs.Promise.{Reads}
+use Rattle.exchange.specs.Write.{WriteCall, WriteAfter, pairsIn, textOf, columns, alone, PairsTested, WriteRefusal, WriteAnswered, SaysSame, textLeft, readAgain, TakenAgain, Writes}
+use Rattle.exchange.specs.WriteWhen.{WritePassed}
+use Rattle.exchange.proofs.WriteTests.{by-lists, good-lists, behind-lists, left-by, written-exactly}
+use Rattle.exchange.proofs.WriteWhen.{write-none}
+use Rattle.exchange.proofs.RoundTrip.{given-back, taken-exactly}
 
 -- ---- the text that is left says the same
 

@@ -17,8 +17,8 @@ use Rattle.chains.proofs.Cycles.{judged-acyclic}
 use Rattle.chains.proofs.Listed.{paired-below}
 use Rattle.scribe.specs.Form.{written}
 use Rattle.scribe.specs.Made.{rowsFrom}
-use Rattle.layouts.specs.Write.{WriteCall, WriteAfter, columns, alone, PairsTested, writeLeaves, Writes}
-use Rattle.layouts.proofs.WriteTests.{write-answered-one, behind-lists, by-lists}
+use Rattle.exchange.specs.Write.{WriteCall, WriteAfter, columns, alone, PairsTested, writeLeaves, Writes}
+use Rattle.exchange.proofs.WriteTests.{write-answered-one, behind-lists, by-lists}
 
 -- two jobs on a capacity of 5, with such pairs and such a buffer
 abbrev two : List ℕ → List ℕ → List ℕ → WriteCall

@@ -13,10 +13,10 @@ use Rattle.chains.specs.Paths.{Back}
 use Rattle.chains.proofs.Chains.{longest-unique}
 use Rattle.texts.proofs.Readings.{good-one}
 use Rattle.rows.specs.Projects.{Project, pairsOf}
-use Rattle.layouts.specs.Calls.{Lent, TextCall, TextAfter, Order, durationOf}
-use Rattle.layouts.specs.Table.{Filled, Taken, Leaves, Answered}
-use Rattle.layouts.specs.Promise.{Reads}
-use Rattle.layouts.proofs.Tests.{refusal-one}
+use Rattle.exchange.specs.Calls.{Lent, TextCall, TextAfter, Order, durationOf}
+use Rattle.exchange.specs.Table.{Filled, Taken, Leaves, Answered}
+use Rattle.exchange.specs.Promise.{Reads}
+use Rattle.exchange.proofs.Tests.{refusal-one}
 
 abbrev lists : List ℕ → List ℕ → List ℕ → List ℕ → List ℕ → List ℕ → Lent
 lists e l d q j s = record { est = e; lct = l; dur = d; dem = q; jobs = j; successors = s }

@@ -13,12 +13,12 @@ use Rattle.rows.specs.Projects.{Project, pairsFrom}
 use Rattle.psplib.specs.Psplib.{psplib}
 use Rattle.psplib.proofs.Limits.{psplib-takes}
 use Rattle.psplib.proofs.Cases.{small, two-jobs}
-use Rattle.layouts.specs.Calls.{Lent, TextAfter}
-use Rattle.layouts.specs.Tests.{Fits}
-use Rattle.layouts.specs.Promise.{Reads}
-use Rattle.layouts.proofs.Answering.{asked, refused, far, broken}
-use Rattle.layouts.proofs.One.{answered-one}
-use Rattle.layouts.proofs.Computed.{by-34, by-reading}
+use Rattle.exchange.specs.Calls.{Lent, TextAfter}
+use Rattle.exchange.specs.Tests.{Fits}
+use Rattle.exchange.specs.Promise.{Reads}
+use Rattle.exchange.proofs.Asked.{asked, refused, far, broken}
+use Rattle.exchange.proofs.One.{answered-one}
+use Rattle.exchange.proofs.Computed.{by-34, by-reading}
 
 -- two jobs on one resource, 0 before 1
 abbrev two-says : Project

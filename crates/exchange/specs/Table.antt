@@ -9,8 +9,8 @@ use Rattle.chains.specs.Paths.{Pair, Longest, Back}
 use Rattle.texts.specs.Tokens.{Token}
 use Rattle.texts.specs.Readings.{good}
 use Rattle.rows.specs.Projects.{Project, pairsOf, durations, demandsOn}
-use Rattle.layouts.specs.Calls.{Lent, TextCall, TextAfter, Order, durationOf}
-use Rattle.layouts.specs.Tests.{Refusal}
+use Rattle.exchange.specs.Calls.{Lent, TextCall, TextAfter, Order, durationOf}
+use Rattle.exchange.specs.Tests.{Refusal}
 
 -- the lists K filled from x, L being those that were lent
 pub record Filled (x : Project) (resource horizon : ℕ) (L K : Lent) : Type 0 where

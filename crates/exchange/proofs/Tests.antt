@@ -10,8 +10,8 @@ use Rattle.chains.specs.Paths.{Cycle}
 use Rattle.texts.specs.Tokens.{Token}
 use Rattle.texts.specs.Readings.{Read, bad, good}
 use Rattle.rows.specs.Projects.{Project, pairsOf}
-use Rattle.layouts.specs.Calls.{Lent, TextCall, Order}
-use Rattle.layouts.specs.Tests.{Fitting, Misfit, Fits, Unfit, TooLong, Unless, None, Tested, Met, Refusal}
+use Rattle.exchange.specs.Calls.{Lent, TextCall, Order}
+use Rattle.exchange.specs.Tests.{Fitting, Misfit, Fits, Unfit, TooLong, Unless, None, Tested, Met, Refusal}
 
 -- ---- one number alone
 

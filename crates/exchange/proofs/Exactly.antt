@@ -12,11 +12,11 @@ use Rattle.rows.proofs.Takes.{some-code}
 use Rattle.psplib.specs.Psplib.{psplib}
 use Rattle.psplib.proofs.Limits.{psplib-codes, psplib-some}
 use Rattle.psplib.proofs.Exactly.{Headed, psplib-35, psplib-beyond}
-use Rattle.layouts.specs.Calls.{Lent, TextCall}
-use Rattle.layouts.specs.Tests.{Refusal}
-use Rattle.layouts.specs.When.{NoResource, NoRoom, Cyclic, ChainTooLong, Readable}
-use Rattle.layouts.proofs.Answering.{asked}
-use Rattle.layouts.proofs.When.{when-text, when-37, when-38, when-33, when-34, when-read}
+use Rattle.exchange.specs.Calls.{Lent, TextCall}
+use Rattle.exchange.specs.Tests.{Refusal}
+use Rattle.exchange.specs.When.{NoResource, NoRoom, Cyclic, ChainTooLong, Readable}
+use Rattle.exchange.proofs.Asked.{asked}
+use Rattle.exchange.proofs.When.{when-text, when-37, when-38, when-33, when-34, when-read}
 
 -- a text that gives no number beyond 32 but 35, and not 0
 pub record Numbered (c : TextCall) : Type 0 where

@@ -13,13 +13,13 @@ use Rattle.texts.specs.Readings.{good}
 use Rattle.texts.proofs.Readings.{good-one}
 use Rattle.rows.specs.Projects.{Row, Project, pairsOf}
 use Rattle.rows.specs.Patterson.{patterson}
-use Rattle.layouts.specs.Calls.{Lent, TextAfter}
-use Rattle.layouts.specs.Table.{Answered}
-use Rattle.layouts.specs.Write.{WriteCall, WriteAfter, pairsIn, SaysSame, textLeft, GivenBack, readAgain, TakenAgain}
-use Rattle.layouts.specs.WriteWhen.{WritePassed}
-use Rattle.layouts.proofs.Tests.{none-tested, refusal-of, refusal-none}
-use Rattle.layouts.proofs.Meaning.{read-taken}
-use Rattle.layouts.proofs.When.{read-exactly}
+use Rattle.exchange.specs.Calls.{Lent, TextAfter}
+use Rattle.exchange.specs.Table.{Answered}
+use Rattle.exchange.specs.Write.{WriteCall, WriteAfter, pairsIn, SaysSame, textLeft, GivenBack, readAgain, TakenAgain}
+use Rattle.exchange.specs.WriteWhen.{WritePassed}
+use Rattle.exchange.proofs.Tests.{none-tested, refusal-of, refusal-none}
+use Rattle.exchange.proofs.Meaning.{read-taken}
+use Rattle.exchange.proofs.When.{read-exactly}
 
 module _ (c : WriteCall) (a : WriteAfter) (p : WritePassed c) (x : Project) (text : patterson (textLeft a) ≡ good x []) (same : SaysSame c x) (horizon : ℕ) (L : Lent) (b : TextAfter)
     (r : Answered (readAgain a horizon L) b) where

@@ -11,11 +11,11 @@ use Rattle.answers.proofs.Same.{not-said, said-apart}
 use Rattle.joblist.specs.Limits.{mostTime}
 use Rattle.texts.specs.Readings.{Read, bad, good}
 use Rattle.rows.specs.Projects.{Project}
-use Rattle.layouts.specs.Calls.{TextCall, TextAfter}
-use Rattle.layouts.specs.Tests.{Tested, Met, Refusal}
-use Rattle.layouts.specs.Table.{Leaves, Answered}
-use Rattle.layouts.specs.When.{Meets, AboveLimit, Says, NoResource, NoRoom, Cyclic, ChainTooLong, Readable}
-use Rattle.layouts.proofs.Tests.{Passed, tested-none, refusal-one, refusal-of}
+use Rattle.exchange.specs.Calls.{TextCall, TextAfter}
+use Rattle.exchange.specs.Tests.{Tested, Met, Refusal}
+use Rattle.exchange.specs.Table.{Leaves, Answered}
+use Rattle.exchange.specs.When.{Meets, AboveLimit, Says, NoResource, NoRoom, Cyclic, ChainTooLong, Readable}
+use Rattle.exchange.proofs.Tests.{Passed, tested-none, refusal-one, refusal-of}
 
 -- ---- an answer and the number of the first test that fails
 

@@ -11,8 +11,8 @@ use Rattle.narrowing.specs.Schedules.{Schedule}
 use Rattle.joblist.specs.Limits.{jobs, fourLists, supply}
 use Rattle.joblist.specs.GoodList.{GoodList}
 use Rattle.chains.specs.Paths.{Listed, Below, Cycle}
-use Rattle.layouts.specs.Calls.{Lent, TextCall, TextAfter}
-use Rattle.layouts.specs.Table.{Answered}
+use Rattle.exchange.specs.Calls.{Lent, TextCall, TextAfter}
+use Rattle.exchange.specs.Table.{Answered}
 
 -- the windows in the lists
 abbrev pub windows : Lent → Win

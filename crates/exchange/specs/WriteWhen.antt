@@ -9,7 +9,7 @@ use Rattle.joblist.specs.Limits.{mostJobs}
 use Rattle.joblist.specs.GoodList.{Sized, Any, Above, Unequal, GoodList}
 use Rattle.chains.specs.Paths.{Precedes, Cycle}
 use Rattle.chains.specs.Listed.{Rising, NotRising}
-use Rattle.layouts.specs.Write.{WriteCall, pairsIn, textOf, columns, alone}
+use Rattle.exchange.specs.Write.{WriteCall, pairsIn, textOf, columns, alone}
 
 -- the lists pass tests 1 to 3
 abbrev pub ListsPass : WriteCall → Type 0

@@ -1,0 +1,14 @@
+pub mod Tests
+pub mod Asked
+pub mod Meaning
+pub mod One
+pub mod When
+pub mod Exactly
+pub mod Computed
+pub mod WriteTests
+pub mod WriteWhen
+pub mod RoundTrip
+pub mod WriteBack
+pub mod Cases
+pub mod PsplibCases
+pub mod WriteCases

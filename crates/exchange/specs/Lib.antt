@@ -1,0 +1,7 @@
+pub mod Calls
+pub mod Tests
+pub mod Table
+pub mod Promise
+pub mod When
+pub mod Write
+pub mod WriteWhen
