@@ -67,6 +67,10 @@ unfolding pairsFrom
 three-tight a r =
     by-number (patterson three) three-says three-is (limits three three-says three-is) 1 9 tight-lent (leb-true _ _ refl) a r 37 (inr (leb-true _ _ refl, inl (inr (inr (inr (inr (inr (leb-true _ _ refl))))), refl)))
 
+-- both: 37
+pub resource-first : (a : TextAfter) → Reads (asked (patterson three) 2 9 tight-lent) a → a ≡ refused tight-lent 37
+resource-first a r = by-number (patterson three) three-says three-is (limits three three-says three-is) 2 9 tight-lent (leb-true _ _ refl) a r 36 (inl (leb-true _ _ refl, refl))
+
 -- the horizon is looked at before the text
 pub far-first : (a : TextAfter) → Reads (asked (patterson []) 0 (suc mostTime) three-lent) a → a ≡ refused three-lent 31
 far-first a r = answered-one (asked (patterson []) 0 (suc mostTime) three-lent) a (refused three-lent 31) (r .answered) (far (patterson []) 0 (suc mostTime) three-lent (leb-true _ _ refl))
@@ -98,6 +102,34 @@ alone-fits = record { est = refl; lct = refl; dur = refl; dem = refl; jobs = leb
 pub alone-cycle : (a : TextAfter) → Reads (asked (patterson alone) 0 9 alone-lent) a → a ≡ refused alone-lent 33
 unfolding longest acyclic? every pairsFrom
 alone-cycle a r = by-33 (patterson alone) alone-says alone-is (limits alone alone-says alone-is) 0 9 alone-lent (leb-true _ _ refl) a r (leb-true _ _ refl) alone-fits refl
+
+-- the same with no room for the pair: 38
+abbrev bare-lent : Lent
+bare-lent = record { est = 91 ∷ []; lct = 92 ∷ []; dur = 93 ∷ []; dem = 94 ∷ []; jobs = []; successors = [] }
+
+pub room-first : (a : TextAfter) → Reads (asked (patterson alone) 0 9 bare-lent) a → a ≡ refused bare-lent 38
+unfolding pairsFrom
+room-first a r =
+    by-number (patterson alone) alone-says alone-is (limits alone alone-says alone-is) 0 9 bare-lent (leb-true _ _ refl) a r 37 (inr (leb-true _ _ refl, inl (inr (inr (inr (inr (inl (leb-true _ _ refl))))), refl)))
+
+-- a job of length 3 that is its own successor, and a horizon of 2: 33: `1 1 5 3 1 1 1`
+abbrev long-alone : List ℕ
+long-alone = 49 ∷ 32 ∷ 49 ∷ 32 ∷ 53 ∷ 32 ∷ 51 ∷ 32 ∷ 49 ∷ 32 ∷ 49 ∷ 32 ∷ 49 ∷ []
+
+abbrev long-says : Project
+long-says = record { capacities = 5 ∷ []; rows = record { duration = 3; demands = 1 ∷ []; successors = 0 ∷ [] } ∷ [] }
+
+long-is : patterson long-alone ≡ good long-says []
+unfolding patterson
+long-is = refl
+
+long-fits : Fits long-says alone-lent
+unfolding pairsFrom
+long-fits = record { est = refl; lct = refl; dur = refl; dem = refl; jobs = leb-true _ _ refl; successors = leb-true _ _ refl }
+
+pub cycle-first : (a : TextAfter) → Reads (asked (patterson long-alone) 0 2 alone-lent) a → a ≡ refused alone-lent 33
+unfolding longest acyclic? every pairsFrom
+cycle-first a r = by-33 (patterson long-alone) long-says long-is (limits long-alone long-says long-is) 0 2 alone-lent (leb-true _ _ refl) a r (leb-true _ _ refl) long-fits refl
 
 -- job 3 is reached twice, through 1 and through 2, and there is no cycle: `4 1 5\n1 1 2 2 3\n2 1 1 4\n3 1 1 4\n1 1 0\n`
 abbrev reached : List ℕ

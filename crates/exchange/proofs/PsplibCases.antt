@@ -12,7 +12,7 @@ use Rattle.texts.specs.Readings.{good}
 use Rattle.rows.specs.Projects.{Project, pairsFrom}
 use Rattle.psplib.specs.Psplib.{psplib}
 use Rattle.psplib.proofs.Limits.{psplib-takes}
-use Rattle.psplib.proofs.Cases.{small, two-jobs}
+use Rattle.psplib.proofs.Cases.{small, two-jobs, lettered, headed-twice, headings-first}
 use Rattle.exchange.specs.Calls.{Lent, TextAfter}
 use Rattle.exchange.specs.Tests.{Fits}
 use Rattle.exchange.specs.Promise.{Reads}
@@ -48,3 +48,11 @@ far-first a r = answered-one (asked (psplib []) 0 (suc mostTime) two-lent) a (re
 pub headings-next : (a : TextAfter) → Reads (asked (psplib []) 0 7 two-lent) a → a ≡ refused two-lent 35
 unfolding psplib
 headings-next a r = answered-one (asked (psplib []) 0 7 two-lent) a (refused two-lent 35) (r .answered) (broken (psplib []) 0 7 two-lent (leb-true _ _ refl) 35 refl (λ z. omega arith))
+
+-- a heading twice, and a letter in a count: 35
+pub headings-first-met : (a : TextAfter) → Reads (asked (psplib headed-twice) 0 7 two-lent) a → a ≡ refused two-lent 35
+headings-first-met a r = answered-one (asked (psplib headed-twice) 0 7 two-lent) a (refused two-lent 35) (r .answered) (broken (psplib headed-twice) 0 7 two-lent (leb-true _ _ refl) 35 headings-first (λ z. omega arith))
+
+-- the letter alone, and a horizon above its limit: 31
+pub far-first-met : (a : TextAfter) → Reads (asked (psplib lettered) 0 (suc mostTime) two-lent) a → a ≡ refused two-lent 31
+far-first-met a r = answered-one (asked (psplib lettered) 0 (suc mostTime) two-lent) a (refused two-lent 31) (r .answered) (far (psplib lettered) 0 (suc mostTime) two-lent (leb-true _ _ refl))

@@ -81,6 +81,10 @@ pub before-itself : (a : WriteAfter) → Writes (two (0 ∷ []) (0 ∷ []) []) a
 unfolding acyclic? every
 before-itself = by-pairs (0 ∷ []) (0 ∷ []) _ 33 (inr (refl, inr (record { range = self-range; order = λ i h. absurd (omega arith) }, inl (judged-acyclic (paired (0 ∷ []) (0 ∷ [])) 2 (paired-below 2 (0 ∷ []) (0 ∷ []) self-range) .failed refl, refl))))
 
+-- 1 before 0 and 0 before 1, a cycle, in falling order: 32
+pub order-first : (a : WriteAfter) → Writes (two (1 ∷ 0 ∷ []) (0 ∷ 1 ∷ []) []) a → a ≡ record { says = said Word.refused (32 ∷ []); buffer = [] }
+order-first = by-pairs (1 ∷ 0 ∷ []) (0 ∷ 1 ∷ []) _ 32 (inr (refl, inl (inr (0, leb-true _ _ refl, inl (leb-true _ _ refl)), refl)))
+
 -- a demand above its limit: 3, though the pairs' lists differ in length
 abbrev too-much : WriteCall
 too-much = record { cap = 5; dur = 3 ∷ []; dem = 10001 ∷ []; jobs = 0 ∷ []; successors = []; buffer = 7 ∷ [] }
@@ -88,3 +92,11 @@ too-much = record { cap = 5; dur = 3 ∷ []; dem = 10001 ∷ []; jobs = 0 ∷ []
 pub demand-first : (a : WriteAfter) → Writes too-much a → a ≡ record { says = said Word.refused (3 ∷ []); buffer = 7 ∷ [] }
 unfolding refusal
 demand-first a w = write-answered-one too-much a _ (w .answered) (record { number = 3; refusal = by-lists too-much 3 (λ e. omega arith) refl; leaves = refl })
+
+-- a list of demands that is too long, and a duration above its limit: 1
+abbrev uneven : WriteCall
+uneven = record { cap = 5; dur = 1000001 ∷ []; dem = 1 ∷ 1 ∷ []; jobs = []; successors = []; buffer = 7 ∷ [] }
+
+pub length-first : (a : WriteAfter) → Writes uneven a → a ≡ record { says = said Word.refused (1 ∷ []); buffer = 7 ∷ [] }
+unfolding refusal
+length-first a w = write-answered-one uneven a _ (w .answered) (record { number = 1; refusal = by-lists uneven 1 (λ e. omega arith) refl; leaves = refl })

@@ -110,9 +110,20 @@ unfolding psplib
 tab-in-front = refl
 
 -- ` : 1R` behind the second heading
-pub letter-in-a-count : psplib (text (jobs ∷ (resourcesHeading ++ 32 ∷ 58 ∷ 32 ∷ 49 ∷ 82 ∷ []) ∷ []) (relations first-links second-links) (requests first-needs second-needs) (capacities five)) ≡ bad 30
+abbrev pub lettered : List ℕ
+lettered = text (jobs ∷ (resourcesHeading ++ 32 ∷ 58 ∷ 32 ∷ 49 ∷ 82 ∷ []) ∷ []) (relations first-links second-links) (requests first-needs second-needs) (capacities five)
+
+pub letter-in-a-count : psplib lettered ≡ bad 30
 unfolding psplib
 letter-in-a-count = refl
+
+-- the same with a heading twice: the headings come first
+abbrev pub headed-twice : List ℕ
+headed-twice = lettered ++ capacitiesHeading
+
+pub headings-first : psplib headed-twice ≡ bad 35
+unfolding psplib
+headings-first = refl
 
 -- the job count stands on the next line
 pub count-on-the-next-line : psplib (text (jobsHeading ∷ two ∷ resources ∷ []) (relations first-links second-links) (requests first-needs second-needs) (capacities five)) ≡ bad 30
@@ -129,8 +140,8 @@ pub many-resources : psplib (text (jobs ∷ (resourcesHeading ++ 32 ∷ 58 ∷ 3
 unfolding psplib
 many-resources = refl
 
--- far too many jobs: `99999`
-pub many-jobs : psplib (text ((jobsHeading ++ 57 ∷ 57 ∷ 57 ∷ 57 ∷ 57 ∷ []) ∷ resources ∷ []) (relations first-links second-links) (requests first-needs second-needs) (capacities five)) ≡ bad 31
+-- one job more than 256: `257`
+pub many-jobs : psplib (text ((jobsHeading ++ 50 ∷ 53 ∷ 55 ∷ []) ∷ resources ∷ []) (relations first-links second-links) (requests first-needs second-needs) (capacities five)) ≡ bad 31
 unfolding psplib
 many-jobs = refl
 
@@ -159,13 +170,23 @@ pub second-mode : psplib (text counts (relations first-links second-links) (requ
 unfolding psplib
 second-mode = refl
 
+-- a duration above its limit: `1 1 1000001 1`
+pub long-duration : psplib (text counts (relations first-links second-links) (requests (49 ∷ 32 ∷ 49 ∷ 32 ∷ 49 ∷ 48 ∷ 48 ∷ 48 ∷ 48 ∷ 48 ∷ 49 ∷ 32 ∷ 49 ∷ []) second-needs) (capacities five)) ≡ bad 31
+unfolding psplib
+long-duration = refl
+
+-- a demand above its limit: `1 1 3 10001`
+pub large-demand : psplib (text counts (relations first-links second-links) (requests (49 ∷ 32 ∷ 49 ∷ 32 ∷ 51 ∷ 32 ∷ 49 ∷ 48 ∷ 48 ∷ 48 ∷ 49 ∷ []) second-needs) (capacities five)) ≡ bad 31
+unfolding psplib
+large-demand = refl
+
 -- without its line of hyphens the table of requests lacks its first row
 pub no-hyphens : psplib (text counts (relations first-links second-links) (requestsHeading ∷ names ∷ first-needs ∷ second-needs ∷ []) (capacities five)) ≡ bad 30
 unfolding psplib
 no-hyphens = refl
 
--- a capacity above its limit: `99999`
-pub large-capacity : psplib (text counts (relations first-links second-links) (requests first-needs second-needs) (capacities (57 ∷ 57 ∷ 57 ∷ 57 ∷ 57 ∷ []))) ≡ bad 31
+-- a capacity above its limit: `10001`
+pub large-capacity : psplib (text counts (relations first-links second-links) (requests first-needs second-needs) (capacities (49 ∷ 48 ∷ 48 ∷ 48 ∷ 49 ∷ []))) ≡ bad 31
 unfolding psplib
 large-capacity = refl
 
