@@ -6,7 +6,7 @@ use mathlib.Core.Logic.{inl, inr}
 use Rattle.answers.specs.Said.{Word, said}
 use Rattle.joblist.specs.Limits.{mostTime}
 use Rattle.texts.specs.Readings.{Read, bad}
-use Rattle.rows.specs.Projects.{Project}
+use Rattle.projects.specs.Projects.{Project}
 use Rattle.exchange.specs.Calls.{Lent, TextCall, TextAfter}
 use Rattle.exchange.specs.Tests.{Met, Refusal}
 use Rattle.exchange.specs.Table.{Answered}

@@ -11,8 +11,8 @@ use Rattle.answers.specs.Said.{Word, said}
 use Rattle.joblist.specs.Limits.{mostTime}
 use Rattle.chains.specs.Passes.{longest, acyclic?}
 use Rattle.texts.specs.Readings.{good}
-use Rattle.rows.specs.Projects.{Project, pairsFrom, Within}
-use Rattle.rows.specs.Patterson.{patterson}
+use Rattle.projects.specs.Projects.{Project, pairsFrom, Within}
+use Rattle.projects.specs.Patterson.{patterson}
 use Rattle.rows.proofs.Limits.{patterson-takes}
 use Rattle.exchange.specs.Calls.{Lent, TextAfter}
 use Rattle.exchange.specs.Tests.{Fits}

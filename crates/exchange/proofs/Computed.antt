@@ -20,7 +20,7 @@ use Rattle.chains.proofs.Chains.{chain-map}
 use Rattle.chains.proofs.Longest.{longest-chained, longest-is}
 use Rattle.chains.proofs.Cycles.{judged-acyclic, cycle-back, cycle-map}
 use Rattle.texts.specs.Readings.{Read, good}
-use Rattle.rows.specs.Projects.{Project, pairsOf, durations, demandsOn, Within}
+use Rattle.projects.specs.Projects.{Project, pairsOf, durations, demandsOn, Within}
 use Rattle.order.specs.Rounds.{turned}
 use Rattle.order.proofs.Orders.{back-of, of-back}
 use Rattle.order.proofs.Settling.{below-turned}

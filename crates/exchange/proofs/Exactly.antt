@@ -6,7 +6,7 @@ use mathlib.Core.List.{List}
 use mathlib.Core.Logic.{inl, inr, _↔_}
 use Rattle.joblist.specs.Limits.{mostTime}
 use Rattle.texts.specs.Readings.{bad}
-use Rattle.rows.specs.Patterson.{patterson}
+use Rattle.projects.specs.Patterson.{patterson}
 use Rattle.rows.proofs.Limits.{patterson-codes, patterson-beyond}
 use Rattle.rows.proofs.Takes.{some-code}
 use Rattle.psplib.specs.Psplib.{psplib}

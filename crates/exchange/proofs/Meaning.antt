@@ -21,7 +21,7 @@ use Rattle.chains.proofs.Cycles.{cycle-map}
 use Rattle.chains.proofs.Chains.{stable-most, stable-after, chain-on, chain-starts}
 use Rattle.texts.specs.Tokens.{Token}
 use Rattle.texts.specs.Readings.{good}
-use Rattle.rows.specs.Projects.{Row, Project, pairsOf, durations, demandsOn, Within}
+use Rattle.projects.specs.Projects.{Row, Project, pairsOf, durations, demandsOn, Within}
 use Rattle.exchange.specs.Calls.{Lent, TextCall, TextAfter, Order, durationOf}
 use Rattle.exchange.specs.Tests.{Refusal}
 use Rattle.exchange.specs.Table.{Filled, Taken, Leaves, Answered}

@@ -12,7 +12,7 @@ use Rattle.answers.proofs.Same.{read-same}
 use Rattle.chains.specs.Paths.{Back}
 use Rattle.chains.proofs.Chains.{longest-unique}
 use Rattle.texts.proofs.Readings.{good-one}
-use Rattle.rows.specs.Projects.{Project, pairsOf}
+use Rattle.projects.specs.Projects.{Project, pairsOf}
 use Rattle.exchange.specs.Calls.{Lent, TextCall, TextAfter, Order, durationOf}
 use Rattle.exchange.specs.Table.{Filled, Taken, Leaves, Answered}
 use Rattle.exchange.specs.Promise.{Reads}

@@ -9,7 +9,7 @@ use Rattle.answers.specs.Said.{Word, said}
 use Rattle.joblist.specs.Limits.{mostTime}
 use Rattle.chains.specs.Passes.{longest, acyclic?}
 use Rattle.texts.specs.Readings.{good}
-use Rattle.rows.specs.Projects.{Project, pairsFrom}
+use Rattle.projects.specs.Projects.{Project, pairsFrom}
 use Rattle.psplib.specs.Psplib.{psplib}
 use Rattle.psplib.proofs.Limits.{psplib-takes}
 use Rattle.psplib.proofs.Cases.{small, two-jobs, lettered, headed-twice, headings-first}

@@ -11,8 +11,8 @@ use Rattle.chains.specs.Paths.{Precedes, Cycle}
 use Rattle.chains.proofs.Listed.{paired-length, paired-jobs, paired-successors}
 use Rattle.texts.specs.Readings.{good}
 use Rattle.texts.proofs.Readings.{good-one}
-use Rattle.rows.specs.Projects.{Row, Project, pairsOf}
-use Rattle.rows.specs.Patterson.{patterson}
+use Rattle.projects.specs.Projects.{Row, Project, pairsOf}
+use Rattle.projects.specs.Patterson.{patterson}
 use Rattle.exchange.specs.Calls.{Lent, TextAfter}
 use Rattle.exchange.specs.Table.{Answered}
 use Rattle.exchange.specs.Write.{WriteCall, WriteAfter, pairsIn, SaysSame, textLeft, GivenBack, readAgain, TakenAgain}

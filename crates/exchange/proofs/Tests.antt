@@ -9,7 +9,7 @@ use Rattle.joblist.specs.Limits.{mostTime}
 use Rattle.chains.specs.Paths.{Cycle}
 use Rattle.texts.specs.Tokens.{Token}
 use Rattle.texts.specs.Readings.{Read, bad, good}
-use Rattle.rows.specs.Projects.{Project, pairsOf}
+use Rattle.projects.specs.Projects.{Project, pairsOf}
 use Rattle.exchange.specs.Calls.{Lent, TextCall, Order}
 use Rattle.exchange.specs.Tests.{Fitting, Misfit, Fits, Unfit, TooLong, Unless, None, Tested, Met, Refusal}
 

@@ -10,7 +10,7 @@ use Rattle.answers.specs.Said.{Word, Said, said}
 use Rattle.answers.proofs.Same.{not-said, said-apart}
 use Rattle.joblist.specs.Limits.{mostTime}
 use Rattle.texts.specs.Readings.{Read, bad, good}
-use Rattle.rows.specs.Projects.{Project}
+use Rattle.projects.specs.Projects.{Project}
 use Rattle.exchange.specs.Calls.{TextCall, TextAfter}
 use Rattle.exchange.specs.Tests.{Tested, Met, Refusal}
 use Rattle.exchange.specs.Table.{Leaves, Answered}

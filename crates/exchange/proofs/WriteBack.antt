@@ -13,8 +13,8 @@ use Rattle.joblist.specs.GoodList.{GoodList, refusal}
 use Rattle.chains.specs.Paths.{Precedes, Cycle}
 use Rattle.chains.specs.Listed.{Rising, NotRising}
 use Rattle.texts.specs.Readings.{good}
-use Rattle.rows.specs.Projects.{Project, durations}
-use Rattle.rows.specs.Patterson.{patterson}
+use Rattle.projects.specs.Projects.{Project, durations}
+use Rattle.projects.specs.Patterson.{patterson}
 use Rattle.scribe.specs.Form.{written}
 use Rattle.scribe.specs.Made.{made}
 use Rattle.scribe.proofs.Rows.{made-back, pairs-back, durations-back, demands-back}

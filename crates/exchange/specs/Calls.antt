@@ -5,7 +5,7 @@ use mathlib.Core.List.{List}
 use Rattle.answers.specs.Said.{Said}
 use Rattle.chains.specs.Paths.{Precedes, weight}
 use Rattle.texts.specs.Readings.{Read}
-use Rattle.rows.specs.Projects.{Project, pairsOf, durations}
+use Rattle.projects.specs.Projects.{Project, pairsOf, durations}
 
 -- the lent lists: earliest starts, latest ends, durations, demands; jobs and successors of the pairs
 pub record Lent : Type 0 where

@@ -8,7 +8,7 @@ use Rattle.answers.specs.Said.{Word, said}
 use Rattle.chains.specs.Paths.{Pair, Longest, Back}
 use Rattle.texts.specs.Tokens.{Token}
 use Rattle.texts.specs.Readings.{good}
-use Rattle.rows.specs.Projects.{Project, pairsOf, durations, demandsOn}
+use Rattle.projects.specs.Projects.{Project, pairsOf, durations, demandsOn}
 use Rattle.exchange.specs.Calls.{Lent, TextCall, TextAfter, Order, durationOf}
 use Rattle.exchange.specs.Tests.{Refusal}
 

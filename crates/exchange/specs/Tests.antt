@@ -6,7 +6,7 @@ use lib.ListN.{length}
 use Rattle.joblist.specs.Limits.{mostTime}
 use Rattle.chains.specs.Paths.{Cycle, Longer}
 use Rattle.texts.specs.Readings.{Read, bad, good}
-use Rattle.rows.specs.Projects.{Project, pairsOf}
+use Rattle.projects.specs.Projects.{Project, pairsOf}
 use Rattle.exchange.specs.Calls.{Lent, TextCall, Order, durationOf}
 
 -- four lists of e, l, d and q numbers are as long as there are n jobs, and lists of j and s numbers have room for m pairs

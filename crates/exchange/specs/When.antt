@@ -8,7 +8,7 @@ use Rattle.joblist.specs.Limits.{mostTime}
 use Rattle.chains.specs.Paths.{Cycle}
 use Rattle.texts.specs.Tokens.{Token}
 use Rattle.texts.specs.Readings.{bad, good}
-use Rattle.rows.specs.Projects.{Project}
+use Rattle.projects.specs.Projects.{Project}
 use Rattle.exchange.specs.Calls.{TextCall, Order}
 use Rattle.exchange.specs.Tests.{Fits, Unfit, TooLong}
 

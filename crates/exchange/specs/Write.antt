@@ -10,8 +10,8 @@ use Rattle.joblist.specs.GoodList.{Sized, Within, Any, Above, Unequal}
 use Rattle.chains.specs.Paths.{Pair, Precedes, Cycle, Longer, weight}
 use Rattle.chains.specs.Listed.{paired, Rising, NotRising}
 use Rattle.texts.specs.Readings.{good}
-use Rattle.rows.specs.Projects.{Project, pairsOf, durations, demandsOn}
-use Rattle.rows.specs.Patterson.{patterson}
+use Rattle.projects.specs.Projects.{Project, pairsOf, durations, demandsOn}
+use Rattle.projects.specs.Patterson.{patterson}
 use Rattle.scribe.specs.Form.{written}
 use Rattle.scribe.specs.Made.{made}
 use Rattle.exchange.specs.Calls.{Lent, TextCall, TextAfter}

@@ -12,7 +12,7 @@ use Rattle.joblist.specs.Limits.{mostTime, mostJobs}
 use Rattle.chains.specs.Paths.{Below, Longest, Longer, Back, weight}
 use Rattle.chains.proofs.Chains.{chain-map}
 use Rattle.texts.specs.Readings.{Read, good}
-use Rattle.rows.specs.Projects.{Project, pairsOf}
+use Rattle.projects.specs.Projects.{Project, pairsOf}
 use Rattle.rows.specs.Parsed.{comes, first, Parsing}
 use Rattle.rows.specs.declared.Shape.{Shape}
 use Rattle.rows.proofs.Parsing.{parsing-range, parsing-few}

@@ -9,7 +9,7 @@ use answers::ReadAnswer;
 use whole::read_parsed;
 pub use write::write_patterson;
 ghost use Rattle.answers.specs.Said.{saysRead};
-ghost use Rattle.rows.specs.Patterson.{patterson};
+ghost use Rattle.projects.specs.Patterson.{patterson};
 ghost use Rattle.psplib.specs.Psplib.{psplib};
 ghost use Rattle.exchange.specs.Promise.{Reads};
 

@@ -16,7 +16,7 @@ ghost use Rattle.lists.specs.Lists.{_!_};
 ghost use Rattle.answers.specs.Said.{saysRead};
 ghost use Rattle.joblist.specs.Limits.{mostTime, mostJobs};
 ghost use Rattle.texts.specs.Readings.{Read, good};
-ghost use Rattle.rows.specs.Projects.{Project};
+ghost use Rattle.projects.specs.Projects.{Project};
 ghost use Rattle.rows.specs.Parsed.{Parsing, ParsedSays};
 ghost use Rattle.exchange.specs.Promise.{Reads};
 

@@ -14,9 +14,9 @@ use Rattle.texts.proofs.Exactly.{OneRefused, First, first-refused, last-refused
 use Rattle.headings.specs.Lines.{line, behind, behindLines, counted}
 use Rattle.headings.specs.Headings.{Mark, marks, inOrder, section}
 use Rattle.headings.proofs.Facts.{in-order-which, counted-refused}
-use Rattle.rows.specs.Projects.{Project}
-use Rattle.rows.specs.Tables.{relation, request}
-use Rattle.rows.proofs.Exactly.{RelationRefused, relation-refused, RequestRefused, request-refused}
+use Rattle.projects.specs.Projects.{Project}
+use Rattle.projects.specs.Tables.{relation, request}
+use Rattle.projects.proofs.Exactly.{RelationRefused, relation-refused, RequestRefused, request-refused}
 use Rattle.rows.proofs.Takes.{OfText}
 use Rattle.psplib.specs.Psplib.{join, tables, sections, psplib}
 use Rattle.psplib.proofs.Limits.{sections-codes, psplib-codes}

@@ -6,8 +6,8 @@ use mathlib.Core.List.{List, [], _∷_, _++_, map}
 use lib.ListN.{length}
 use Rattle.lists.specs.Lists.{_!_, Every}
 use Rattle.chains.specs.Paths.{Pair}
-use Rattle.rows.specs.Projects.{tagged, pairsFrom, durations, demandsOn}
-use Rattle.rows.specs.Tables.{Need}
+use Rattle.projects.specs.Projects.{tagged, pairsFrom, durations, demandsOn}
+use Rattle.projects.specs.Tables.{Need}
 use Rattle.rows.proofs.Takes.{Limited}
 use Rattle.rows.proofs.Tables.{linked, needed}
 use Rattle.psplib.specs.Psplib.{join}

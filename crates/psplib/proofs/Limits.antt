@@ -14,8 +14,8 @@ use Rattle.texts.proofs.Readings.{bad-not-good, good-same, then-good, many-take
 use Rattle.headings.specs.Lines.{behindLines, counted}
 use Rattle.headings.specs.Headings.{marks, inOrder, section}
 use Rattle.headings.proofs.Facts.{counted-codes, counted-takes}
-use Rattle.rows.specs.Projects.{Project, Within}
-use Rattle.rows.specs.Tables.{relation, Need, request}
+use Rattle.projects.specs.Projects.{Project, Within}
+use Rattle.projects.specs.Tables.{relation, Need, request}
 use Rattle.rows.proofs.Takes.{OfText, low-code, some-code, then-codes, Limited}
 use Rattle.rows.proofs.Tables.{linked, needed, relation-within, request-within, relation-code, request-code}
 use Rattle.rows.proofs.Limits.{rows-within}

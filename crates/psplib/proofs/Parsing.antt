@@ -11,8 +11,8 @@ use Rattle.texts.specs.Readings.{bad, good, times, many}
 use Rattle.texts.proofs.Readings.{said-good, said-bad, many-takes}
 use Rattle.headings.specs.Lines.{behindLines, counted}
 use Rattle.headings.specs.Headings.{marks, inOrder, section}
-use Rattle.rows.specs.Projects.{Project, pairsFrom, durations, demandsOn}
-use Rattle.rows.specs.Tables.{relation, Need, request}
+use Rattle.projects.specs.Projects.{Project, pairsFrom, durations, demandsOn}
+use Rattle.projects.specs.Tables.{relation, Need, request}
 use Rattle.rows.specs.Walk.{Seen, seeing, FoundSays}
 use Rattle.rows.specs.Parsed.{onlyPairs, comes, first, ParsedSays}
 use Rattle.rows.specs.declared.Table.the-variants.{Relations, Requests}

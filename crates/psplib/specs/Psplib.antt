@@ -8,8 +8,8 @@ use Rattle.texts.specs.Tokens.{tokens}
 use Rattle.texts.specs.Readings.{Read, bad, good, andThen, times, many}
 use Rattle.headings.specs.Lines.{behindLines, counted}
 use Rattle.headings.specs.Headings.{marks, inOrder, section}
-use Rattle.rows.specs.Projects.{Row, Project}
-use Rattle.rows.specs.Tables.{relation, Need, request}
+use Rattle.projects.specs.Projects.{Row, Project}
+use Rattle.projects.specs.Tables.{relation, Need, request}
 
 -- the jobs, one by one: successors from the relations, duration and demands from the requests
 unfoldable pub join : List (List ℕ) → List Need → List Row

@@ -7,5 +7,3 @@ pub mod Steps
 pub mod Checking
 pub mod Limits
 pub mod Parsing
-pub mod Exactly
-pub mod Cases

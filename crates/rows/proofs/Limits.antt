@@ -11,8 +11,8 @@ use Rattle.chains.specs.Paths.{Pair, Precedes, Below}
 use Rattle.texts.specs.Tokens.{Token, tokens}
 use Rattle.texts.specs.Readings.{bad, good, andThen, one, times, many, nothingMore}
 use Rattle.texts.proofs.Readings.{bad-not-good, good-same, then-good, one-takes, one-codes, many-takes, many-codes, times-takes, times-codes, each-within}
-use Rattle.rows.specs.Projects.{Row, Project, tagged, pairsFrom, durations, demandsOn, Within}
-use Rattle.rows.specs.Patterson.{row, Opening, opening, project, patterson}
+use Rattle.projects.specs.Projects.{Row, Project, tagged, pairsFrom, durations, demandsOn, Within}
+use Rattle.projects.specs.Patterson.{row, Opening, opening, project, patterson}
 use Rattle.rows.specs.Heads.{headIn, rowIn}
 use Rattle.rows.specs.declared.Table.the-variants.{Whole}
 use Rattle.rows.proofs.Takes.{OfText, low-code, then-codes, row-codes, Limited, row-takes}

@@ -12,9 +12,9 @@ use Rattle.joblist.specs.Limits.{mostTime, mostDemand}
 use Rattle.texts.specs.Tokens.{Token, tokens}
 use Rattle.texts.specs.Readings.{bad, good, one, exactly, times, many}
 use Rattle.texts.proofs.Readings.{ahead, ahead-nil, times-step, times-bad, times-done}
-use Rattle.rows.specs.Projects.{link}
-use Rattle.rows.specs.Patterson.{head}
-use Rattle.rows.specs.Tables.{numbered}
+use Rattle.projects.specs.Projects.{link}
+use Rattle.projects.specs.Patterson.{head}
+use Rattle.projects.specs.Tables.{numbered}
 use Rattle.rows.specs.Heads.{relationHead, requestHead, headIn}
 use Rattle.rows.specs.declared.Table.the-variants.{Whole, Relations, Requests}
 

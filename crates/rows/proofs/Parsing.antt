@@ -12,8 +12,8 @@ use Rattle.texts.specs.Tokens.{Token, tokens}
 use Rattle.texts.specs.Readings.{Read, bad, good, andThen, times}
 use Rattle.texts.specs.Scan.{none?}
 use Rattle.texts.proofs.Readings.{bad-not-good, good-one}
-use Rattle.rows.specs.Projects.{Row, Project, link, tagged, pairsFrom, pairsOf, durations, demandsOn, Within}
-use Rattle.rows.specs.Patterson.{row, opening, project, patterson}
+use Rattle.projects.specs.Projects.{Row, Project, link, tagged, pairsFrom, pairsOf, durations, demandsOn, Within}
+use Rattle.projects.specs.Patterson.{row, opening, project, patterson}
 use Rattle.rows.specs.Heads.{headIn, rowIn}
 use Rattle.rows.specs.Walk.{Seen, seeing, OpenSays, FoundSays}
 use Rattle.rows.specs.Parsed.{onlyPairs, Parsing, ParsedSays}

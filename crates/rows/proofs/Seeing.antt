@@ -9,7 +9,7 @@ use Rattle.chains.specs.Paths.{Pair, pair}
 use Rattle.texts.specs.Tokens.{Token}
 use Rattle.texts.specs.Readings.{Read, bad, good, andThen, times}
 use Rattle.texts.proofs.Readings.{times-any}
-use Rattle.rows.specs.Projects.{Row, Head, headed, link, tagged, pairsFrom, durations, demandsOn}
+use Rattle.projects.specs.Projects.{Row, Head, headed, link, tagged, pairsFrom, durations, demandsOn}
 use Rattle.rows.specs.Heads.{headIn, rowIn}
 use Rattle.rows.specs.Walk.{Seen, seeing, addPair, addRow}
 use Rattle.rows.specs.declared.Table.{Table}

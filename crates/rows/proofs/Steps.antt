@@ -8,7 +8,7 @@ use Rattle.lists.specs.Lists.{_!_}
 use Rattle.joblist.specs.Limits.{mostJobs}
 use Rattle.texts.specs.Tokens.{tokens}
 use Rattle.texts.specs.Readings.{bad, good}
-use Rattle.rows.specs.Projects.{Head, link}
+use Rattle.projects.specs.Projects.{Head, link}
 use Rattle.rows.specs.Heads.{headIn}
 use Rattle.rows.specs.Walk.{seeing, see, Fit, StepSays}
 use Rattle.rows.specs.declared.Table.{Table}

@@ -8,8 +8,8 @@ use Rattle.joblist.specs.Limits.{mostTime, mostDemand}
 use Rattle.texts.specs.Tokens.{Token}
 use Rattle.texts.specs.Readings.{Read, bad, good, andThen, one, times, many}
 use Rattle.texts.proofs.Readings.{said, times-said}
-use Rattle.rows.specs.Projects.{Row, Head, headed, link}
-use Rattle.rows.specs.Tables.{numbered, relation, Need, request}
+use Rattle.projects.specs.Projects.{Row, Head, headed, link}
+use Rattle.projects.specs.Tables.{numbered, relation, Need, request}
 use Rattle.rows.specs.Heads.{relationHead, requestHead, headIn, rowIn}
 use Rattle.rows.specs.declared.Table.the-variants.{Relations, Requests}
 use Rattle.rows.proofs.Takes.{OfText, Limited, row-takes, row-codes}

@@ -14,9 +14,9 @@ use Rattle.texts.specs.Tokens.{Token}
 use Rattle.texts.specs.Readings.{Read, bad, good, andThen, one, exactly, times, many}
 use Rattle.texts.proofs.Readings.{bad-not-good, good-same, then-good, then-bad, one-takes, one-codes, many-takes, many-codes, times-takes, times-codes}
 use Rattle.texts.proofs.Given.{exactly-takes, exactly-refused}
-use Rattle.rows.specs.Projects.{Row, Head, headed, link}
-use Rattle.rows.specs.Patterson.{head}
-use Rattle.rows.specs.Tables.{numbered}
+use Rattle.projects.specs.Projects.{Row, Head, headed, link}
+use Rattle.projects.specs.Patterson.{head}
+use Rattle.projects.specs.Tables.{numbered}
 use Rattle.rows.specs.Heads.{relationHead, requestHead, headIn, rowIn}
 use Rattle.rows.specs.declared.Table.{Table}
 use Rattle.rows.specs.declared.Table.the-variants.{Whole, Relations, Requests}

@@ -7,8 +7,8 @@ use Rattle.joblist.specs.Limits.{mostDemand, mostJobs, mostResources}
 use Rattle.texts.specs.Tokens.{Token}
 use Rattle.texts.specs.Readings.{Read, bad, good, andThen, one, times, many}
 use Rattle.texts.proofs.Readings.{bad-not-good}
-use Rattle.rows.specs.Projects.{Row, pairsFrom, durations, demandsOn}
-use Rattle.rows.specs.Patterson.{row, Opening, opening, project}
+use Rattle.projects.specs.Projects.{Row, pairsFrom, durations, demandsOn}
+use Rattle.projects.specs.Patterson.{row, Opening, opening, project}
 use Rattle.rows.specs.Heads.{rowIn}
 use Rattle.rows.specs.Walk.{Seen, seeing}
 use Rattle.rows.specs.declared.Table.{Table}

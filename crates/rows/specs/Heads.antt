@@ -4,9 +4,9 @@ use mathlib.Core.List.{List, []}
 use Rattle.joblist.specs.Limits.{mostTime, mostDemand}
 use Rattle.texts.specs.Tokens.{Token}
 use Rattle.texts.specs.Readings.{Read, good, andThen, one, many}
-use Rattle.rows.specs.Projects.{Row, Head, headed}
-use Rattle.rows.specs.Patterson.{head}
-use Rattle.rows.specs.Tables.{numbered}
+use Rattle.projects.specs.Projects.{Row, Head, headed}
+use Rattle.projects.specs.Patterson.{head}
+use Rattle.projects.specs.Tables.{numbered}
 use Rattle.rows.specs.declared.Table.{Table}
 use Rattle.rows.specs.declared.Table.the-variants.{Whole, Relations, Requests}
 

@@ -7,7 +7,7 @@ use Rattle.lists.specs.Lists.{_!_}
 use Rattle.chains.specs.Paths.{Pair}
 use Rattle.texts.specs.Tokens.{Token}
 use Rattle.texts.specs.Readings.{Read, bad, good}
-use Rattle.rows.specs.Projects.{Project, pairsOf, durations, demandsOn, Within}
+use Rattle.projects.specs.Projects.{Project, pairsOf, durations, demandsOn, Within}
 use Rattle.rows.specs.Walk.{Seen, see}
 use Rattle.rows.specs.declared.Table.{Table}
 use Rattle.rows.specs.declared.Walk.{Walk}

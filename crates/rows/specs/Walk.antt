@@ -11,8 +11,8 @@ use Rattle.texts.specs.Tokens.{Token, tokens}
 use Rattle.texts.specs.Readings.{Read, bad, good, andThen, one, times}
 use Rattle.texts.specs.declared.Got.{Got}
 use Rattle.texts.specs.declared.Got.the-variants.{Good, Bad}
-use Rattle.rows.specs.Projects.{Head, link, tagged, pairsFrom, durations, demandsOn}
-use Rattle.rows.specs.Patterson.{head, Opening}
+use Rattle.projects.specs.Projects.{Head, link, tagged, pairsFrom, durations, demandsOn}
+use Rattle.projects.specs.Patterson.{head, Opening}
 use Rattle.rows.specs.declared.Table.{Table}
 use Rattle.rows.specs.Heads.{rowIn}
 use Rattle.rows.specs.declared.parts.HeadGot.{HeadGot}

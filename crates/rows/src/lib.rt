@@ -15,7 +15,7 @@ ghost use lib.ListN.{length, drop};
 ghost use Rattle.lists.specs.Lists.{_!_};
 ghost use Rattle.joblist.specs.Limits.{mostTime, mostJobs};
 ghost use Rattle.texts.specs.Tokens.{tokens};
-ghost use Rattle.rows.specs.Patterson.{patterson};
+ghost use Rattle.projects.specs.Patterson.{patterson};
 ghost use Rattle.rows.specs.Walk.{Fit, StepSays, FoundSays, seeing};
 ghost use Rattle.rows.specs.Parsed.{ParsedSays};
 

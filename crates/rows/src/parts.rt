@@ -10,9 +10,9 @@ ghost use Rattle.joblist.specs.Limits.{mostJobs};
 ghost use Rattle.texts.specs.Tokens.{tokens};
 ghost use Rattle.texts.specs.Readings.{many};
 ghost use Rattle.texts.specs.Scan.{GotSays};
-ghost use Rattle.rows.specs.Projects.{link};
-ghost use Rattle.rows.specs.Patterson.{head, opening};
-ghost use Rattle.rows.specs.Tables.{numbered};
+ghost use Rattle.projects.specs.Projects.{link};
+ghost use Rattle.projects.specs.Patterson.{head, opening};
+ghost use Rattle.projects.specs.Tables.{numbered};
 ghost use Rattle.rows.specs.Heads.{relationHead, requestHead, headIn};
 ghost use Rattle.rows.specs.Walk.{PickSays, HeadSays, OpenSays};
 

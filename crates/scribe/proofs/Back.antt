@@ -11,8 +11,8 @@ use Rattle.joblist.specs.Limits.{mostTime, mostDemand, mostJobs, mostResources}
 use Rattle.texts.specs.Tokens.{blank, Token, number, tokens, runs}
 use Rattle.texts.specs.Readings.{Read, good, andThen, one, times, many}
 use Rattle.texts.proofs.Runs.{tokens-run, tokens-over}
-use Rattle.rows.specs.Projects.{Row, Project, link}
-use Rattle.rows.specs.Patterson.{head, row, project, patterson}
+use Rattle.projects.specs.Projects.{Row, Project, link}
+use Rattle.projects.specs.Patterson.{head, row, project, patterson}
 use Rattle.rows.proofs.Whole.{opening-good, project-good}
 use Rattle.scribe.specs.Form.{decimal, lineOf, numbers, jobLines, written}
 use Rattle.scribe.proofs.Writable.{WritableRow, Writable}

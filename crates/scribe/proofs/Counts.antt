@@ -10,7 +10,7 @@ use Rattle.lists.specs.Lists.{_!_, Every}
 use Rattle.joblist.specs.Limits.{mostJobs}
 use Rattle.chains.specs.Paths.{Pair}
 use Rattle.chains.specs.Listed.{paired}
-use Rattle.rows.specs.Projects.{Project, tagged, pairsFrom}
+use Rattle.projects.specs.Projects.{Project, tagged, pairsFrom}
 use Rattle.texts.specs.Scan.{held}
 use Rattle.scribe.specs.Form.{decimal, lineOf, jobLines, written}
 use Rattle.scribe.specs.Made.{successorsOf, rowsFrom, made}

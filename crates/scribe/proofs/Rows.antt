@@ -12,8 +12,8 @@ use Rattle.lists.specs.Lists.{Every}
 use Rattle.joblist.specs.Limits.{mostTime, mostDemand, mostJobs}
 use Rattle.chains.specs.Paths.{Pair, pair}
 use Rattle.chains.specs.Listed.{paired, Rising}
-use Rattle.rows.specs.Projects.{tagged, pairsFrom, pairsOf, durations, demandsOn}
-use Rattle.rows.specs.Patterson.{patterson}
+use Rattle.projects.specs.Projects.{tagged, pairsFrom, pairsOf, durations, demandsOn}
+use Rattle.projects.specs.Patterson.{patterson}
 use Rattle.texts.specs.Readings.{good}
 use Rattle.scribe.specs.Form.{written}
 use Rattle.scribe.specs.Made.{successorsOf, rowsFrom, made}

@@ -4,7 +4,7 @@ use mathlib.Core.Path.{_≡_}
 use lib.ListN.{length}
 use Rattle.lists.specs.Lists.{Every}
 use Rattle.joblist.specs.Limits.{mostTime, mostDemand, mostJobs, mostResources}
-use Rattle.rows.specs.Projects.{Row, Project}
+use Rattle.projects.specs.Projects.{Row, Project}
 
 -- a job of n jobs on k resources
 pub record WritableRow (n k : ℕ) (r : Row) : Type 0 where

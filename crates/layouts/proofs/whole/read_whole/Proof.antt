@@ -5,7 +5,7 @@ use native.Mathlib.Omega.{arith}
 use borrow.Author.Needs.{needs}
 use borrow.Author.Tests.{not-true, not-false}
 use Rattle.texts.proofs.Readings.{good-same}
-use Rattle.rows.specs.Projects.{Within}
+use Rattle.projects.specs.Projects.{Within}
 use Rattle.rows.proofs.Parsing.{parsing-range, parsing-few}
 use Rattle.layouts.proofs.Answering.{no-resource, no-room, no-order, taken}
 use Rattle.exchange.proofs.Meaning.{reads-of}

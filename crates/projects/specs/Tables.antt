@@ -5,7 +5,7 @@ use mathlib.Core.List.{List}
 use Rattle.joblist.specs.Limits.{mostTime, mostDemand}
 use Rattle.texts.specs.Tokens.{Token}
 use Rattle.texts.specs.Readings.{Read, good, andThen, one, exactly, times, many}
-use Rattle.rows.specs.Projects.{link}
+use Rattle.projects.specs.Projects.{link}
 
 -- the number of job j, then a mode or a mode count
 unfoldable pub numbered : ℕ → List Token → Read ℕ

@@ -5,7 +5,7 @@ use mathlib.Core.List.{List}
 use Rattle.joblist.specs.Limits.{mostTime, mostDemand, mostJobs, mostResources}
 use Rattle.texts.specs.Tokens.{Token, tokens}
 use Rattle.texts.specs.Readings.{Read, good, andThen, one, times, many, nothingMore}
-use Rattle.rows.specs.Projects.{Row, Project, Head, headed}
+use Rattle.projects.specs.Projects.{Row, Project, Head, headed}
 
 -- a job's row up to its successors: duration, a demand for each of k resources, how many successors (no more than the n jobs)
 unfoldable pub head : ℕ → ℕ → List Token → Read Head

@@ -3,7 +3,7 @@
 use mathlib.Core.Path.{_≡_, refl}
 use mathlib.Core.List.{[], _∷_}
 use Rattle.texts.specs.Readings.{bad, good}
-use Rattle.rows.specs.Patterson.{patterson}
+use Rattle.projects.specs.Patterson.{patterson}
 
 -- two jobs, 0 before 1, with leading zeros and every kind of blank: ` 2\t1\n5\r\n3 1 1 2\n04 2 0`
 pub two-jobs : patterson (32 ∷ 50 ∷ 9 ∷ 49 ∷ 10 ∷ 53 ∷ 13 ∷ 10 ∷ 51 ∷ 32 ∷ 49 ∷ 32 ∷ 49 ∷ 32 ∷ 50 ∷ 10 ∷ 48 ∷ 52 ∷ 32 ∷ 50 ∷ 32 ∷ 48 ∷ []) ≡ good (record { capacities = 5 ∷ []; rows = record { duration = 3; demands = 1 ∷ []; successors = 1 ∷ [] } ∷ record { duration = 4; demands = 2 ∷ []; successors = [] } ∷ [] }) []

@@ -14,9 +14,9 @@ use Rattle.texts.specs.Readings.{bad, good, one, exactly, times, many}
 use Rattle.texts.proofs.Readings.{bad-not-good}
 use Rattle.texts.proofs.Exactly.{NoNumber, NumberThat, OneRefused, one-refused, one-read, then-refused, First, first-refused, first-within, last-refused, over-refused, Behind, times-refused, ManyRefused, many-refused}
 use Rattle.texts.proofs.Given.{ExactlyRefused, exactly-refused}
-use Rattle.rows.specs.Tables.{numbered, relation, request}
-use Rattle.rows.specs.Projects.{link}
-use Rattle.rows.specs.Patterson.{row, opening, patterson}
+use Rattle.projects.specs.Tables.{numbered, relation, request}
+use Rattle.projects.specs.Projects.{link}
+use Rattle.projects.specs.Patterson.{row, opening, patterson}
 
 -- ---- a successor: 30 where no number stands, 32 where it is 0 or above n
 

@@ -1,0 +1,3 @@
+pub mod Projects
+pub mod Patterson
+pub mod Tables
