@@ -9,9 +9,9 @@ use Rattle.joblist.specs.Limits.{mostTime}
 use Rattle.chains.specs.Paths.{Cycle}
 use Rattle.texts.specs.Tokens.{Token}
 use Rattle.texts.specs.Readings.{Read, bad, good}
-use Rattle.projects.specs.Projects.{Project, pairsOf}
+use Rattle.projects.specs.Projects.{Project}
 use Rattle.exchange.specs.Calls.{Lent, TextCall, Order}
-use Rattle.exchange.specs.Tests.{Fitting, Misfit, Fits, Unfit, TooLong, Unless, None, Tested, Met, Refusal}
+use Rattle.exchange.specs.Tests.{Fitting, Misfit, Fits, TooLong, Unless, None, Tested, Met, Refusal}
 
 -- ---- one number alone
 
@@ -36,20 +36,12 @@ fits-apart n m e l d q j s f (inr (inr (inr (inl g)))) = g (f .dem)
 fits-apart n m e l d q j s f (inr (inr (inr (inr (inl g))))) = omega (arith, f .jobs)
 fits-apart n m e l d q j s f (inr (inr (inr (inr (inr g))))) = omega (arith, f .successors)
 
-module _ (x : Project) (resource horizon : ℕ) (L : Lent) where
-  abbrev Behind-33 : ℕ → Type 0
-  Behind-33 = Unless 34 (TooLong x horizon → ⊥) (TooLong x horizon) None
-
-  abbrev Behind-38 : ℕ → Type 0
-  Behind-38 = Unless 33 (Cycle (Order x) → ⊥) (Cycle (Order x)) Behind-33
-
-  tested-alone : Alone (Tested x resource horizon L)
-  tested-alone =
-      unless-alone 37 (resource < length (x .capacities)) (length (x .capacities) ≤ resource) (Unless 38 (Fits x L) (Unfit x L) Behind-38) (λ f g. omega arith)
-      (unless-alone 38 (Fits x L) (Unfit x L) Behind-38
-      (fits-apart (length (x .rows)) (length (pairsOf x)) (length (L .est)) (length (L .lct)) (length (L .dur)) (length (L .dem)) (length (L .jobs)) (length (L .successors)))
-      (unless-alone 33 (Cycle (Order x) → ⊥) (Cycle (Order x)) Behind-33 (λ f g. f g)
-      (unless-alone 34 (TooLong x horizon → ⊥) (TooLong x horizon) None (λ f g. f g) none-alone)))
+tested-alone : (x : Project) (resource horizon : ℕ) (L : Lent) → Alone (Tested x resource horizon L)
+tested-alone x resource horizon L =
+    unless-alone _ _ _ _ (λ f g. omega arith)
+    (unless-alone _ _ _ _ (fits-apart _ _ _ _ _ _ _ _)
+    (unless-alone _ _ _ _ (λ f g. f g)
+    (unless-alone _ _ _ _ (λ f g. f g) none-alone)))
 
 met-alone : (r : Read Project) (resource horizon : ℕ) (L : Lent) → Alone (Met r resource horizon L)
 met-alone (bad d) resource horizon L = λ a b p q. p ∙ sym q

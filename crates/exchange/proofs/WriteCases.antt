@@ -15,8 +15,8 @@ use Rattle.chains.specs.Paths.{Precedes, Cycle}
 use Rattle.chains.specs.Listed.{paired, InRange, Rising}
 use Rattle.chains.proofs.Cycles.{judged-acyclic}
 use Rattle.chains.proofs.Listed.{paired-below}
-use Rattle.scribe.specs.Form.{written}
-use Rattle.scribe.specs.Made.{rowsFrom}
+use Rattle.projects.specs.Form.{written}
+use Rattle.projects.specs.Made.{rowsFrom}
 use Rattle.exchange.specs.Write.{WriteCall, WriteAfter, columns, alone, PairsTested, writeLeaves, Writes}
 use Rattle.exchange.proofs.WriteTests.{write-answered-one, behind-lists, by-lists}
 

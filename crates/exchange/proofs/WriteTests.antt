@@ -1,22 +1,18 @@
 -- The writer's tests in facts: a call meets one of them alone; two results are equal; and an answer is given exactly when the table says so.
-use Prim.Native.Nat.{ℕ, zero, suc, _≤_, _<_}
+use Prim.Native.Nat.{ℕ, zero, suc}
 use native.Mathlib.Omega.{arith}
 use mathlib.Core.Path.{_≡_, refl, sym, ap, _∙_, subst}
-use mathlib.Core.List.{List, [], _∷_, _++_}
+use mathlib.Core.List.{List, [], _∷_}
 use mathlib.Core.Logic.{inl, inr, _↔_}
 use lib.ListN.{length}
-use Rattle.lists.specs.Lists.{_!_, Every}
+use Rattle.lists.specs.Lists.{_!_}
 use Rattle.answers.specs.Said.{Word, Said, said, saysWrite}
 use Rattle.answers.specs.declared.WriteAnswer.{WriteAnswer}
 use Rattle.answers.proofs.Same.{not-said, said-apart, write-same}
-use Rattle.joblist.specs.Limits.{mostJobs}
-use Rattle.joblist.specs.GoodList.{Sized, Within, Any, Above, Unequal, GoodList, Given, refusal}
+use Rattle.joblist.specs.GoodList.{GoodList, Given, refusal}
 use Rattle.joblist.proofs.Refusals.{sized-judged, limits-judged, refusal-exactly}
-use Rattle.chains.specs.Paths.{Precedes, Cycle}
-use Rattle.chains.specs.Listed.{Rising, NotRising}
 use Rattle.chains.proofs.Listed.{rising-one}
-use Rattle.exchange.specs.Tests.{Unless, None}
-use Rattle.exchange.specs.Write.{WriteCall, WriteAfter, pairsIn, textOf, columns, alone, PairsTested, WriteRefusal, writeLeaves, WriteAnswered, Writes}
+use Rattle.exchange.specs.Write.{WriteCall, WriteAfter, columns, alone, PairsTested, WriteRefusal, writeLeaves, WriteAnswered, Writes}
 use Rattle.exchange.proofs.Tests.{Alone, unless-alone, none-alone}
 
 -- ---- one number alone
@@ -25,27 +21,18 @@ module _ (c : WriteCall) where
   abbrev n : ℕ
   n = length (c .dur)
 
-  abbrev Fits : Type 0
-  Fits = length (textOf c) ≤ length (c .buffer)
-
-  abbrev Short : Type 0
-  Short = length (c .buffer) < length (textOf c)
-
-  abbrev Behind-32 : ℕ → Type 0
-  Behind-32 = Unless 33 (Cycle (Precedes (pairsIn c)) → ⊥) (Cycle (Precedes (pairsIn c))) (Unless 36 Fits Short None)
-
   pairs-alone : Alone (PairsTested c)
   pairs-alone =
-      unless-alone 1 (length (c .successors) ≡ length (c .jobs)) (length (c .successors) ≡ length (c .jobs) → ⊥) (Unless 32 (Rising n (c .jobs) (c .successors)) (NotRising n (c .jobs) (c .successors)) Behind-32) (λ f g. g f)
-      (unless-alone 32 (Rising n (c .jobs) (c .successors)) (NotRising n (c .jobs) (c .successors)) Behind-32 (rising-one n (c .jobs) (c .successors))
-      (unless-alone 33 (Cycle (Precedes (pairsIn c)) → ⊥) (Cycle (Precedes (pairsIn c))) (Unless 36 Fits Short None) (λ f g. f g)
-      (unless-alone 36 Fits Short None (λ f g. omega arith) none-alone)))
+      unless-alone _ _ _ _ (λ f g. g f)
+      (unless-alone _ _ _ _ (rising-one n (c .jobs) (c .successors))
+      (unless-alone _ _ _ _ (λ f g. f g)
+      (unless-alone _ _ _ _ (λ f g. omega arith) none-alone)))
 
   pub write-refusal-one : (j k : ℕ) → WriteRefusal c j → WriteRefusal c k → j ≡ k
   write-refusal-one =
-      unless-alone 1 (Every (Sized n) (columns c)) (Unequal n (columns c)) (Unless 2 (n ≤ mostJobs) (mostJobs < n) (Unless 3 (Every Within (columns c) × Every Within (alone c)) (Any Above (columns c ++ alone c)) (PairsTested c))) (sized-judged n (columns c) .apart)
-      (unless-alone 2 (n ≤ mostJobs) (mostJobs < n) (Unless 3 (Every Within (columns c) × Every Within (alone c)) (Any Above (columns c ++ alone c)) (PairsTested c)) (λ f g. omega arith)
-      (unless-alone 3 (Every Within (columns c) × Every Within (alone c)) (Any Above (columns c ++ alone c)) (PairsTested c) (limits-judged (columns c) (alone c) .apart) pairs-alone))
+      unless-alone _ _ _ _ (sized-judged n (columns c) .apart)
+      (unless-alone _ _ _ _ (λ f g. omega arith)
+      (unless-alone _ _ _ _ (limits-judged (columns c) (alone c) .apart) pairs-alone))
 
   -- ---- from the tests of the lists
 

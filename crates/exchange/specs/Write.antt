@@ -12,8 +12,8 @@ use Rattle.chains.specs.Listed.{paired, Rising, NotRising}
 use Rattle.texts.specs.Readings.{good}
 use Rattle.projects.specs.Projects.{Project, pairsOf, durations, demandsOn}
 use Rattle.projects.specs.Patterson.{patterson}
-use Rattle.scribe.specs.Form.{written}
-use Rattle.scribe.specs.Made.{made}
+use Rattle.projects.specs.Form.{written}
+use Rattle.projects.specs.Made.{made}
 use Rattle.exchange.specs.Calls.{Lent, TextCall, TextAfter}
 use Rattle.exchange.specs.Tests.{Fitting, Unless, None}
 use Rattle.exchange.specs.Promise.{Reads}

@@ -12,8 +12,8 @@ use Rattle.chains.specs.Paths.{Pair}
 use Rattle.chains.specs.Listed.{paired}
 use Rattle.projects.specs.Projects.{Project, tagged, pairsFrom}
 use Rattle.texts.specs.Scan.{held}
-use Rattle.scribe.specs.Form.{decimal, lineOf, jobLines, written}
-use Rattle.scribe.specs.Made.{successorsOf, rowsFrom, made}
+use Rattle.projects.specs.Form.{decimal, lineOf, jobLines, written}
+use Rattle.projects.specs.Made.{successorsOf, rowsFrom, made}
 use Rattle.scribe.specs.Says.{mostBytes, Put, Room}
 use Rattle.scribe.specs.Writing.{Ready, Ran}
 use Rattle.scribe.proofs.Decimals.{decimal-32}

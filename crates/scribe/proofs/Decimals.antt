@@ -11,7 +11,7 @@ use Rattle.lists.specs.Lists.{Every}
 use Rattle.texts.specs.Scan.{held}
 use Rattle.texts.specs.Tokens.{blank, digit, number, more, tokenFrom, token}
 use Rattle.texts.proofs.Runs.{Solid, token-append}
-use Rattle.scribe.specs.Form.{decimalIn, decimal}
+use Rattle.projects.specs.Form.{decimalIn, decimal}
 
 -- more room than is needed changes nothing
 enough : (m k v : ℕ) → v < m → v < k → decimalIn m v ≡ decimalIn k v

@@ -1,4 +1,3 @@
-pub mod Cases
 pub mod Writable
 pub mod Decimals
 pub mod Back

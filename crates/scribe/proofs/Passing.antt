@@ -12,8 +12,8 @@ use lib.Seq.{slice, length-slice, drop-cons}
 use Rattle.lists.specs.Lists.{_!_}
 use Rattle.chains.specs.Paths.{Pair}
 use Rattle.chains.specs.Listed.{InOrder, paired, Rising}
-use Rattle.scribe.specs.Form.{lineOf, jobLines}
-use Rattle.scribe.specs.Made.{successorsOf, rowsFrom}
+use Rattle.projects.specs.Form.{lineOf, jobLines}
+use Rattle.projects.specs.Made.{successorsOf, rowsFrom}
 use Rattle.scribe.specs.Says.{RunEnds, fromOne, Stretch}
 use Rattle.scribe.specs.Writing.{Ready}
 use Rattle.scribe.proofs.Pairs.{rising-few}

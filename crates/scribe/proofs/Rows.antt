@@ -15,8 +15,8 @@ use Rattle.chains.specs.Listed.{paired, Rising}
 use Rattle.projects.specs.Projects.{tagged, pairsFrom, pairsOf, durations, demandsOn}
 use Rattle.projects.specs.Patterson.{patterson}
 use Rattle.texts.specs.Readings.{good}
-use Rattle.scribe.specs.Form.{written}
-use Rattle.scribe.specs.Made.{successorsOf, rowsFrom, made}
+use Rattle.projects.specs.Form.{written}
+use Rattle.projects.specs.Made.{successorsOf, rowsFrom, made}
 use Rattle.scribe.proofs.Writable.{WritableRow, Writable}
 use Rattle.scribe.proofs.Back.{read-back}
 use Rattle.lists.proofs.Every.{every-map, Climbs, climb-few}

@@ -11,8 +11,8 @@ use lib.Seq.{slice, slice-cons, drop-nil, length-take-le}
 use borrow.Author.Tests.{ltb-true, ltb-false, eq-eqb, ne-eqb}
 use Rattle.lists.specs.Lists.{_!_}
 use Rattle.chains.specs.Listed.{paired}
-use Rattle.scribe.specs.Form.{decimal, lineOf}
-use Rattle.scribe.specs.Made.{successorsOf}
+use Rattle.projects.specs.Form.{decimal, lineOf}
+use Rattle.projects.specs.Made.{successorsOf}
 use Rattle.scribe.specs.Says.{Marked, restOf, fromOne}
 use Rattle.scribe.proofs.Puts.{Parts}
 

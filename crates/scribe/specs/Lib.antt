@@ -1,4 +1,2 @@
-pub mod Form
-pub mod Made
 pub mod Writing
 pub mod Says

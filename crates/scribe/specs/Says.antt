@@ -9,7 +9,7 @@ use lib.ListN.{length, take, drop}
 use lib.Seq.{slice}
 use Rattle.lists.specs.Lists.{_!_}
 use Rattle.joblist.specs.Limits.{mostJobs}
-use Rattle.scribe.specs.Form.{lineOf}
+use Rattle.projects.specs.Form.{lineOf}
 
 -- no text that we write has more bytes than this: eleven at most for a number and the byte behind it (proofs/Counts.antt)
 abbrev pub mostBytes : ℕ

@@ -8,7 +8,7 @@ use lib.ListN.{length, drop}
 use Rattle.joblist.specs.Limits.{mostJobs}
 use Rattle.chains.specs.Listed.{Rising}
 use Rattle.projects.specs.Projects.{Project}
-use Rattle.scribe.specs.Form.{written}
+use Rattle.projects.specs.Form.{written}
 use Rattle.scribe.specs.declared.Outcome.{Outcome}
 use Rattle.scribe.specs.declared.Outcome.the-variants.{Wrote, Short}
 

@@ -4,8 +4,8 @@ ghost use mathlib.Core.List.{_∷_};
 ghost use Prim.Native.Nat.{_-_, _≤_};
 ghost use lib.ListN.{length};
 ghost use Rattle.chains.specs.Listed.{paired};
-ghost use Rattle.scribe.specs.Form.{lineOf, jobLines};
-ghost use Rattle.scribe.specs.Made.{rowsFrom};
+ghost use Rattle.projects.specs.Form.{lineOf, jobLines};
+ghost use Rattle.projects.specs.Made.{rowsFrom};
 ghost use Rattle.scribe.specs.Says.{Room, Put, RunEnds, Marked, restOf, fromOne, Stretch};
 ghost use Rattle.scribe.specs.Writing.{Ready};
 

@@ -9,8 +9,8 @@ ghost use mathlib.Core.Bool.{false};
 ghost use Prim.Native.Nat.{_≤_};
 ghost use lib.ListN.{length};
 ghost use Rattle.chains.specs.Listed.{paired};
-ghost use Rattle.scribe.specs.Form.{written};
-ghost use Rattle.scribe.specs.Made.{made};
+ghost use Rattle.projects.specs.Form.{written};
+ghost use Rattle.projects.specs.Made.{made};
 ghost use Rattle.scribe.specs.Writing.{Ready, Ran, OutcomeSays};
 
 // The number of bytes written; or the buffer is too short for them.

@@ -1,6 +1,6 @@
 // Bytes and numbers put into the buffer one after the other. A dry run writes none and counts them all.
 ghost use mathlib.Core.List.{[], _∷_, _++_};
-ghost use Rattle.scribe.specs.Form.{decimal};
+ghost use Rattle.projects.specs.Form.{decimal};
 ghost use Rattle.scribe.specs.Says.{Room, Put};
 
 // One byte.

@@ -2,8 +2,8 @@
 use native.Mathlib.Omega.{arith}
 use borrow.Author.Needs.{needs}
 use Rattle.chains.specs.Listed.{paired}
-use Rattle.scribe.specs.Form.{written}
-use Rattle.scribe.specs.Made.{made}
+use Rattle.projects.specs.Form.{written}
+use Rattle.projects.specs.Made.{made}
 use Rattle.scribe.specs.Says.{Room}
 use Rattle.scribe.proofs.Puts.{room-same, first-room, second-room, third-room, fourth-room, all-put}
 use Rattle.scribe.proofs.Steps.{number-same}

@@ -6,8 +6,8 @@ use mathlib.Core.Path.{_≡_, _∙_}
 use lib.ListN.{length, drop}
 use borrow.Author.Needs.{needs}
 use Rattle.chains.specs.Listed.{paired}
-use Rattle.scribe.specs.Form.{jobLines}
-use Rattle.scribe.specs.Made.{rowsFrom}
+use Rattle.projects.specs.Form.{jobLines}
+use Rattle.projects.specs.Made.{rowsFrom}
 use Rattle.scribe.proofs.Puts.{room-same, Going, going-start, going-room, going-step, going-end}
 use Rattle.scribe.proofs.Steps.{job-same}
 use Rattle.scribe.proofs.Passing.{Passed, passed-start, passed-step, stretch, lines-step, lines-end}

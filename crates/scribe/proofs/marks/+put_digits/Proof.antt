@@ -6,7 +6,7 @@ use mathlib.Core.List.{[], _∷_}
 use borrow.Author.Needs.{needs}
 use borrow.Fn.Kinds.{In}
 use borrow.Fn.PlainCycle.{Measures, is, falls, and}
-use Rattle.scribe.specs.Form.{decimal}
+use Rattle.projects.specs.Form.{decimal}
 use Rattle.scribe.proofs.Decimals.{decimal-one, decimal-more}
 use Rattle.scribe.proofs.Puts.{room-same, room-front, room-back, put-then}
 use Rattle.scribe.proofs.marks.put_digits.Reads as put-digits

@@ -2,8 +2,8 @@
 use mathlib.Core.Path.{_≡_, refl}
 use mathlib.Core.List.{[], _∷_}
 use Rattle.chains.specs.Listed.{paired}
-use Rattle.scribe.specs.Form.{decimal, written}
-use Rattle.scribe.specs.Made.{rowsFrom, made}
+use Rattle.projects.specs.Form.{decimal, written}
+use Rattle.projects.specs.Made.{rowsFrom, made}
 
 -- `0`
 pub zero-written : decimal 0 ≡ 48 ∷ []
