@@ -4,7 +4,7 @@
 pub use journal::show_record;
 pub use layouts::read_patterson;
 pub use layouts::read_psplib;
-pub use layouts::write_patterson;
 pub use planner::narrow;
 pub use readhead::overload;
 pub use replay::check_log;
+pub use writing::write_patterson;

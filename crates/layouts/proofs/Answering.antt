@@ -20,7 +20,7 @@ use Rattle.order.specs.Chains.{OrderSays}
 use Rattle.exchange.specs.Calls.{Lent, Order, durationOf}
 use Rattle.exchange.specs.Tests.{Fitting, Misfit, Fits, Unfit}
 use Rattle.exchange.specs.Table.{Answered}
-use Rattle.layouts.specs.Parts.{Lessened, Wrote}
+use Rattle.lent.specs.Parts.{Lessened, Wrote}
 use Rattle.exchange.proofs.Tests.{none-tested, refusal-of}
 use Rattle.exchange.proofs.Asked.{asked, refused, answer}
 

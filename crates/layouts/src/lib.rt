@@ -1,13 +1,9 @@
-// Project texts (document 02, Items 1 and 13). The readers make a job list and its precedence pairs of a partner's text; they differ in their layouts
-// alone. The writer (`write`) makes a text of them.
-mod fill;
-mod parts;
+// Project texts read (document 02, Items 1 and 13): a job list and its precedence pairs are made of a partner's text. The readers differ in their layouts
+// alone.
 mod whole;
-mod write;
 
 use answers::ReadAnswer;
 use whole::read_parsed;
-pub use write::write_patterson;
 ghost use Rattle.answers.specs.Said.{saysRead};
 ghost use Rattle.projects.specs.Patterson.{patterson};
 ghost use Rattle.psplib.specs.Psplib.{psplib};

@@ -2,9 +2,6 @@
 //
 // Every refusal is decided before a lent word is written: durations, demands and chains stand in local arrays first. The pairs are not stored: chains are
 // found, and pairs written, by reading the text again (docs/DECISIONS.md says why).
-use crate::fill::latest;
-use crate::fill::write_pairs;
-use crate::parts::roomy;
 use answers::ReadAnswer;
 use rows::Parsed;
 use rows::Shape;
@@ -86,7 +83,7 @@ fn read_whole(
     if z.k <= resource {
         return ReadAnswer::Refused(37);
     }
-    if !roomy(
+    if !lent::roomy(
         est.len(),
         lct.len(),
         dur.len(),
@@ -105,9 +102,9 @@ fn read_whole(
         return ReadAnswer::Refused(c);
     }
     windows::restore(&heads, est);
-    latest(&tails, horizon, lct);
+    lent::latest(&tails, horizon, lct);
     windows::restore(d, dur);
     windows::restore(q, dem);
-    write_pairs(text, z.n, table, z.at, jobs, successors);
+    lent::write_pairs(text, z.n, table, z.at, jobs, successors);
     ReadAnswer::Read(z.cap, z.pairs)
 }

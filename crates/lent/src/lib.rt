@@ -1,4 +1,4 @@
-// The lent lists filled: latest ends, and the pairs.
+// The lists that a reader of project texts is lent (document 02, Item 1): whether their lengths fit, the latest ends, and the pairs.
 use order::Pull;
 use rows::Table;
 use rows::Walk;
@@ -8,7 +8,33 @@ ghost use lib.ListN.{length};
 ghost use Rattle.lists.specs.Lists.{_!_};
 ghost use Rattle.joblist.specs.Limits.{mostJobs};
 ghost use Rattle.rows.specs.Parsed.{comes, first};
-ghost use Rattle.layouts.specs.Parts.{Lessened, Roomy, Wrote};
+ghost use Rattle.lent.specs.Parts.{RoomSays, Lessened, Roomy, Wrote};
+
+// Whether the lengths of the six lists are those wanted for n jobs and m pairs.
+pub fn roomy(e: usize, l: usize, d: usize, q: usize, j: usize, s: usize, n: u32, m: usize) -> bool
+    ensures { λ r. ⌜ RoomSays e l d q j s n m r ⌝ }
+{
+    let jobs = n as usize;
+    if e != jobs {
+        return false;
+    }
+    if l != jobs {
+        return false;
+    }
+    if d != jobs {
+        return false;
+    }
+    if q != jobs {
+        return false;
+    }
+    if j < m {
+        return false;
+    }
+    if s < m {
+        return false;
+    }
+    true
+}
 
 // The horizon less each chain.
 pub fn latest(tails: &[u32; screen::MOST_JOBS], h: u32, to: &mut [u32])

@@ -1,4 +1,4 @@
--- `layouts::write_patterson` meets its contract: each test in its order, and the text where none fails.
+-- `writing::write_patterson` meets its contract: each test in its order, and the text where none fails.
 use borrow.Author.Needs.{needs}
 use Prim.Native.Nat.{_≤_}
 use mathlib.Core.Path.{sym, _∙_}
@@ -7,8 +7,8 @@ use borrow.Author.Tests.{not-true, not-false}
 use Rattle.joblist.specs.Limits.{mostJobs}
 use Rattle.joblist.proofs.Refusals.{good}
 use Rattle.exchange.proofs.WriteBack.{lists-refused, pairs-uneven, not-rising, cyclic, too-short, wrote}
-use Rattle.layouts.proofs.write.write_patterson.Statement.{statement}
-use Rattle.layouts.proofs.write.write_patterson.Tie as tie
+use Rattle.writing.proofs.write_patterson.Statement.{statement}
+use Rattle.writing.proofs.write_patterson.Tie as tie
 
 refusal-of-two-requires : tie.Need-refusal-of-two-requires
 refusal-of-two-requires c κs = search needs

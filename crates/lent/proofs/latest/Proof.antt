@@ -1,13 +1,13 @@
--- `layouts::latest` meets its contract: the first i places are made.
+-- `lent::latest` meets its contract: the first i places are made.
 use Prim.Native.Nat.{ℕ, _≤_, _<_, _+_, _-_}
 use mathlib.Core.Path.{_≡_, refl}
 use native.Mathlib.Omega.{arith}
 use borrow.Author.Needs.{needs}
 use lib.ListN.{length, length-set}
 use Rattle.lists.specs.Lists.{_!_}
-use Rattle.layouts.proofs.Filling.{each-step}
-use Rattle.layouts.proofs.fill.latest.Statement.{statement}
-use Rattle.layouts.proofs.fill.latest.Tie as tie
+use Rattle.lent.proofs.Filling.{each-step}
+use Rattle.lent.proofs.latest.Statement.{statement}
+use Rattle.lent.proofs.latest.Tie as tie
 
 abbrev Inv-loop : tie.InvT-loop
 Inv-loop tails h to₀ i₀ to i = (i ≤ length to₀) × (length to ≡ length to₀) × ((j : ℕ) → j < i → to ! j + tails ! j ≡ h)

@@ -17,7 +17,7 @@ use Rattle.rows.specs.Walk.{Fit}
 use Rattle.rows.specs.Parsed.{comes, first}
 use Rattle.order.specs.Pairs.{PullSays}
 use Rattle.order.specs.declared.Pull.the-variants.{Next, NoMore}
-use Rattle.layouts.specs.Parts.{Wrote}
+use Rattle.lent.specs.Parts.{Wrote}
 
 map-snoc : (f : Pair → ℕ) (done : List Pair) (p : Pair) (l : List ℕ) → map f (done ++ p ∷ []) ++ l ≡ map f done ++ f p ∷ l
 map-snoc f [] p l = refl

@@ -1,12 +1,12 @@
--- `layouts::write_pairs` meets its contract: i pairs are written, in text order, and the others still come; so there is room for each that comes.
+-- `lent::write_pairs` meets its contract: i pairs are written, in text order, and the others still come; so there is room for each that comes.
 use Prim.Native.Nat.{_<_}
 use native.Mathlib.Omega.{arith}
 use borrow.Author.Needs.{needs}
 use lib.ListN.{length, drop}
 use Rattle.texts.specs.Tokens.{tokens}
-use Rattle.layouts.proofs.Filling.{Writing, writing-start, writing-step, writing-end, more-left}
-use Rattle.layouts.proofs.fill.write_pairs.Statement.{statement}
-use Rattle.layouts.proofs.fill.write_pairs.Tie as tie
+use Rattle.lent.proofs.Filling.{Writing, writing-start, writing-step, writing-end, more-left}
+use Rattle.lent.proofs.write_pairs.Statement.{statement}
+use Rattle.lent.proofs.write_pairs.Tie as tie
 
 abbrev Inv-loop : tie.InvT-loop
 Inv-loop text n table at js₀ ss₀ w₀ i₀ js ss w i = Writing n table text at js₀ ss₀ js ss w i

@@ -1,7 +1,7 @@
--- `layouts::roomy` meets its contract, length by length.
+-- `lent::roomy` meets its contract, length by length.
 use mathlib.Core.Logic.{inl, inr}
-use Rattle.layouts.proofs.parts.roomy.Statement.{statement}
-use Rattle.layouts.proofs.parts.roomy.Tie as tie
+use Rattle.lent.proofs.roomy.Statement.{statement}
+use Rattle.lent.proofs.roomy.Tie as tie
 
 returns : tie.Need-returns
 returns c = inl (c .if1 .taken)
