@@ -9,7 +9,7 @@ use lib.Seq.{getD-take, length-take-le}
 use Rattle.lists.specs.Lists.{_!_}
 use Rattle.answers.specs.Said.{Word, said}
 use Rattle.joblist.specs.Limits.{mostTime, mostJobs}
-use Rattle.chains.specs.Paths.{Below, Longest, Longer, Back, weight}
+use Rattle.chains.specs.Paths.{Pair, Below, Longest, Longer, Back, weight}
 use Rattle.chains.proofs.Chains.{chain-map}
 use Rattle.texts.specs.Readings.{Read, good}
 use Rattle.projects.specs.Projects.{Project, pairsOf}
@@ -23,6 +23,11 @@ use Rattle.exchange.specs.Table.{Answered}
 use Rattle.lent.specs.Parts.{Lessened, Wrote}
 use Rattle.exchange.proofs.Tests.{none-tested, refusal-of}
 use Rattle.exchange.proofs.Asked.{asked, refused, answer}
+
+-- where neither 33 nor 34 is given, no chain after a job is longer than the horizon
+pub tails-low : (ps : List Pair) (n : ℕ) (p : List ℕ) (h : ℕ) (heads tails : List ℕ) (c : ℕ) → c ≡ 0 → OrderSays ps n p h heads tails c → (j : ℕ) → tails ! j ≤ h
+tails-low ps n p h heads tails zero e o j = o .low j .1
+tails-low ps n p h heads tails (suc c) e o j = absurd (omega arith)
 
 longest-weights : (R : ℕ → ℕ → Type 0) (w u : ℕ → ℕ) → ((a b : ℕ) → R a b → w a ≡ u a) → {j L : ℕ} → Longest R w j L → Longest R u j L
 longest-weights R w u f l = record {
