@@ -10,17 +10,22 @@ use Rattle.scribe.proofs.Steps.{number-same}
 use Rattle.scribe.proofs.Counts.{write-parts, whole-room, put-whole}
 use Rattle.scribe.proofs.put_project.Statement.{statement}
 use Rattle.scribe.proofs.put_project.Tie as tie
-use Rattle.scribe.proofs.put_project.Reads as reads
-use Rattle.scribe.proofs.put_project.Lts as lts
-use Rattle.scribe.proofs.jobs.put_jobs.Reads as put-jobs-reads
-use Rattle.scribe.proofs.marks.put.Reads as put-reads
 
 -- there is room for the whole text, and it is not too long to be counted
-room : (k : lts.After-shared-slice-known2 (put-reads.Asked, put-reads.Learnt, put-jobs-reads.Asked, put-jobs-reads.Learnt) reads.Pre reads.Post)
-    → let a = k .before .before .args in Room (a .dry) 0 (written (made (a .cap) (a .dur .now) (a .dem .now) (paired (a .jobs .now) (a .successors .now)))) (a .buffer .now)
+room : (k : tie.After-shared-slice-known2) → let a = k .before .before .args in Room (a .dry) 0 (written (made (a .cap) (a .dur .now) (a .dem .now) (paired (a .jobs .now) (a .successors .now)))) (a .buffer .now)
 room k =
     let s = k .before .before in
     whole-room _ (s .pre .0) (s .fits .cap .fits) (λ i. k .before .shared-slice-known .given i .fits) (λ i. k .shared-slice-known2 .given i .fits) (s .pre .1)
+
+-- from the place behind a part to the one behind the part before it
+abbrev before-1 : tie.After-put → tie.After-shared-slice-known2
+before-1 e = e .before .before .before .before .before
+
+abbrev before-2 : tie.After-put2 → tie.After-put
+before-2 e = e .before .before .before .before
+
+abbrev before-3 : tie.After-put3 → tie.After-put2
+before-3 e = e .before .before .before .before
 
 cast-put : tie.Need-cast-put
 cast-put c = search needs
@@ -29,21 +34,37 @@ put-requires : tie.Need-put-requires
 put-requires c κs = room-same (first-room (write-parts _ (c .before .before .before .before .before .before .pre .0)) (room (c .before .before .before .before))) (omega arith) (number-same (omega arith) (omega arith))
 
 put-requires-2 : tie.Need-put-requires-2
-put-requires-2 c κs = room-same (second-room (write-parts _ (c .before .before .before .before .before .before .before .before .before .before .pre .0)) (room (c .before .before .before .before .before .before .before .before)) (c .before .before .before .put .ensures)) (omega arith) (number-same (omega arith) (omega arith))
+put-requires-2 c κs =
+    let one = c .before .before .before in
+    let k = before-1 one in
+    room-same (second-room (write-parts _ (k .before .before .pre .0)) (room k) (one .put .ensures)) (omega arith) (number-same (omega arith) (omega arith))
 
 put-requires-3 : tie.Need-put-requires-3
-put-requires-3 c κs = room-same (third-room (write-parts _ (c .before .before .before .before .before .before .before .before .before .before .before .before .before .before .pre .0)) (room (c .before .before .before .before .before .before .before .before .before .before .before .before)) (c .before .before .before .before .before .before .before .put .ensures) (c .before .before .before .put2 .ensures)) (omega arith) (number-same (omega arith) (omega arith))
+put-requires-3 c κs =
+    let two = c .before .before .before in
+    let one = before-2 two in
+    let k = before-1 one in
+    room-same (third-room (write-parts _ (k .before .before .pre .0)) (room k) (one .put .ensures) (two .put2 .ensures)) (omega arith) (number-same (omega arith) (omega arith))
 
 put-jobs-requires : tie.Need-put-jobs-requires
 put-jobs-requires c κs =
-    let g = c .before .before .before .before .before .before .before .before .before .before .before .before .before .before .before .before .before .before .pre .0 in
-    (g, fourth-room (write-parts _ g) (room (c .before .before .before .before .before .before .before .before .before .before .before .before .before .before .before .before)) (c .before .before .before .before .before .before .before .before .before .before .before .put .ensures) (c .before .before .before .before .before .before .before .put2 .ensures) (c .before .before .before .put3 .ensures))
+    let three = c .before .before .before in
+    let two = before-3 three in
+    let one = before-2 two in
+    let k = before-1 one in
+    let g = k .before .before .pre .0 in
+    (g, fourth-room (write-parts _ g) (room k) (one .put .ensures) (two .put2 .ensures) (three .put3 .ensures))
 
 same-length : tie.Need-same-length
 same-length c = search needs
 
 returns : tie.Need-returns
-returns c = put-whole (all-put (write-parts _ (c .before .before .before .before .before .before .before .before .before .before .before .before .before .before .before .before .before .before .before .before .before .pre .0)) (room (c .before .before .before .before .before .before .before .before .before .before .before .before .before .before .before .before .before .before .before)) (c .before .before .before .before .before .before .before .before .before .before .before .before .before .before .put .ensures) (c .before .before .before .before .before .before .before .before .before .before .put2 .ensures) (c .before .before .before .before .before .before .put3 .ensures) (c .before .before .put-jobs .ensures))
+returns c =
+    let three = c .before .before .before .before .before .before in
+    let two = before-3 three in
+    let one = before-2 two in
+    let k = before-1 one in
+    put-whole (all-put (write-parts _ (k .before .before .pre .0)) (room k) (one .put .ensures) (two .put2 .ensures) (three .put3 .ensures) (c .before .before .put-jobs .ensures))
 
 pub put-project-spec : {M : Type 1} → statement M
 put-project-spec =
