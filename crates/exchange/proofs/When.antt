@@ -1,5 +1,5 @@
 -- Each answer is given exactly when the table says so, in facts, of the contract alone: the words of an answer by the number of the first test that
--- fails, and each number by what specs/When.antt says of it. The text's own 30, 31, 32 and 35 go on in `rows: Exactly`, `psplib: Exactly` and `texts: Exactly`.
+-- fails, and each number by what specs/When.antt says of it. The text's own 30, 31, 32 and 35 go on in `projects: Exactly`, `psplib: Exactly` and `texts: Exactly`.
 use Prim.Native.Nat.{ℕ, zero, suc, _≤_, _<_}
 use native.Mathlib.Omega.{arith}
 use mathlib.Core.Path.{_≡_, refl, sym, ap, _∙_, subst}

@@ -1,5 +1,5 @@
 -- When a PSPLIB text is refused, in facts: its headings; one of the two counts; a row or a number of one of the three tables, those before it good. What
--- makes a row one that is refused stands in `rows: Exactly`, numbers and several readings one after the other in `texts: Exactly` and `texts: Given`.
+-- makes a row one that is refused stands in `projects: Exactly`, numbers and several readings one after the other in `texts: Exactly` and `texts: Given`.
 use Prim.Native.Nat.{ℕ, _<_}
 use native.Mathlib.Omega.{arith}
 use mathlib.Core.Path.{_≡_, refl, sym, ap}
