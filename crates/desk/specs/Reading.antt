@@ -2,11 +2,11 @@
 pub use Rattle.chains.specs.Paths.{Pair, Precedes, Listed, Below, Path, Cycle, Chain, Longest, Back, Longer}
 pub use Rattle.texts.specs.Tokens.{Token}
 pub use Rattle.texts.specs.Readings.{Read, good, bad}
-pub use Rattle.rows.specs.Projects.{Row, Project, pairsOf, durations, demandsOn}
-pub use Rattle.rows.specs.Patterson.{patterson}
+pub use Rattle.projects.specs.Projects.{Row, Project, pairsOf, durations, demandsOn}
+pub use Rattle.projects.specs.Patterson.{patterson}
 pub use Rattle.psplib.specs.Psplib.{psplib}
-pub use Rattle.layouts.specs.Calls.{Lent, TextCall, TextAfter, Order, durationOf}
-pub use Rattle.layouts.specs.Tests.{Fitting, Fits, Unfit, TooLong, Tested, Refusal}
-pub use Rattle.layouts.specs.Table.{Filled, Taken, Answered}
-pub use Rattle.layouts.specs.Promise.{windows, ListedIn, Respects, capacity, count, Reads}
-pub use Rattle.layouts.specs.When.{Meets, AboveLimit, Says, NoResource, NoRoom, Cyclic, ChainTooLong, Readable}
+pub use Rattle.exchange.specs.Calls.{Lent, TextCall, TextAfter, Order, durationOf}
+pub use Rattle.exchange.specs.Tests.{Fitting, Fits, Unfit, TooLong, Tested, Refusal}
+pub use Rattle.exchange.specs.Table.{Filled, Taken, Answered}
+pub use Rattle.exchange.specs.Promise.{windows, ListedIn, Respects, capacity, count, Reads}
+pub use Rattle.exchange.specs.When.{Meets, AboveLimit, Says, NoResource, NoRoom, Cyclic, ChainTooLong, Readable}
