@@ -1,11 +1,2 @@
-pub mod Pairs
-pub mod Rows
-pub mod ShutOut
-pub mod Nodes
-pub mod Climbs
-pub mod Descents
-pub mod Walks
 pub mod Sweeps
-pub mod Listed
 pub mod Turns
-pub mod Schedules

@@ -21,13 +21,13 @@ use Rattle.lists.proofs.Orders.{rank-below, rank-apart, rank-rising, rank-onto}
 use Rattle.lists.proofs.Tests.{by-contra, both-true}
 use Rattle.lists.proofs.Sets.{clash, totalOf-sub, fewest-is, fewest-le}
 use Rattle.narrowing.specs.Windows.{Win}
-use Rattle.readhead.specs.Overload.{by, window, Pair, FirstPair}
-use Rattle.readhead.specs.Theta.{far, endOf, empty, Places, Holds, Ranged, Climbed, onward, descent}
+use Rattle.overloads.specs.Overload.{by, window, Pair, FirstPair}
+use Rattle.theta.specs.Theta.{far, endOf, empty, Places, Holds, Ranged, Climbed, onward, descent}
 use Rattle.readhead.specs.Sweep.{tied, due}
-use Rattle.readhead.proofs.Pairs.{in-window, window-in}
-use Rattle.readhead.proofs.Nodes.{in-onward, onward-in}
-use Rattle.readhead.proofs.Climbs.{holds-more, start-ranged, start-holds}
-use Rattle.readhead.proofs.Descents.{Last, root-over, root-short}
+use Rattle.overloads.proofs.Pairs.{in-window, window-in}
+use Rattle.theta.proofs.Nodes.{in-onward, onward-in}
+use Rattle.theta.proofs.Climbs.{holds-more, start-ranged, start-holds}
+use Rattle.theta.proofs.Descents.{Last, root-over, root-short}
 
 -- places by earliest start are places of a tree with leaves enough
 pub rank-places : (n m : ℕ) (e : List ℕ) → n ≤ m → Places n m e (rank e n)

@@ -11,11 +11,11 @@ use Rattle.joblist.specs.Limits.{mostJobs}
 use Rattle.narrowing.specs.Windows.{win}
 use Rattle.lists.specs.Lists.{_!_}
 use Rattle.lists.specs.Sets.{Set, totalOf}
-use Rattle.readhead.specs.Overload.{Found, nothing, overload, foundSaid}
+use Rattle.overloads.specs.Overload.{Found, nothing, overload, foundSaid}
 use Rattle.readhead.specs.Sweep.{due, Sorted, Entered, Reached}
-use Rattle.readhead.specs.Theta.{far, endOf, depth, descent}
-use Rattle.readhead.proofs.Nodes.{total-most}
-use Rattle.readhead.proofs.Pairs.{overload-is}
+use Rattle.theta.specs.Theta.{far, endOf, depth, descent}
+use Rattle.theta.proofs.Nodes.{total-most}
+use Rattle.overloads.proofs.Pairs.{overload-is}
 use Rattle.readhead.proofs.Sweeps.{Going, going-end, going-on, going-found-at}
 
 -- the state after k jobs

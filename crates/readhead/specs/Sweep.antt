@@ -12,9 +12,9 @@ use Rattle.narrowing.specs.Windows.{win}
 use Rattle.lists.specs.Lists.{_!_}
 use Rattle.lists.specs.Tests.{both}
 use Rattle.lists.specs.Orders.{rank, Ordered}
-use Rattle.readhead.specs.Order.{Placed}
-use Rattle.readhead.specs.Promise.{Good}
-use Rattle.readhead.specs.Theta.{Climbed}
+use Rattle.placing.specs.Order.{Placed}
+use Rattle.overloads.specs.Promise.{Good}
+use Rattle.theta.specs.Theta.{Climbed}
 
 -- place k of the order o has a job, and one of the latest end b
 abbrev pub tied : ℕ → List ℕ → List ℕ → ℕ → ℕ → Bool

@@ -1,27 +1,17 @@
 // One job at a time (01; 02, Item 3): the overload check by 001's Theta-tree.
-mod order; // order.rt: places of the jobs in a rising order
-mod theta; // theta.rt: the tree, and the descent in it
 mod sweep; // sweep.rt: the jobs put in by rising latest end
 
-use crate::order::order;
-use crate::order::places;
 use crate::sweep::sweep;
 use answers::OverloadAnswer;
+use joblist::MOST;
+use placing::order;
+use placing::places;
 ghost use mathlib.Core.Path.{_≡_};
 ghost use lib.ListN.{length};
 ghost use Rattle.answers.specs.Said.{saysOverload};
 ghost use Rattle.narrowing.specs.Windows.{win};
-ghost use Rattle.readhead.specs.Overload.{overload, foundSaid};
-ghost use Rattle.readhead.specs.Promise.{Good, Overloads};
-
-// The most jobs, and so the number of the tree's leaves.
-const MOST: usize = screen::MOST_JOBS;
-
-// The tree's nodes: 1 is the root, 2v and 2v + 1 are v's children, 0 is none.
-const NODES: usize = 2 * MOST;
-
-// An empty node's completion: below every time in use, whatever total duration comes after it.
-const EMPTY: i64 = -1_000_000_000_000;
+ghost use Rattle.overloads.specs.Overload.{overload, foundSaid};
+ghost use Rattle.overloads.specs.Promise.{Good, Overloads};
 
 // What a good list has: the two orders of its jobs are made, and the tree is swept.
 fn find(est: &[u32], lct: &[u32], dur: &[u32]) -> OverloadAnswer

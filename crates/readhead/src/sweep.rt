@@ -1,11 +1,11 @@
 // The jobs go into the tree by rising latest end, ALL jobs of one latest end before that end is tested.
-use crate::EMPTY;
-use crate::MOST;
-use crate::NODES;
-use crate::theta::descend;
-use crate::theta::exceeds;
-use crate::theta::put;
 use answers::OverloadAnswer;
+use joblist::MOST;
+use theta::EMPTY;
+use theta::NODES;
+use theta::descend;
+use theta::exceeds;
+use theta::put;
 ghost use mathlib.Core.Path.{_≡_};
 ghost use Prim.Native.Nat.{_*_, _-_, _≤_, _<_};
 ghost use lib.ListN.{length};
@@ -15,9 +15,9 @@ ghost use Rattle.joblist.specs.Limits.{mostJobs, mostTime};
 ghost use Rattle.narrowing.specs.Windows.{win};
 ghost use Rattle.lists.specs.Lists.{_!_};
 ghost use Rattle.lists.specs.Orders.{Ordered};
-ghost use Rattle.readhead.specs.Overload.{overload, foundSaid};
-ghost use Rattle.readhead.specs.Theta.{far, AllJoin, Ranged, descent, depth};
-ghost use Rattle.readhead.specs.Order.{Placed};
+ghost use Rattle.overloads.specs.Overload.{overload, foundSaid};
+ghost use Rattle.theta.specs.Theta.{far, AllJoin, Ranged, descent, depth};
+ghost use Rattle.placing.specs.Order.{Placed};
 ghost use Rattle.readhead.specs.Sweep.{tied, due, Sorted, Entered, Reached};
 
 // Whether place k of the order has a job of the latest end b.

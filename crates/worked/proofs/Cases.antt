@@ -4,7 +4,7 @@ use Rattle.lists.specs.Lists.{Every}
 use Rattle.members.specs.Members.{onesOf}
 use Rattle.timetable.specs.Search.{leanMember, naming}
 use Rattle.timetable.specs.Table.{narrowedBy}
-use Rattle.readhead.specs.Promise.{checked}
+use Rattle.overloads.specs.Promise.{checked}
 use Rattle.worked.specs.Rows.{Right}
 use Rattle.worked.specs.Cases.{runs}
 

@@ -1,7 +1,7 @@
 -- `readhead::overload` meets its contract: a number that is not 0 is a refusal's row, and else the list is good.
 use mathlib.Core.Path.{sym, _∙_}
 use Rattle.joblist.proofs.Refusals.{good}
-use Rattle.readhead.proofs.Rows.{refused-meets, found-meets}
+use Rattle.overloads.proofs.Rows.{refused-meets, found-meets}
 use borrow.Author.Needs.{needs}
 use Rattle.readhead.proofs.overload.Statement.{statement}
 use Rattle.readhead.proofs.overload.Tie as tie

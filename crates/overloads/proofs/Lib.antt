@@ -1,0 +1,4 @@
+pub mod Pairs
+pub mod Rows
+pub mod ShutOut
+pub mod Schedules

@@ -1,0 +1,2 @@
+pub mod Overload
+pub mod Promise

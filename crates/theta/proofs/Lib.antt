@@ -1,0 +1,4 @@
+pub mod Nodes
+pub mod Climbs
+pub mod Descents
+pub mod Walks
