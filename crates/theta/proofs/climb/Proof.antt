@@ -27,7 +27,7 @@ loop-less c = omega arith
 loop-again : tie.Need-loop-again Inv-loop μ-loop
 loop-again c =
     let l = c .before .before .before .before .loop in
-    rw (c .settle .ensures .0, c .settle .ensures .1) (climb-step mostJobs _ _ _ _ _ _ (l .inv) (c .before .before .before .loop-test .taken) refl)
+    rw (c .settle .ensures .0, c .settle .ensures .1) (climb-step mostJobs _ _ _ _ _ _ (l .inv) (omega arith) refl)
 
 returns : tie.Need-returns Inv-loop μ-loop
 returns c = climb-end mostJobs _ _ _ _ _ (c .before .loop .inv) (c .loop-test .left)
