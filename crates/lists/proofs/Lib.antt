@@ -10,6 +10,8 @@ pub mod Completions
 pub mod Counts
 pub mod Differences
 pub mod Orders
+pub mod Runs
+pub mod Merges
 pub mod Sets
 pub mod Examples
 pub mod Spares

@@ -21,10 +21,9 @@ fn find(est: &[u32], lct: &[u32], dur: &[u32]) -> OverloadAnswer
     let mut place = [0usize; MOST];
     let mut starts = [0usize; MOST];
     let mut stops = [0usize; MOST];
-    places(lct, &mut place);
-    order(lct, &place, &mut stops);
-    places(est, &mut place);
-    order(est, &place, &mut starts);
+    order(lct, &mut stops);
+    order(est, &mut starts);
+    places(est, &starts, &mut place);
     sweep(est, lct, dur, &place, &starts, &stops)
 }
 

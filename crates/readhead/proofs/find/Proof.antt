@@ -3,27 +3,24 @@ use borrow.Author.Needs.{needs}
 use Rattle.readhead.proofs.find.Statement.{statement}
 use Rattle.readhead.proofs.find.Tie as tie
 
-places-requires : tie.Need-places-requires
-places-requires c κs = search needs
-
 order-requires : tie.Need-order-requires
 order-requires c κs = search needs
-
-places-requires-2 : tie.Need-places-requires-2
-places-requires-2 c κs = search needs
 
 order-requires-2 : tie.Need-order-requires-2
 order-requires-2 c κs = search needs
 
+places-requires : tie.Need-places-requires
+places-requires c κs = search needs
+
 sweep-requires : tie.Need-sweep-requires
 sweep-requires c κs =
-    let g = c .before .before .before .before .before .before .before .before .before .before .before .before .before .before .before .before .pre in
+    let g = c .before .before .before .before .before .before .before .before .before .before .before .before .before .pre in
     record {
       good = g;
-      placed = c .before .before .before .before .before .before .places2 .ensures;
-      by-start = c .before .before .before .order2 .ensures .0;
+      placed = c .before .before .before .places .ensures;
+      by-start = c .before .before .before .before .before .before .order2 .ensures .0;
       by-stop = rw (g .sized .1 .0) at (c .before .before .before .before .before .before .before .before .order .ensures .0);
-      starts-long = c .before .before .before .order2 .ensures .1;
+      starts-long = c .before .before .before .before .before .before .order2 .ensures .1;
       stops-long = c .before .before .before .before .before .before .before .before .order .ensures .1;
     }
 
@@ -33,10 +30,4 @@ returns c = search needs
 pub find-spec : {M : Type 1} → statement M
 find-spec =
     tie.close
-    (tie.spec
-    places-requires
-    order-requires
-    places-requires-2
-    order-requires-2
-    sweep-requires
-    returns)
+    (tie.spec order-requires order-requires-2 places-requires sweep-requires returns)
