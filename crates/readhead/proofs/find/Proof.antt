@@ -17,11 +17,11 @@ sweep-requires c κs =
     let g = c .before .before .before .before .before .before .before .before .before .before .before .before .before .pre in
     record {
       good = g;
-      placed = c .before .before .before .places .ensures;
-      by-start = c .before .before .before .before .before .before .order2 .ensures .0;
-      by-stop = rw (g .sized .1 .0) at (c .before .before .before .before .before .before .before .before .order .ensures .0);
-      starts-long = c .before .before .before .before .before .before .order2 .ensures .1;
-      stops-long = c .before .before .before .before .before .before .before .before .order .ensures .1;
+      placed = c .before .before .before .places .ensures .0;
+      by-start = c .before .before .before .before .before .before .order2 .ensures .0 .0;
+      by-stop = rw (g .sized .1 .0) at (c .before .before .before .before .before .before .before .before .order .ensures .0 .0);
+      starts-long = c .before .before .before .before .before .before .order2 .ensures .0 .1;
+      stops-long = c .before .before .before .before .before .before .before .before .order .ensures .0 .1;
     }
 
 returns : tie.Need-returns
