@@ -1,3 +1,3 @@
 -- The words of `overload`'s contract, handed on.
-pub use Rattle.readhead.specs.Overload.{Overloaded, NoneOverloaded, FirstPair}
-pub use Rattle.readhead.specs.Promise.{Good, checked, Overloads}
+pub use Rattle.overloads.specs.Overload.{Overloaded, NoneOverloaded, FirstPair}
+pub use Rattle.overloads.specs.Promise.{Good, checked, Overloads}

@@ -3,9 +3,9 @@ mod sweep; // sweep.rt: the jobs put in by rising latest end
 
 use crate::sweep::sweep;
 use answers::OverloadAnswer;
-use joblist::MOST;
 use placing::order;
 use placing::places;
+use screen::MOST_JOBS;
 ghost use mathlib.Core.Path.{_≡_};
 ghost use lib.ListN.{length};
 ghost use Rattle.answers.specs.Said.{saysOverload};
@@ -18,9 +18,9 @@ fn find(est: &[u32], lct: &[u32], dur: &[u32]) -> OverloadAnswer
     requires { ⌜ Good (win (now est) (now lct)) (now dur) ⌝ }
     ensures { λ r. ⌜ saysOverload r ≡ foundSaid (overload (length (now (est .entry))) (now (dur .entry)) (win (now (est .entry)) (now (lct .entry)))) ⌝ }
 {
-    let mut place = [0usize; MOST];
-    let mut starts = [0usize; MOST];
-    let mut stops = [0usize; MOST];
+    let mut place = [0usize; MOST_JOBS];
+    let mut starts = [0usize; MOST_JOBS];
+    let mut stops = [0usize; MOST_JOBS];
     order(lct, &mut stops);
     order(est, &mut starts);
     places(est, &starts, &mut place);

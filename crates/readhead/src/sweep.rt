@@ -1,6 +1,6 @@
 // The jobs go into the tree by rising latest end, ALL jobs of one latest end before that end is tested.
 use answers::OverloadAnswer;
-use joblist::MOST;
+use screen::MOST_JOBS;
 use theta::EMPTY;
 use theta::NODES;
 use theta::descend;
@@ -21,7 +21,7 @@ ghost use Rattle.placing.specs.Order.{Placed};
 ghost use Rattle.readhead.specs.Sweep.{tied, due, Sorted, Entered, Reached};
 
 // Whether place k of the order has a job of the latest end b.
-fn tied(lct: &[u32], stops: &[usize; MOST], k: usize, b: u32) -> bool
+fn tied(lct: &[u32], stops: &[usize; MOST_JOBS], k: usize, b: u32) -> bool
     requires { ⌜ (length (now lct) ≤ mostJobs) × (Ordered (now lct) (length (now lct)) (now stops)) × (length (now stops) ≡ mostJobs) ⌝ }
     ensures { λ r. ⌜ r ≡ tied (length (now (lct .entry))) (now (lct .entry)) (now (stops .entry)) k b ⌝ }
 {
@@ -32,7 +32,7 @@ fn tied(lct: &[u32], stops: &[usize; MOST], k: usize, b: u32) -> bool
 }
 
 // Whether the latest end b is to be tested, no job of it being next, and exceeded.
-fn due(lct: &[u32], stops: &[usize; MOST], k: usize, b: u32, end: i64) -> bool
+fn due(lct: &[u32], stops: &[usize; MOST_JOBS], k: usize, b: u32, end: i64) -> bool
     requires { ⌜ (length (now lct) ≤ mostJobs) × (Ordered (now lct) (length (now lct)) (now stops)) × (length (now stops) ≡ mostJobs) ⌝ }
     requires { ⌜ mag end ≤ 2 * far ⌝ }
     ensures { λ r. ⌜ r ≡ due (length (now (lct .entry))) (now (lct .entry)) (now (stops .entry)) k b end ⌝ }
@@ -47,7 +47,7 @@ fn due(lct: &[u32], stops: &[usize; MOST], k: usize, b: u32, end: i64) -> bool
 fn enter(
     est: &[u32],
     dur: &[u32],
-    place: &[usize; MOST],
+    place: &[usize; MOST_JOBS],
     sums: &mut [u32; NODES],
     ends: &mut [i64; NODES],
     j: usize,
@@ -63,7 +63,7 @@ fn enter(
 // The earliest start at the leaf where the descent ends.
 fn start_of(
     est: &[u32],
-    starts: &[usize; MOST],
+    starts: &[usize; MOST_JOBS],
     sums: &[u32; NODES],
     ends: &[i64; NODES],
     b: u32,
@@ -73,7 +73,7 @@ fn start_of(
     ensures { λ r. ⌜ r ≡ now (est .entry) ! (now (starts .entry) ! (descent (now (sums .entry)) (now (ends .entry)) b depth 1 0 - mostJobs)) ⌝ }
 {
     let leaf = descend(sums, ends, b);
-    est[starts[leaf - MOST]]
+    est[starts[leaf - MOST_JOBS]]
 }
 
 // The first pair that the sweep meets, by the least b and for it the greatest a, or none.
@@ -81,9 +81,9 @@ pub fn sweep(
     est: &[u32],
     lct: &[u32],
     dur: &[u32],
-    place: &[usize; MOST],
-    starts: &[usize; MOST],
-    stops: &[usize; MOST],
+    place: &[usize; MOST_JOBS],
+    starts: &[usize; MOST_JOBS],
+    stops: &[usize; MOST_JOBS],
 ) -> OverloadAnswer
     requires { ⌜ Sorted (now est) (now lct) (now dur) (now place) (now starts) (now stops) ⌝ }
     ensures { λ r. ⌜ saysOverload r ≡ foundSaid (overload (length (now (est .entry))) (now (dur .entry)) (win (now (est .entry)) (now (lct .entry)))) ⌝ }

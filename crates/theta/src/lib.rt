@@ -11,7 +11,7 @@ ghost use Rattle.lists.specs.Tests.{pick};
 ghost use Rattle.theta.specs.Theta.{far, endOf, joined, AllJoin, Ranged, Changed, Climbed, descent, depth};
 
 // The most jobs, and so the number of the tree's leaves.
-const MOST: usize = joblist::MOST;
+const MOST: usize = screen::MOST_JOBS;
 
 // The tree's nodes: 1 is the root, 2v and 2v + 1 are v's children, 0 is none.
 pub const NODES: usize = 2 * MOST;

@@ -1,5 +1,5 @@
 -- The wrong planners that document 01 names under 'How firm the statements are', and one that does not stop, each refuted by the field of the contract that 01
--- names for it, without the help of `answered`: so no promise is empty. `CheckShutOut` has those of the checker, `readhead` those of the overload check.
+-- names for it, without the help of `answered`: so no promise is empty. `CheckShutOut` has those of the checker, `overloads` those of the overload check.
 use Prim.Native.Nat.{ℕ, zero, suc, _+_, _≤_, _<_}
 use native.Mathlib.Omega.{arith}
 use mathlib.Core.Path.{_≡_, refl, sym, ap, subst, _∙_}

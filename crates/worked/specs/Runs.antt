@@ -6,7 +6,7 @@ use mathlib.Core.List.{List, [], _∷_}
 use lib.ListN.{replicate}
 use Rattle.answers.specs.Said.{Word, Said, said}
 use Rattle.timetable.specs.Table.{Call, call, After, leaves, narrowed}
-use Rattle.readhead.specs.Promise.{checked}
+use Rattle.overloads.specs.Promise.{checked}
 use Rattle.worked.specs.Rows.{Row, Job, windows, durations, draws, Span, spans, upon}
 
 abbrev pub lent : ℕ → List Job → ℕ → Call
