@@ -23,49 +23,76 @@ Inv-loop est₀ lct₀ dur dem cap log count i₀ est lct i = Going dur dem cap 
 abbrev μ-loop : tie.MeasureT-loop
 μ-loop est₀ lct₀ dur dem cap log count i₀ est lct i = count - i
 
+-- ---- the places that are gone back to: the start and the loop's test, the record shown, the record taken, the windows moved
+
+abbrev begun : tie.At-loop Inv-loop μ-loop → tie.Start Inv-loop μ-loop
+begun d = d .before .before .before .before .before .before
+
+abbrev looped : tie.After-show-record Inv-loop μ-loop → tie.At-loop Inv-loop μ-loop
+looped d = d .before .before
+
+abbrev shown : tie.Else1 Inv-loop μ-loop → tie.After-show-record Inv-loop μ-loop
+shown d = d .before .before .before .before
+
+abbrev passed : tie.After-shift Inv-loop μ-loop → tie.Else1 Inv-loop μ-loop
+passed d = d .before .before .before .before .before .before
+
+abbrev shifted : tie.After-closed Inv-loop μ-loop → tie.After-shift Inv-loop μ-loop
+shifted d = d .before .before .before .before .before .before .before
+
 -- ---- at the loop's test: the jobs, and the windows reached
 
 abbrev theJobs : tie.At-loop Inv-loop μ-loop → Jobs
-theJobs d = let a = d .before .before .before .before .before .before .args in jobsIn (length (a .dur .now)) (a .dur .now) (a .dem .now) (a .cap)
+theJobs d = let a = begun d .args in jobsIn (length (a .dur .now)) (a .dur .now) (a .dem .now) (a .cap)
 
 abbrev reached : tie.At-loop Inv-loop μ-loop → Win
 reached d = win (d .loop .est) (d .loop .lct)
 
-starts-kept : (d : tie.At-loop Inv-loop μ-loop) → length (d .loop .est) ≡ length (d .before .before .before .before .before .before .args .est .now)
-starts-kept d = omega (arith, durations-sized (d .loop .inv .good), durations-sized (d .before .before .before .before .before .before .pre .0))
+starts-kept : (d : tie.At-loop Inv-loop μ-loop) → length (d .loop .est) ≡ length (begun d .args .est .now)
+starts-kept d = omega (arith, durations-sized (d .loop .inv .good), durations-sized (begun d .pre .0))
 
-ends-kept : (d : tie.At-loop Inv-loop μ-loop) → length (d .loop .lct) ≡ length (d .before .before .before .before .before .before .args .lct .now)
-ends-kept d = omega (arith, starts-kept d, ends-sized (d .loop .inv .good), ends-sized (d .before .before .before .before .before .before .pre .0))
+ends-kept : (d : tie.At-loop Inv-loop μ-loop) → length (d .loop .lct) ≡ length (begun d .args .lct .now)
+ends-kept d = omega (arith, starts-kept d, ends-sized (d .loop .inv .good), ends-sized (begun d .pre .0))
 
 -- ---- the record shown has all its words
 
 shown-length : (d : tie.After-show-record Inv-loop μ-loop) → length (d .show-record .result .now) ≡ recordWords
 shown-length d =
-    ap length (d .show-record .ensures) ∙ record-length (d .before .before .before .before .before .before .before .before .args .log .now) (d .before .before .loop .i) (omega (arith, d .before .before .before .before .before .before .before .before .pre .1, d .before .loop-test .taken))
+    let start = begun (looped d) in
+    ap length (d .show-record .ensures) ∙ record-length (start .args .log .now) (looped d .loop .i) (omega (arith, start .pre .1, d .before .loop-test .taken))
 
 -- ---- a record that is taken, and the windows after it
 
-taken : (d : tie.Else1 Inv-loop μ-loop) → code (theJobs (d .before .before .before .before .before .before)) (reached (d .before .before .before .before .before .before)) (d .before .before .before .before .show-record .result .now) ≡ 0
+taken : (d : tie.Else1 Inv-loop μ-loop) → code (theJobs (looped (shown d))) (reached (looped (shown d))) (shown d .show-record .result .now) ≡ 0
 taken d = sym (d .before .code-of .ensures) ∙ d .if1 .left
 
-in-range : (d : tie.Else1 Inv-loop μ-loop) → InRange (theJobs (d .before .before .before .before .before .before)) (d .before .before .before .before .show-record .result .now)
-in-range d = taken-range (d .before .before .before .before .before .before .before .before .before .before .before .before .args .dur .now) (d .before .before .before .before .before .before .before .before .before .before .before .before .args .dem .now) (d .before .before .before .before .before .before .before .before .before .before .before .before .args .cap) (reached (d .before .before .before .before .before .before)) (d .before .before .before .before .show-record .result .now) (taken d)
+in-range : (d : tie.Else1 Inv-loop μ-loop) → InRange (theJobs (looped (shown d))) (shown d .show-record .result .now)
+in-range d =
+    let a = begun (looped (shown d)) .args in
+    taken-range (a .dur .now) (a .dem .now) (a .cap) (reached (looped (shown d))) (shown d .show-record .result .now) (taken d)
 
 abbrev after : tie.After-shift Inv-loop μ-loop → Win
 after d = win (d .shift .last .0) (d .shift .last .1 .0)
+
+starts-moved : (d : tie.After-closed Inv-loop μ-loop) → length (shifted d .shift .last .0) ≡ length (begun (looped (shown (passed (shifted d)))) .args .est .now)
+starts-moved d = shifted d .shift .kept .0 ∙ starts-kept (looped (shown (passed (shifted d))))
+
+ends-moved : (d : tie.After-closed Inv-loop μ-loop) → length (shifted d .shift .last .1 .0) ≡ length (begun (looped (shown (passed (shifted d)))) .args .lct .now)
+ends-moved d = shifted d .shift .kept .1 .0 ∙ ends-kept (looped (shown (passed (shifted d))))
 
 -- ---- the needs
 
 loop-holds : tie.Need-loop-holds Inv-loop μ-loop
 loop-holds c =
-    let a = c .before .before .before .before .before .args in
-    going-start (a .dur .now) (a .dem .now) (a .cap) (a .log .now) (a .count) (win (a .est .now) (a .lct .now)) (c .before .before .before .before .before .pre .0)
+    let start = c .before .before .before .before .before in
+    let a = start .args in
+    going-start (a .dur .now) (a .dem .now) (a .cap) (a .log .now) (a .count) (win (a .est .now) (a .lct .now)) (start .pre .0)
 
 show-record-requires : tie.Need-show-record-requires Inv-loop μ-loop
 show-record-requires c κs = search needs
 
 code-of-requires : tie.Need-code-of-requires Inv-loop μ-loop
-code-of-requires c κs = (c .before .before .before .before .loop .inv .good, shown-length (c .before .before))
+code-of-requires c κs = let d = c .before .before in (looped d .loop .inv .good, shown-length d)
 
 same-length : tie.Need-same-length Inv-loop μ-loop
 same-length c = starts-kept (c .before .before .before .before .before .before)
@@ -75,25 +102,27 @@ same-length-2 c = ends-kept (c .before .before .before .before .before .before)
 
 returns : tie.Need-returns Inv-loop μ-loop
 returns c =
-    going-bad (c .before .before .before .before .before .before .loop .inv) (c .before .before .before .before .show-record .result .now) (c .before .before .before .before .show-record .ensures) (c .before .before .before .before .before .loop-test .taken)
-    (c .before .code-of .result) (c .if1 .taken) (c .before .code-of .ensures)
+    let d = c .before .before .before .before in
+    going-bad (looped d .loop .inv) (d .show-record .result .now) (d .show-record .ensures) (d .before .loop-test .taken) (c .before .code-of .result) (c .if1 .taken)
+    (c .before .code-of .ensures)
 
 shared-slice-read-job : tie.Need-shared-slice-read-job Inv-loop μ-loop
-shared-slice-read-job c = omega (arith, shown-length (c .before .before .before .before .before))
+shared-slice-read-job c = omega (arith, shown-length (shown (c .before)))
 
 cast-job : tie.Need-cast-job Inv-loop μ-loop
 cast-job c = omega (arith, c .shared-slice-known4 .given 0)
 
 shared-slice-read-shift : tie.Need-shared-slice-read-shift Inv-loop μ-loop
-shared-slice-read-shift c = omega (arith, shown-length (c .before .before .before .before .before .before .before .before))
+shared-slice-read-shift c = omega (arith, shown-length (shown (c .before .before .before .before)))
 
 shared-slice-read-shift-2 : tie.Need-shared-slice-read-shift-2 Inv-loop μ-loop
-shared-slice-read-shift-2 c = omega (arith, shown-length (c .before .before .before .before .before .before .before .before .before))
+shared-slice-read-shift-2 c = omega (arith, shown-length (shown (c .before .before .before .before .before)))
 
 shift-requires : tie.Need-shift-requires Inv-loop μ-loop
 shift-requires c κs =
-    let f = in-range (c .before .before .before .before .before) in
-    let g = c .before .before .before .before .before .before .before .before .before .before .before .loop .inv .good in
+    let d = c .before .before .before .before .before in
+    let f = in-range d in
+    let g = looped (shown d) .loop .inv .good in
     (omega (arith, f .job, durations-sized g), omega (arith, f .job, durations-sized g, ends-sized g), f .time)
 
 add-i : tie.Need-add-i Inv-loop μ-loop
@@ -101,40 +130,46 @@ add-i c = search needs
 
 closed-requires : tie.Need-closed-requires Inv-loop μ-loop
 closed-requires c κs =
-    let f = in-range (c .before .before .before .before .before .before .before .before .before .before .before .before) in
-    let g = c .before .before .before .before .before .before .before .before .before .before .before .before .before .before .before .before .before .before .loop .inv .good in
-    let kept = c .before .before .before .before .before .before .shift .kept in
-    (omega (arith, f .job, durations-sized g, kept .0), omega (arith, f .job, durations-sized g, ends-sized g, kept .1), f .job)
+    let m = c .before .before .before .before .before .before in
+    let f = in-range (passed m) in
+    let g = looped (shown (passed m)) .loop .inv .good in
+    (omega (arith, f .job, durations-sized g, m .shift .kept .0), omega (arith, f .job, durations-sized g, ends-sized g, m .shift .kept .1), f .job)
 
 same-length-3 : tie.Need-same-length-3 Inv-loop μ-loop
-same-length-3 c = c .before .before .before .before .before .before .before .before .before .shift .kept .0 ∙ starts-kept (c .before .before .before .before .before .before .before .before .before .before .before .before .before .before .before .before .before .before .before .before .before)
+same-length-3 c = starts-moved (c .before .before)
 
 same-length-4 : tie.Need-same-length-4 Inv-loop μ-loop
-same-length-4 c = c .before .before .before .before .before .before .before .before .before .shift .kept .1 .0 ∙ ends-kept (c .before .before .before .before .before .before .before .before .before .before .before .before .before .before .before .before .before .before .before .before .before)
+same-length-4 c = ends-moved (c .before .before)
 
 returns-2 : tie.Need-returns-2 Inv-loop μ-loop
 returns-2 c =
-    going-more (c .before .before .before .before .before .before .before .before .before .before .before .before .before .before .before .before .before .before .before .before .before .loop .inv) (c .before .before .before .before .before .before .before .before .before .before .before .before .before .before .before .before .before .before .before .show-record .result .now) (c .before .before .before .before .before .before .before .before .before .before .before .before .before .before .before .before .before .before .before .show-record .ensures) (c .before .before .before .before .before .before .before .before .before .before .before .before .before .before .before .before .before .before .before .before .loop-test .taken)
-    (taken (c .before .before .before .before .before .before .before .before .before .before .before .before .before .before .before)) (after (c .before .before .before .before .before .before .before .before .before)) (c .before .before .before .before .before .before .before .before .before .shift .ensures) (sym (c .before .before .closed .ensures) ∙ c .before .if2 .taken) (c .if3 .taken)
+    let m = shifted (c .before .before) in
+    let d = shown (passed m) in
+    going-more (looped d .loop .inv) (d .show-record .result .now) (d .show-record .ensures) (d .before .loop-test .taken) (taken (passed m)) (after m) (m .shift .ensures)
+    (sym (c .before .before .closed .ensures) ∙ c .before .if2 .taken) (c .if3 .taken)
 
 same-length-5 : tie.Need-same-length-5 Inv-loop μ-loop
-same-length-5 c = c .before .before .before .before .before .before .before .before .before .shift .kept .0 ∙ starts-kept (c .before .before .before .before .before .before .before .before .before .before .before .before .before .before .before .before .before .before .before .before .before)
+same-length-5 c = starts-moved (c .before .before)
 
 same-length-6 : tie.Need-same-length-6 Inv-loop μ-loop
-same-length-6 c = c .before .before .before .before .before .before .before .before .before .shift .kept .1 .0 ∙ ends-kept (c .before .before .before .before .before .before .before .before .before .before .before .before .before .before .before .before .before .before .before .before .before)
+same-length-6 c = ends-moved (c .before .before)
 
 returns-3 : tie.Need-returns-3 Inv-loop μ-loop
 returns-3 c =
-    going-last (c .before .before .before .before .before .before .before .before .before .before .before .before .before .before .before .before .before .before .before .before .before .loop .inv) (c .before .before .before .before .before .before .before .before .before .before .before .before .before .before .before .before .before .before .before .show-record .result .now) (c .before .before .before .before .before .before .before .before .before .before .before .before .before .before .before .before .before .before .before .show-record .ensures) (c .before .before .before .before .before .before .before .before .before .before .before .before .before .before .before .before .before .before .before .before .loop-test .taken)
-    (taken (c .before .before .before .before .before .before .before .before .before .before .before .before .before .before .before)) (after (c .before .before .before .before .before .before .before .before .before)) (c .before .before .before .before .before .before .before .before .before .shift .ensures) (sym (c .before .before .closed .ensures) ∙ c .before .if2 .taken) (c .if3 .left)
+    let m = shifted (c .before .before) in
+    let d = shown (passed m) in
+    going-last (looped d .loop .inv) (d .show-record .result .now) (d .show-record .ensures) (d .before .loop-test .taken) (taken (passed m)) (after m) (m .shift .ensures)
+    (sym (c .before .before .closed .ensures) ∙ c .before .if2 .taken) (c .if3 .left)
 
 loop-less : tie.Need-loop-less Inv-loop μ-loop
 loop-less c = search needs
 
 loop-again : tie.Need-loop-again Inv-loop μ-loop
 loop-again c =
-    going-on (c .before .before .before .before .before .before .before .before .before .before .before .before .before .before .before .before .before .before .before .before .loop .inv) (c .before .before .before .before .before .before .before .before .before .before .before .before .before .before .before .before .before .before .show-record .result .now) (c .before .before .before .before .before .before .before .before .before .before .before .before .before .before .before .before .before .before .show-record .ensures) (c .before .before .before .before .before .before .before .before .before .before .before .before .before .before .before .before .before .before .before .loop-test .taken)
-    (taken (c .before .before .before .before .before .before .before .before .before .before .before .before .before .before)) (after (c .before .before .before .before .before .before .before .before)) (c .before .before .before .before .before .before .before .before .shift .ensures) (sym (c .before .closed .ensures) ∙ c .if2 .left)
+    let m = shifted (c .before) in
+    let d = shown (passed m) in
+    going-on (looped d .loop .inv) (d .show-record .result .now) (d .show-record .ensures) (d .before .loop-test .taken) (taken (passed m)) (after m) (m .shift .ensures)
+    (sym (c .before .closed .ensures) ∙ c .if2 .left)
 
 same-length-7 : tie.Need-same-length-7 Inv-loop μ-loop
 same-length-7 c = starts-kept (c .before)
