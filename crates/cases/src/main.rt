@@ -3,7 +3,7 @@
 // end, then the words of the counted records.
 mod run;
 
-use journal::RECORD;
+use logbook::RECORD;
 use run::narrow_line;
 use run::overload_line;
 ghost use Prim.Native.Nat.{_<_};

@@ -20,7 +20,7 @@ fn share(dem: &[u32], set: &[u32], k: usize) -> u32
     requires { ⌜ k < length (now dem) ⌝ }
     ensures { λ r. ⌜ r ≡ only (has (now (set .entry)) k) (now (dem .entry) ! k) ⌝ }
 {
-    if members::has(set, k) {
+    if bits::has(set, k) {
         return dem[k];
     }
     0
@@ -31,7 +31,7 @@ fn members_draw(dem: &[u32], words: &[u32]) -> u32
     requires { ⌜ Drawn (now dem) × (length (now words) ≡ recordWords) ⌝ }
     ensures { λ r. ⌜ r ≡ totalOf (length (now (dem .entry))) (now (dem .entry)) (isMember (now (words .entry))) ⌝ }
 {
-    let set = journal::set_of(words);
+    let set = logbook::set_of(words);
     let mut sum: u32 = 0;
     let mut k = 0;
     while k < dem.len() {
@@ -47,7 +47,7 @@ fn named(dem: &[u32], words: &[u32]) -> u32
     ensures { λ r. ⌜ r ≡ named (jobsIn (length (now (dem .entry))) [] (now (dem .entry)) 0) (now (words .entry)) ⌝ }
 {
     let sum = members_draw(dem, words);
-    sum + dem[words[journal::JOB] as usize]
+    sum + dem[words[logbook::JOB] as usize]
 }
 
 // 24: they exceed the capacity.
@@ -63,7 +63,7 @@ fn spare(dem: &[u32], cap: u32, set: &[u32], k: usize, all: u32) -> bool
     requires { ⌜ (has (now set) k ≡ true → (k < length (now dem)) × (now dem ! k ≤ all)) ⌝ }
     ensures { λ r. ⌜ r ≡ both (has (now (set .entry)) k) (ltb cap (all - now (dem .entry) ! k)) ⌝ }
 {
-    if !members::has(set, k) {
+    if !bits::has(set, k) {
         return false;
     }
     cap < all - dem[k]
@@ -75,9 +75,9 @@ pub fn lean(dem: &[u32], cap: u32, words: &[u32]) -> bool
     ensures { λ r. ⌜ r ≡ lean (jobsIn (length (now (dem .entry))) [] (now (dem .entry)) cap) (now (words .entry)) ⌝ }
 {
     let all = named(dem, words);
-    let set = journal::set_of(words);
+    let set = logbook::set_of(words);
     let mut k = 0;
-    while k < members::BITS * set.len() {
+    while k < bits::BITS * set.len() {
         if spare(dem, cap, set, k, all) {
             return false;
         }

@@ -19,13 +19,13 @@ pub fn in_range(n: usize, words: &[u32]) -> bool
     requires { ⌜ length (now words) ≡ recordWords ⌝ }
     ensures { λ r. ⌜ r ≡ inRange (jobsIn n [] [] 0) (now (words .entry)) ⌝ }
 {
-    if n <= (words[journal::JOB] as usize) {
+    if n <= (words[logbook::JOB] as usize) {
         return false;
     }
-    if 1 < words[journal::SIDE] {
+    if 1 < words[logbook::SIDE] {
         return false;
     }
-    words[journal::TIME] <= screen::MOST_TIME
+    words[logbook::TIME] <= screen::MOST_TIME
 }
 
 // Whether k is in the list, with a duration and a demand.
@@ -47,7 +47,7 @@ fn partner(dur: &[u32], dem: &[u32], job: usize, set: &[u32], k: usize) -> bool
     requires { ⌜ length (now dem) ≡ length (now dur) ⌝ }
     ensures { λ r. ⌜ r ≡ where? (has (now (set .entry)) k) (both (takesPart (jobsIn (length (now (dur .entry))) (now (dur .entry)) (now (dem .entry)) 0) k) (not (eqb k job))) ⌝ }
 {
-    if !members::has(set, k) {
+    if !bits::has(set, k) {
         return true;
     }
     if !takes_part(dur, dem, k) {
@@ -61,13 +61,13 @@ pub fn partners(dur: &[u32], dem: &[u32], words: &[u32]) -> bool
     requires { ⌜ (length (now dem) ≡ length (now dur)) × (length (now words) ≡ recordWords) ⌝ }
     ensures { λ r. ⌜ r ≡ partners (jobsIn (length (now (dur .entry))) (now (dur .entry)) (now (dem .entry)) 0) (now (words .entry)) ⌝ }
 {
-    let job = words[journal::JOB] as usize;
+    let job = words[logbook::JOB] as usize;
     if !takes_part(dur, dem, job) {
         return false;
     }
-    let set = journal::set_of(words);
+    let set = logbook::set_of(words);
     let mut k = 0;
-    while k < members::BITS * set.len() {
+    while k < bits::BITS * set.len() {
         if !partner(dur, dem, job, set, k) {
             return false;
         }
@@ -81,8 +81,8 @@ pub fn counted(words: &[u32]) -> bool
     requires { ⌜ length (now words) ≡ recordWords ⌝ }
     ensures { λ r. ⌜ r ≡ eqb (now (words .entry) ! countWord) (onesOf (setOfRecord (now (words .entry)))) ⌝ }
 {
-    let ones = members::count(journal::set_of(words));
-    words[journal::COUNT] == ones
+    let ones = bits::count(logbook::set_of(words));
+    words[logbook::COUNT] == ones
 }
 
 // 26: the change tightens.
@@ -90,9 +90,9 @@ pub fn tightens(est: &[u32], lct: &[u32], words: &[u32]) -> bool
     requires { ⌜ (length (now words) ≡ recordWords) × (jobOf (now words) < length (now est)) × (jobOf (now words) < length (now lct)) ⌝ }
     ensures { λ r. ⌜ r ≡ tightens (win (now (est .entry)) (now (lct .entry))) (jobOf (now (words .entry))) (side (now (words .entry))) (timeOf (now (words .entry))) ⌝ }
 {
-    let job = words[journal::JOB] as usize;
-    if words[journal::SIDE] == 0 {
-        return est[job] <= words[journal::TIME];
+    let job = words[logbook::JOB] as usize;
+    if words[logbook::SIDE] == 0 {
+        return est[job] <= words[logbook::TIME];
     }
-    words[journal::TIME] < lct[job]
+    words[logbook::TIME] < lct[job]
 }

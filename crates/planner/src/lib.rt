@@ -30,7 +30,7 @@ fn narrow_good(
         }
         Answer::Clash(count, job) => Answer::Clash(count, job),
         Answer::Refused(number) => {
-            journal::clear(log);
+            logbook::clear(log);
             Answer::Refused(number)
         }
     }

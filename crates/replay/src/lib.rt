@@ -38,13 +38,13 @@ fn replayed(
 {
     let mut i = 0;
     while i < count {
-        let words = journal::show_record(log, i);
+        let words = logbook::show_record(log, i);
         let code = judge::code_of(est, lct, dur, dem, cap, words);
         if code != 0 {
             return Ended::Rejected(i, code);
         }
-        let job = words[journal::JOB] as usize;
-        windows::shift(est, lct, job, words[journal::SIDE], words[journal::TIME]);
+        let job = words[logbook::JOB] as usize;
+        windows::shift(est, lct, job, words[logbook::SIDE], words[logbook::TIME]);
         i += 1;
         if windows::closed(est, lct, dur, job) {
             if i < count {
@@ -105,7 +105,7 @@ pub fn check_log(
     if number != 0 {
         return CheckAnswer::Refused(number);
     }
-    if journal::room(log) < count {
+    if logbook::room(log) < count {
         return CheckAnswer::Refused(6);
     }
     let short = windows::lowest_too_short(est, lct, dur);

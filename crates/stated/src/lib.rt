@@ -36,7 +36,7 @@ fn member_true(est: &[u32], lct: &[u32], dur: &[u32], set: &[u32], k: usize, t: 
     requires { ⌜ Timed (win (now est) (now lct)) (now dur) × (has (now set) k ≡ true → k < length (now dur)) × (t ≤ mostTime) ⌝ }
     ensures { λ r. ⌜ r ≡ where? (has (now (set .entry)) k) (sure (now (dur .entry)) (win (now (est .entry)) (now (lct .entry))) k t) ⌝ }
 {
-    if !members::has(set, k) {
+    if !bits::has(set, k) {
         return true;
     }
     sure(est, lct, dur, k, t)
@@ -47,14 +47,14 @@ pub fn stated_true(est: &[u32], lct: &[u32], dur: &[u32], words: &[u32]) -> bool
     requires { ⌜ Timed (win (now est) (now lct)) (now dur) × Placed (length (now dur)) (now words) ⌝ }
     ensures { λ r. ⌜ r ≡ statedTrue (jobsIn 0 (now (dur .entry)) [] 0) (win (now (est .entry)) (now (lct .entry))) (now (words .entry)) ⌝ }
 {
-    let t = words[journal::TIME];
-    let job = words[journal::JOB] as usize;
-    if !own_true(est, lct, dur, job, words[journal::SIDE], t) {
+    let t = words[logbook::TIME];
+    let job = words[logbook::JOB] as usize;
+    if !own_true(est, lct, dur, job, words[logbook::SIDE], t) {
         return false;
     }
-    let set = journal::set_of(words);
+    let set = logbook::set_of(words);
     let mut k = 0;
-    while k < members::BITS * set.len() {
+    while k < bits::BITS * set.len() {
         if !member_true(est, lct, dur, set, k, t) {
             return false;
         }

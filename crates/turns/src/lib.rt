@@ -83,7 +83,7 @@ pub fn take_turn(
     match found {
         searches::Found::Nothing => Turn::Rests,
         searches::Found::At(t) => {
-            if journal::room(log) <= count {
+            if logbook::room(log) <= count {
                 return Turn::Full;
             }
             writer::note(est, lct, dur, dem, cap, job, side, t, log, count);

@@ -36,11 +36,11 @@ fn gather(
     cap: u32,
     job: usize,
     t: u32,
-) -> [u32; members::WORDS]
+) -> [u32; bits::WORDS]
     requires { ⌜ Good (asked (now est) (now lct) (now dur) (now dem) cap) × (job < length (now est)) × (t ≤ mostTime) ⌝ }
     ensures { λ r. ⌜ r ≡ membersOf (asked (now (est .entry)) (now (lct .entry)) (now (dur .entry)) (now (dem .entry)) cap) job t ⌝ }
 {
-    let mut set = members::empty();
+    let mut set = bits::empty();
     let mut left = tabling::load_at(est, lct, dur, dem, job, t) + dem[job];
     let mut k = 0;
     while k < est.len() {
@@ -49,7 +49,7 @@ fn gather(
             if cap < rest {
                 left = rest;
             } else {
-                members::put(&mut set, k);
+                bits::put(&mut set, k);
             }
         }
         k += 1;
@@ -74,5 +74,5 @@ pub fn note(
     ensures { λ _. ⌜ now (log .exit) ≡ rewritten (now (log .entry)) k (recordOf (asked (now (est .entry)) (now (lct .entry)) (now (dur .entry)) (now (dem .entry)) cap) job (sideOf side) t) ⌝ }
 {
     let set = gather(est, lct, dur, dem, cap, job, t);
-    journal::write(log, k, job as u32, side, t, set);
+    logbook::write(log, k, job as u32, side, t, set);
 }

@@ -1,4 +1,4 @@
--- `journal::lay` meets its contract. Invariant: the first i words are laid, the rest is as it was. The measure is what is left of the words.
+-- `logbook::lay` meets its contract. Invariant: the first i words are laid, the rest is as it was. The measure is what is left of the words.
 use Prim.Native.Nat.{_-_, _≤_}
 use native.Mathlib.Nat.{le-antisymm}
 use native.Mathlib.Numerals.{add-one}
@@ -7,8 +7,8 @@ use mathlib.Core.Path.{_≡_, refl}
 use lib.ListN.{length, length-set}
 use lib.Seq.{paste, paste-zero, paste-suc}
 use borrow.Author.Needs.{needs}
-use Rattle.journal.proofs.lay.Statement.{statement}
-use Rattle.journal.proofs.lay.Tie as tie
+use Rattle.logbook.proofs.lay.Statement.{statement}
+use Rattle.logbook.proofs.lay.Tie as tie
 
 abbrev Inv-loop : tie.InvT-loop
 Inv-loop log₀ at words i₀ log i = (i ≤ length words) × (length log ≡ length log₀) × (log ≡ paste log₀ at words i)

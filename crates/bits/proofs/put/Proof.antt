@@ -1,11 +1,11 @@
--- `members::put` meets its contract: beyond the words nothing changes, and in a word the member's bit is set by its mask.
+-- `bits::put` meets its contract: beyond the words nothing changes, and in a word the member's bit is set by its mask.
 use mathlib.Core.Path.{sym}
 use native.Mathlib.Omega.{arith}
 use borrow.Author.Needs.{needs}
 use Rattle.members.specs.Members.{inserted}
 use Rattle.members.proofs.Inserted.{inserted-past}
-use Rattle.members.proofs.put.Statement.{statement}
-use Rattle.members.proofs.put.Tie as tie
+use Rattle.bits.proofs.put.Statement.{statement}
+use Rattle.bits.proofs.put.Tie as tie
 
 returns : tie.Need-returns
 returns c = sym (inserted-past _ _ (omega arith))

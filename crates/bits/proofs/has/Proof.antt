@@ -1,10 +1,10 @@
--- `members::has` meets its contract: beyond the words there is no member, and in a word the mask tests the member's bit.
+-- `bits::has` meets its contract: beyond the words there is no member, and in a word the mask tests the member's bit.
 use mathlib.Core.Path.{sym}
 use native.Mathlib.Omega.{arith}
 use borrow.Author.Needs.{needs}
 use Rattle.members.proofs.Sets.{has-past, has-mask}
-use Rattle.members.proofs.has.Statement.{statement}
-use Rattle.members.proofs.has.Tie as tie
+use Rattle.bits.proofs.has.Statement.{statement}
+use Rattle.bits.proofs.has.Tie as tie
 
 returns : tie.Need-returns
 returns c = sym (has-past _ _ (omega arith))

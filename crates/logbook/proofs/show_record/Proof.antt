@@ -1,10 +1,10 @@
--- `journal::show_record` meets its contract. Where k is below the room the record's words lie within the log, so nothing wraps.
+-- `logbook::show_record` meets its contract. Where k is below the room the record's words lie within the log, so nothing wraps.
 use native.Mathlib.Omega.{arith}
 use mathlib.Core.Path.{sym}
 use borrow.Author.Needs.{needs}
 use Rattle.journal.proofs.Records.{room-words, record-part, record-out}
-use Rattle.journal.proofs.show_record.Statement.{statement}
-use Rattle.journal.proofs.show_record.Tie as tie
+use Rattle.logbook.proofs.show_record.Statement.{statement}
+use Rattle.logbook.proofs.show_record.Tie as tie
 
 room-requires : tie.Need-room-requires
 room-requires c κs = search needs

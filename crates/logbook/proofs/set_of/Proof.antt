@@ -1,12 +1,12 @@
--- `journal::set_of` meets its contract: the part from the head's end is all that is left of the record.
+-- `logbook::set_of` meets its contract: the part from the head's end is all that is left of the record.
 use Prim.Native.Nat.{_-_}
 use native.Mathlib.Omega.{arith}
 use lib.ListN.{length, drop, length-drop}
 use lib.Seq.{take-all}
 use borrow.Author.Needs.{needs}
 use Rattle.journal.specs.Journal.{headWords}
-use Rattle.journal.proofs.set_of.Statement.{statement}
-use Rattle.journal.proofs.set_of.Tie as tie
+use Rattle.logbook.proofs.set_of.Statement.{statement}
+use Rattle.logbook.proofs.set_of.Tie as tie
 
 sub-result : tie.Need-sub-result
 sub-result c = search needs

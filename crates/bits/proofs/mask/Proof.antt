@@ -1,10 +1,10 @@
--- `members::mask` meets its contract: 1 shifted by less than 32 places is a power of 2 that fits a word.
+-- `bits::mask` meets its contract: 1 shifted by less than 32 places is a power of 2 that fits a word.
 use Prim.Native.Nat.{_%_}
 use native.Mathlib.Omega.{arith}
 use borrow.Author.Needs.{needs}
 use Rattle.members.proofs.Bits.{mask-is}
-use Rattle.members.proofs.mask.Statement.{statement}
-use Rattle.members.proofs.mask.Tie as tie
+use Rattle.bits.proofs.mask.Statement.{statement}
+use Rattle.bits.proofs.mask.Tie as tie
 
 cast-result : tie.Need-cast-result
 cast-result c = search needs

@@ -1,4 +1,4 @@
--- `members::count` meets its contract. The loop's invariant: the ones counted so far, at most 32 a word, and those of the words from `i` on are all the ones.
+-- `bits::count` meets its contract. The loop's invariant: the ones counted so far, at most 32 a word, and those of the words from `i` on are all the ones.
 -- The measure is the number of words that are left.
 use Prim.Native.Nat.{_+_, _-_, _*_, _≤_}
 use mathlib.Core.Path.{_≡_}
@@ -6,10 +6,10 @@ use native.Mathlib.Omega.{arith}
 use borrow.Author.Needs.{needs}
 use lib.Count.{ones-le}
 use lib.ListN.{length, drop}
 use Rattle.members.specs.Members.{onesOf}
 use Rattle.members.proofs.Sets.{ones-drop, ones-end}
-use Rattle.members.proofs.count.Statement.{statement}
-use Rattle.members.proofs.count.Tie as tie
+use Rattle.bits.proofs.count.Statement.{statement}
+use Rattle.bits.proofs.count.Tie as tie
 
 abbrev Inv-loop : tie.InvT-loop
 Inv-loop set n₀ i₀ n i = (i ≤ length set) × (n ≤ 32 * i) × (n + onesOf (drop i set) ≡ onesOf set)

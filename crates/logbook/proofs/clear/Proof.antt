@@ -1,4 +1,4 @@
--- `journal::clear` meets its contract. Invariant: the first `done` words are 0, the rest is as it was. The measure is what is left of the log.
+-- `logbook::clear` meets its contract. Invariant: the first `done` words are 0, the rest is as it was. The measure is what is left of the log.
 use Prim.Native.Nat.{_≤_, _-_}
 use native.Mathlib.Omega.{arith}
 use mathlib.Core.List.{_++_, append-nil}
@@ -7,9 +7,9 @@ use lib.ListN.{length, drop, replicate, length-set}
 use lib.Seq.{drop-length}
 use borrow.Author.Fill.{fill-more}
 use borrow.Author.Needs.{needs}
 use Rattle.journal.specs.Journal.{cleared}
-use Rattle.journal.proofs.clear.Statement.{statement}
-use Rattle.journal.proofs.clear.Tie as tie
+use Rattle.logbook.proofs.clear.Statement.{statement}
+use Rattle.logbook.proofs.clear.Tie as tie
 
 abbrev Inv-loop : tie.InvT-loop
 Inv-loop log₀ done₀ log done = (done ≤ length log) × (length log ≡ length log₀) × (log ≡ replicate done 0 ++ drop done log₀)

@@ -1,4 +1,4 @@
--- `journal::write` meets its contract: the head is laid, then the set behind it, and together they are the record's words.
+-- `logbook::write` meets its contract: the head is laid, then the set behind it, and together they are the record's words.
 use Prim.Native.Nat.{ℕ}
 use native.Mathlib.Omega.{arith}
 use mathlib.Core.List.{[], _∷_}
@@ -6,10 +6,10 @@ use mathlib.Core.Path.{_≡_, sym, ap, _∙_}
 use lib.ListN.{length}
 use borrow.Author.Needs.{needs}
 use Rattle.members.specs.Members.{setWords}
 use Rattle.journal.specs.Journal.{written}
 use Rattle.journal.proofs.Records.{room-words, rewritten-out, rewritten-parts, written-length}
-use Rattle.journal.proofs.write.Statement.{statement}
-use Rattle.journal.proofs.write.Tie as tie
+use Rattle.logbook.proofs.write.Statement.{statement}
+use Rattle.logbook.proofs.write.Tie as tie
 
 room-requires : tie.Need-room-requires
 room-requires c κs = search needs
