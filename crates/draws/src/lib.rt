@@ -47,7 +47,7 @@ fn named(dem: &[u32], words: &[u32]) -> u32
     ensures { λ r. ⌜ r ≡ named (jobsIn (length (now (dem .entry))) [] (now (dem .entry)) 0) (now (words .entry)) ⌝ }
 {
     let sum = members_draw(dem, words);
-    sum + dem[words[logbook::JOB] as usize]
+    sum + dem[words[logbook::JOB_WORD] as usize]
 }
 
 // 24: they exceed the capacity.

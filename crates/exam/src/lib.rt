@@ -19,13 +19,13 @@ pub fn in_range(n: usize, words: &[u32]) -> bool
     requires { ⌜ length (now words) ≡ recordWords ⌝ }
     ensures { λ r. ⌜ r ≡ inRange (jobsIn n [] [] 0) (now (words .entry)) ⌝ }
 {
-    if n <= (words[logbook::JOB] as usize) {
+    if n <= (words[logbook::JOB_WORD] as usize) {
         return false;
     }
-    if 1 < words[logbook::SIDE] {
+    if 1 < words[logbook::SIDE_WORD] {
         return false;
     }
-    words[logbook::TIME] <= screen::MOST_TIME
+    words[logbook::TIME_WORD] <= screen::MOST_TIME
 }
 
 // Whether k is in the list, with a duration and a demand.
@@ -61,7 +61,7 @@ pub fn partners(dur: &[u32], dem: &[u32], words: &[u32]) -> bool
     requires { ⌜ (length (now dem) ≡ length (now dur)) × (length (now words) ≡ recordWords) ⌝ }
     ensures { λ r. ⌜ r ≡ partners (jobsIn (length (now (dur .entry))) (now (dur .entry)) (now (dem .entry)) 0) (now (words .entry)) ⌝ }
 {
-    let job = words[logbook::JOB] as usize;
+    let job = words[logbook::JOB_WORD] as usize;
     if !takes_part(dur, dem, job) {
         return false;
     }
@@ -82,7 +82,7 @@ pub fn counted(words: &[u32]) -> bool
     ensures { λ r. ⌜ r ≡ eqb (now (words .entry) ! countWord) (onesOf (setOfRecord (now (words .entry)))) ⌝ }
 {
     let ones = bits::count(logbook::set_of(words));
-    words[logbook::COUNT] == ones
+    words[logbook::COUNT_WORD] == ones
 }
 
 // 26: the change tightens.
@@ -90,9 +90,9 @@ pub fn tightens(est: &[u32], lct: &[u32], words: &[u32]) -> bool
     requires { ⌜ (length (now words) ≡ recordWords) × (jobOf (now words) < length (now est)) × (jobOf (now words) < length (now lct)) ⌝ }
     ensures { λ r. ⌜ r ≡ tightens (win (now (est .entry)) (now (lct .entry))) (jobOf (now (words .entry))) (side (now (words .entry))) (timeOf (now (words .entry))) ⌝ }
 {
-    let job = words[logbook::JOB] as usize;
-    if words[logbook::SIDE] == 0 {
-        return est[job] <= words[logbook::TIME];
+    let job = words[logbook::JOB_WORD] as usize;
+    if words[logbook::SIDE_WORD] == 0 {
+        return est[job] <= words[logbook::TIME_WORD];
     }
-    words[logbook::TIME] < lct[job]
+    words[logbook::TIME_WORD] < lct[job]
 }

@@ -62,7 +62,7 @@ pub fn read_psplib(
 {
     let mut d = [0u32; screen::MOST_JOBS];
     let mut q = [0u32; screen::MOST_JOBS];
-    let parsed = psplib::parse(text, resource, &mut d, &mut q);
+    let parsed = sections::parse(text, resource, &mut d, &mut q);
     read_parsed(
         text,
         resource,

@@ -6,13 +6,13 @@ ghost use lib.Seq.{paste};
 ghost use Rattle.journal.specs.Journal.{recordWords, written, setOfRecord, roomOf, recordAt, rewritten, cleared};
 
 // The places of the words before the member set: job, side, time, number of members.
-pub const JOB: usize = 0;
+pub const JOB_WORD: usize = 0;
 
-pub const SIDE: usize = 1;
+pub const SIDE_WORD: usize = 1;
 
-pub const TIME: usize = 2;
+pub const TIME_WORD: usize = 2;
 
-pub const COUNT: usize = 3;
+pub const COUNT_WORD: usize = 3;
 
 // The number of those words.
 pub const HEAD: usize = 4;

@@ -43,8 +43,14 @@ fn replayed(
         if code != 0 {
             return Ended::Rejected(i, code);
         }
-        let job = words[logbook::JOB] as usize;
-        windows::shift(est, lct, job, words[logbook::SIDE], words[logbook::TIME]);
+        let job = words[logbook::JOB_WORD] as usize;
+        windows::shift(
+            est,
+            lct,
+            job,
+            words[logbook::SIDE_WORD],
+            words[logbook::TIME_WORD],
+        );
         i += 1;
         if windows::closed(est, lct, dur, job) {
             if i < count {

@@ -10,7 +10,7 @@ use Rattle.joblist.specs.Limits.{mostJobs}
 use Rattle.chains.specs.Paths.{Precedes, Below}
 use Rattle.texts.specs.Tokens.{Token, tokens}
 use Rattle.texts.specs.Readings.{Read, bad, good, andThen, times}
-use Rattle.texts.specs.Scan.{none?}
+use Rattle.scanner.specs.Scan.{none?}
 use Rattle.texts.proofs.Readings.{bad-not-good, good-one}
 use Rattle.projects.specs.Projects.{Row, Project, link, tagged, pairsFrom, pairsOf, durations, demandsOn, Within}
 use Rattle.projects.specs.Patterson.{row, opening, project, patterson}

@@ -9,8 +9,8 @@ use Rattle.joblist.specs.Limits.{mostTime, mostJobs}
 use Rattle.chains.specs.Paths.{Pair, pair, Precedes, Below}
 use Rattle.texts.specs.Tokens.{Token, tokens}
 use Rattle.texts.specs.Readings.{Read, bad, good, andThen, one, times}
-use Rattle.texts.specs.declared.Got.{Got}
-use Rattle.texts.specs.declared.Got.the-variants.{Good, Bad}
+use Rattle.scanner.specs.declared.Got.{Got}
+use Rattle.scanner.specs.declared.Got.the-variants.{Good, Bad}
 use Rattle.projects.specs.Projects.{Head, link, tagged, pairsFrom, durations, demandsOn}
 use Rattle.projects.specs.Patterson.{head, Opening}
 use Rattle.rows.specs.declared.Table.{Table}

@@ -8,7 +8,7 @@ use parts::open_text;
 use parts::read_front;
 use parts::read_link;
 pub use parts::read_many;
-use texts::Got;
+use scanner::Got;
 ghost use mathlib.Core.Path.{_≡_};
 ghost use Prim.Native.Nat.{ℕ, _≤_};
 ghost use lib.ListN.{length, drop};
@@ -164,7 +164,7 @@ pub fn parse(
             match validate(text, at, n, table, res, dur, dem) {
                 Found::Not(c) => Parsed::Broken(c),
                 Found::All(pairs, to) => {
-                    if !texts::is_over(text, to) {
+                    if !scanner::is_over(text, to) {
                         return Parsed::Broken(30);
                     }
                     Parsed::Entire(Shape {

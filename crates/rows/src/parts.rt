@@ -1,6 +1,6 @@
 // The parts of a text: a successor, several numbers, what stands before a row's successors, and what stands before the rows.
 use crate::Table;
-use texts::Got;
+use scanner::Got;
 ghost use mathlib.Core.Path.{_≡_};
 ghost use Prim.Native.Nat.{_<_};
 ghost use lib.Dec.{eqb};
@@ -9,7 +9,7 @@ ghost use Rattle.lists.specs.Tests.{pick};
 ghost use Rattle.joblist.specs.Limits.{mostJobs};
 ghost use Rattle.texts.specs.Tokens.{tokens};
 ghost use Rattle.texts.specs.Readings.{many};
-ghost use Rattle.texts.specs.Scan.{GotSays};
+ghost use Rattle.scanner.specs.Scan.{GotSays};
 ghost use Rattle.projects.specs.Projects.{link};
 ghost use Rattle.projects.specs.Patterson.{head, opening};
 ghost use Rattle.projects.specs.Tables.{numbered};
@@ -32,7 +32,7 @@ pub enum Opened {
 pub fn read_link(text: &[u8], at: usize, n: u32) -> Got
     ensures { λ r. ⌜ GotSays (link n (tokens (drop at (now (text .entry))))) (now (text .entry)) r ⌝ }
 {
-    match texts::next_up_to(text, at, n, 32) {
+    match scanner::next_up_to(text, at, n, 32) {
         Got::Good(v, to) => {
             if v == 0 {
                 return Got::Bad(32);
@@ -61,7 +61,7 @@ pub fn read_many(text: &[u8], at: usize, m: u32, top: u32, res: u32) -> Got
     let mut to = at;
     let mut i: u32 = 0;
     while i < m {
-        match texts::next_up_to(text, to, top, 31) {
+        match scanner::next_up_to(text, to, top, 31) {
             Got::Good(v, end) => {
                 picked = choose(i, res, v, picked);
                 to = end;
@@ -79,11 +79,11 @@ pub fn read_many(text: &[u8], at: usize, m: u32, top: u32, res: u32) -> Got
 fn read_head(text: &[u8], at: usize, n: u32, k: u32, res: u32) -> HeadGot
     ensures { λ r. ⌜ HeadSays (head n k (tokens (drop at (now (text .entry))))) (now (text .entry)) res r ⌝ }
 {
-    match texts::next_up_to(text, at, screen::MOST_TIME, 31) {
+    match scanner::next_up_to(text, at, screen::MOST_TIME, 31) {
         Got::Bad(c) => HeadGot::NoLine(c),
         Got::Good(d, a) => match read_many(text, a, k, screen::MOST_DEMAND, res) {
             Got::Bad(c) => HeadGot::NoLine(c),
-            Got::Good(q, b) => match texts::next_up_to(text, b, n, 31) {
+            Got::Good(q, b) => match scanner::next_up_to(text, b, n, 31) {
                 Got::Bad(c) => HeadGot::NoLine(c),
                 Got::Good(m, e) => HeadGot::Line(d, q, m, e),
             },
@@ -96,9 +96,9 @@ fn read_numbered(text: &[u8], at: usize, j: u32) -> Got
     requires { ⌜ j < mostJobs ⌝ }
     ensures { λ r. ⌜ GotSays (numbered j (tokens (drop at (now (text .entry))))) (now (text .entry)) r ⌝ }
 {
-    match texts::next_exactly(text, at, j + 1) {
+    match scanner::next_exactly(text, at, j + 1) {
         Got::Bad(c) => Got::Bad(c),
-        Got::Good(_, mode) => texts::next_exactly(text, mode, 1),
+        Got::Good(_, mode) => scanner::next_exactly(text, mode, 1),
     }
 }
 
@@ -109,7 +109,7 @@ fn read_relation(text: &[u8], at: usize, n: u32, j: u32, res: u32) -> HeadGot
 {
     match read_numbered(text, at, j) {
         Got::Bad(c) => HeadGot::NoLine(c),
-        Got::Good(_, count) => match texts::next_up_to(text, count, n, 31) {
+        Got::Good(_, count) => match scanner::next_up_to(text, count, n, 31) {
             Got::Bad(c) => HeadGot::NoLine(c),
             Got::Good(m, e) => HeadGot::Line(0, 0, m, e),
         },
@@ -123,7 +123,7 @@ fn read_request(text: &[u8], at: usize, k: u32, j: u32, res: u32) -> HeadGot
 {
     match read_numbered(text, at, j) {
         Got::Bad(c) => HeadGot::NoLine(c),
-        Got::Good(_, duration) => match texts::next_up_to(text, duration, screen::MOST_TIME, 31) {
+        Got::Good(_, duration) => match scanner::next_up_to(text, duration, screen::MOST_TIME, 31) {
             Got::Bad(c) => HeadGot::NoLine(c),
             Got::Good(d, demands) => match read_many(text, demands, k, screen::MOST_DEMAND, res) {
                 Got::Bad(c) => HeadGot::NoLine(c),
@@ -149,9 +149,9 @@ pub fn read_front(text: &[u8], at: usize, n: u32, table: Table, j: u32, res: u32
 pub fn open_text(text: &[u8], res: u32) -> Opened
     ensures { λ r. ⌜ OpenSays (opening (tokens (now (text .entry)))) (now (text .entry)) res r ⌝ }
 {
-    match texts::next_up_to(text, 0, screen::MOST_JOBS as u32, 31) {
+    match scanner::next_up_to(text, 0, screen::MOST_JOBS as u32, 31) {
         Got::Bad(c) => Opened::Closed(c),
-        Got::Good(n, a) => match texts::next_up_to(text, a, screen::MOST_RESOURCES, 31) {
+        Got::Good(n, a) => match scanner::next_up_to(text, a, screen::MOST_RESOURCES, 31) {
             Got::Bad(c) => Opened::Closed(c),
             Got::Good(k, b) => match read_many(text, b, k, screen::MOST_DEMAND, res) {
                 Got::Bad(c) => Opened::Closed(c),

@@ -11,7 +11,7 @@ use Rattle.joblist.specs.Limits.{mostJobs}
 use Rattle.chains.specs.Paths.{Pair}
 use Rattle.chains.specs.Listed.{paired}
 use Rattle.projects.specs.Projects.{Project, tagged, pairsFrom}
-use Rattle.texts.specs.Scan.{held}
+use Rattle.scanner.specs.Scan.{held}
 use Rattle.projects.specs.Form.{decimal, lineOf, jobLines, written}
 use Rattle.projects.specs.Made.{successorsOf, rowsFrom, made}
 use Rattle.scribe.specs.Says.{mostBytes, Put, Room}

@@ -8,9 +8,9 @@ use lib.Dec.{ltb}
 use lib.ListN.{length, length-append}
 use borrow.Author.Tests.{ltb-true, ltb-false, lt-ltb, le-ltb, le-leb, ne-eqb}
 use Rattle.lists.specs.Lists.{Every}
-use Rattle.texts.specs.Scan.{held}
+use Rattle.scanner.specs.Scan.{held}
 use Rattle.texts.specs.Tokens.{blank, digit, number, more, tokenFrom, token}
-use Rattle.texts.proofs.Runs.{Solid, token-append}
+use Rattle.scanner.proofs.Runs.{Solid, token-append}
 use Rattle.projects.specs.Form.{decimalIn, decimal}
 
 -- more room than is needed changes nothing

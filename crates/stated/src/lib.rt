@@ -47,9 +47,9 @@ pub fn stated_true(est: &[u32], lct: &[u32], dur: &[u32], words: &[u32]) -> bool
     requires { ⌜ Timed (win (now est) (now lct)) (now dur) × Placed (length (now dur)) (now words) ⌝ }
     ensures { λ r. ⌜ r ≡ statedTrue (jobsIn 0 (now (dur .entry)) [] 0) (win (now (est .entry)) (now (lct .entry))) (now (words .entry)) ⌝ }
 {
-    let t = words[logbook::TIME];
-    let job = words[logbook::JOB] as usize;
-    if !own_true(est, lct, dur, job, words[logbook::SIDE], t) {
+    let t = words[logbook::TIME_WORD];
+    let job = words[logbook::JOB_WORD] as usize;
+    if !own_true(est, lct, dur, job, words[logbook::SIDE_WORD], t) {
         return false;
     }
     let set = logbook::set_of(words);

@@ -1,6 +1,3 @@
-pub mod Tokens
-pub mod Runs
-pub mod Numbers
 pub mod Readings
 pub mod Exactly
 pub mod Given

@@ -1,0 +1,3 @@
+pub mod Tokens
+pub mod Runs
+pub mod Numbers
