@@ -13,7 +13,7 @@ use Rattle.chains.specs.Passes.{longest, acyclic?}
 use Rattle.texts.specs.Readings.{good}
 use Rattle.projects.specs.Projects.{Project, pairsFrom, Within}
 use Rattle.projects.specs.Patterson.{patterson}
-use Rattle.rows.proofs.Limits.{patterson-takes}
+use Rattle.parsing.proofs.Limits.{patterson-takes}
 use Rattle.exchange.specs.Calls.{Lent, TextAfter}
 use Rattle.exchange.specs.Tests.{Fits}
 use Rattle.exchange.specs.Promise.{Reads}

@@ -21,9 +21,9 @@ use Rattle.chains.proofs.Longest.{longest-chained, longest-is}
 use Rattle.chains.proofs.Cycles.{judged-acyclic, cycle-back, cycle-map}
 use Rattle.texts.specs.Readings.{Read, good}
 use Rattle.projects.specs.Projects.{Project, pairsOf, durations, demandsOn, Within}
-use Rattle.order.specs.Rounds.{turned}
-use Rattle.order.proofs.Orders.{back-of, of-back}
-use Rattle.order.proofs.Settling.{below-turned}
+use Rattle.precedence.specs.Rounds.{turned}
+use Rattle.precedence.proofs.Orders.{back-of, of-back}
+use Rattle.precedence.proofs.Settling.{below-turned}
 use Rattle.exchange.specs.Calls.{Lent, TextAfter, Order, durationOf}
 use Rattle.exchange.specs.Tests.{Fits, Tested}
 use Rattle.exchange.specs.Promise.{Reads}

@@ -13,10 +13,10 @@ use Rattle.chains.specs.Paths.{Pair, Below, Longest, Longer, Back, weight}
 use Rattle.chains.proofs.Chains.{chain-map}
 use Rattle.texts.specs.Readings.{Read, good}
 use Rattle.projects.specs.Projects.{Project, pairsOf}
-use Rattle.rows.specs.Parsed.{comes, first, Parsing}
-use Rattle.rows.specs.declared.Shape.{Shape}
-use Rattle.rows.proofs.Parsing.{parsing-range, parsing-few}
-use Rattle.order.specs.Chains.{OrderSays}
+use Rattle.parsing.specs.Parsed.{comes, first, Parsing}
+use Rattle.parsing.specs.declared.Shape.{Shape}
+use Rattle.parsing.proofs.Parsing.{parsing-range, parsing-few}
+use Rattle.precedence.specs.Chains.{OrderSays}
 use Rattle.exchange.specs.Calls.{Lent, Order, durationOf}
 use Rattle.exchange.specs.Tests.{Fitting, Misfit, Fits, Unfit}
 use Rattle.exchange.specs.Table.{Answered}

@@ -27,7 +27,7 @@ pub fn read_patterson(
 {
     let mut d = [0u32; screen::MOST_JOBS];
     let mut q = [0u32; screen::MOST_JOBS];
-    let parsed = rows::parse(text, resource, &mut d, &mut q);
+    let parsed = parsing::parse(text, resource, &mut d, &mut q);
     read_parsed(
         text,
         resource,

@@ -3,8 +3,8 @@
 // Every refusal is decided before a lent word is written: durations, demands and chains stand in local arrays first. The pairs are not stored: chains are
 // found, and pairs written, by reading the text again (docs/DECISIONS.md says why).
 use answers::ReadAnswer;
-use rows::Parsed;
-use rows::Shape;
+use parsing::Parsed;
+use parsing::Shape;
 ghost use mathlib.Core.Path.{_≡_};
 ghost use mathlib.Core.List.{[]};
 ghost use Prim.Native.Nat.{ℕ, _≤_};
@@ -14,7 +14,7 @@ ghost use Rattle.answers.specs.Said.{saysRead};
 ghost use Rattle.joblist.specs.Limits.{mostTime, mostJobs};
 ghost use Rattle.texts.specs.Readings.{Read, good};
 ghost use Rattle.projects.specs.Projects.{Project};
-ghost use Rattle.rows.specs.Parsed.{Parsing, ParsedSays};
+ghost use Rattle.parsing.specs.Parsed.{Parsing, ParsedSays};
 ghost use Rattle.exchange.specs.Promise.{Reads};
 
 // The call on a text that was parsed, with its durations and demands in d and q. The horizon comes first.
@@ -97,7 +97,7 @@ fn read_whole(
     }
     let mut heads = [0u32; screen::MOST_JOBS];
     let mut tails = [0u32; screen::MOST_JOBS];
-    let c = order::longest_chains(text, z.n, table, z.at, d, horizon, &mut heads, &mut tails);
+    let c = precedence::longest_chains(text, z.n, table, z.at, d, horizon, &mut heads, &mut tails);
     if c != 0 {
         return ReadAnswer::Refused(c);
     }

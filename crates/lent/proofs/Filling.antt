@@ -11,12 +11,12 @@ use Rattle.lists.specs.Lists.{_!_}
 use Rattle.chains.specs.Paths.{Pair, pair}
 use Rattle.texts.specs.Tokens.{Token}
 use Rattle.texts.specs.Readings.{Read, good}
-use Rattle.rows.specs.declared.Table.{Table}
-use Rattle.rows.specs.declared.Walk.{Walk}
-use Rattle.rows.specs.Walk.{Fit}
-use Rattle.rows.specs.Parsed.{comes, first}
-use Rattle.order.specs.Pairs.{PullSays}
-use Rattle.order.specs.declared.Pull.the-variants.{Next, NoMore}
+use Rattle.parsing.specs.declared.Table.{Table}
+use Rattle.parsing.specs.declared.Walk.{Walk}
+use Rattle.parsing.specs.Walk.{Fit}
+use Rattle.parsing.specs.Parsed.{comes, first}
+use Rattle.precedence.specs.Pairs.{PullSays}
+use Rattle.precedence.specs.declared.Pull.the-variants.{Next, NoMore}
 use Rattle.lent.specs.Parts.{Wrote}
 
 map-snoc : (f : Pair → ℕ) (done : List Pair) (p : Pair) (l : List ℕ) → map f (done ++ p ∷ []) ++ l ≡ map f done ++ f p ∷ l

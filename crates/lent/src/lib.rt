@@ -1,13 +1,13 @@
 // The lists that a reader of project texts is lent (document 02, Item 1): whether their lengths fit, the latest ends, and the pairs.
-use order::Pull;
-use rows::Table;
-use rows::Walk;
+use parsing::Table;
+use parsing::Walk;
+use precedence::Pull;
 ghost use mathlib.Core.Path.{_≡_};
 ghost use Prim.Native.Nat.{ℕ, _≤_};
 ghost use lib.ListN.{length};
 ghost use Rattle.lists.specs.Lists.{_!_};
 ghost use Rattle.joblist.specs.Limits.{mostJobs};
-ghost use Rattle.rows.specs.Parsed.{comes, first};
+ghost use Rattle.parsing.specs.Parsed.{comes, first};
 ghost use Rattle.lent.specs.Parts.{RoomSays, Lessened, Roomy, Wrote};
 
 // Whether the lengths of the six lists are those wanted for n jobs and m pairs.
@@ -60,7 +60,7 @@ pub fn write_pairs(text: &[u8], n: u32, table: Table, at: usize, js: &mut [u32],
     };
     let mut i: usize = 0;
     loop {
-        match order::next_pair(text, n, table, w) {
+        match precedence::next_pair(text, n, table, w) {
             Pull::NoMore => {
                 return;
             }

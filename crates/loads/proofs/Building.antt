@@ -10,7 +10,7 @@ use Rattle.lists.specs.Tests.{between}
 use Rattle.lists.proofs.Tests.{only-le}
 use Rattle.narrowing.specs.Windows.{win}
 use Rattle.joblist.specs.Limits.{mostTime}
-use Rattle.tabling.specs.Asked.{asked}
+use Rattle.crowding.specs.Asked.{asked}
 use Rattle.timetable.specs.Table.{Workable}
 use Rattle.timetable.proofs.Good.{durations-sized, window-within, demand-most}
 use Rattle.profile.specs.declared.kept.Outline.{Outline}

@@ -15,7 +15,7 @@ use Rattle.joblist.specs.Limits.{jobs, mostTime}
 use Rattle.timetable.specs.Time.{Jobs, load}
 use Rattle.timetable.specs.Table.{jobsOf, Workable}
 use Rattle.timetable.proofs.Loads.{load-moved}
-use Rattle.tabling.specs.Asked.{asked}
+use Rattle.crowding.specs.Asked.{asked}
 use Rattle.timetable.proofs.Moves.{moved-size}
 use Rattle.timetable.proofs.Good.{durations-sized, ends-sized, demand-most}
 use Rattle.profile.specs.declared.kept.Outline.{Outline}

@@ -6,7 +6,7 @@ ghost use Prim.Native.Nat.{_<_, _≤_};
 ghost use lib.ListN.{length};
 ghost use Rattle.narrowing.specs.Windows.{win, moved, sideOf, Respects};
 ghost use Rattle.joblist.specs.Limits.{mostTime};
-ghost use Rattle.tabling.specs.Asked.{asked};
+ghost use Rattle.crowding.specs.Asked.{asked};
 ghost use Rattle.timetable.specs.Table.{Workable};
 ghost use Rattle.loads.specs.Loads.{Spacious, Loaded, LoadedAs};
 

@@ -10,10 +10,10 @@ use Rattle.narrowing.proofs.Moves.{side-early, side-late}
 use Rattle.joblist.specs.Limits.{jobs, mostTime}
 use Rattle.timetable.specs.Time.{Applies, bound}
 use Rattle.timetable.specs.Table.{Call, call, jobsOf, Workable}
-use Rattle.tabling.specs.Asked.{asked}
+use Rattle.crowding.specs.Asked.{asked}
 use Rattle.timetable.proofs.Good.{ends-sized, start-most, end-most}
 use Rattle.timetable.proofs.Moves.{best-applies}
-use Rattle.tabling.proofs.Steps.{good-cap}
+use Rattle.crowding.proofs.Steps.{good-cap}
 use Rattle.profile.specs.declared.kept.Outline.{Outline}
 use Rattle.loads.specs.Loads.{Loaded}
 use Rattle.turns.specs.declared.Place.{Place}

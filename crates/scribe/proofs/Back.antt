@@ -13,7 +13,7 @@ use Rattle.texts.specs.Readings.{Read, good, andThen, one, times, many}
 use Rattle.scanner.proofs.Runs.{tokens-run, tokens-over}
 use Rattle.projects.specs.Projects.{Row, Project, link}
 use Rattle.projects.specs.Patterson.{head, row, project, patterson}
-use Rattle.rows.proofs.Whole.{opening-good, project-good}
+use Rattle.parsing.proofs.Whole.{opening-good, project-good}
 use Rattle.projects.specs.Form.{decimal, lineOf, numbers, jobLines, written}
 use Rattle.scribe.proofs.Writable.{WritableRow, Writable}
 use Rattle.scribe.proofs.Decimals.{decimal-token, decimal-solid, decimal-some}

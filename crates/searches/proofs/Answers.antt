@@ -17,7 +17,7 @@ use Rattle.timetable.specs.Time.{Jobs, load, Crowded}
 use Rattle.timetable.specs.Search.{best}
 use Rattle.timetable.specs.Table.{jobsOf, Workable}
 use Rattle.timetable.proofs.Law.{greatest-crowded, least-crowded}
-use Rattle.tabling.specs.Asked.{asked}
+use Rattle.crowding.specs.Asked.{asked}
 use Rattle.timetable.proofs.Good.{durations-sized, window-long}
 use Rattle.profile.specs.declared.kept.Outline.{Outline}
 use Rattle.loads.specs.Loads.{fullLoad, Loaded}

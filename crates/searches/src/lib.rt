@@ -5,7 +5,7 @@ ghost use Prim.Native.Nat.{_<_, _≤_};
 ghost use lib.ListN.{length};
 ghost use Rattle.narrowing.specs.Windows.{win, sideOf};
 ghost use Rattle.profile.specs.Steps.{behindAll, Points};
-ghost use Rattle.tabling.specs.Asked.{asked};
+ghost use Rattle.crowding.specs.Asked.{asked};
 ghost use Rattle.timetable.specs.Table.{Workable};
 ghost use Rattle.loads.specs.Loads.{Loaded};
 ghost use Rattle.searches.specs.Found.{found, nextTime};

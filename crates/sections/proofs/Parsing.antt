@@ -13,15 +13,15 @@ use Rattle.headings.specs.Lines.{behindLines, counted}
 use Rattle.headings.specs.Headings.{marks, inOrder, section}
 use Rattle.projects.specs.Projects.{Project, pairsFrom, durations, demandsOn}
 use Rattle.projects.specs.Tables.{relation, Need, request}
-use Rattle.rows.specs.Walk.{Seen, seeing, FoundSays}
-use Rattle.rows.specs.Parsed.{onlyPairs, comes, first, ParsedSays}
-use Rattle.rows.specs.declared.Table.the-variants.{Relations, Requests}
-use Rattle.rows.specs.declared.Found.the-variants.{All}
-use Rattle.rows.specs.declared.Parsed.the-variants.{Entire}
-use Rattle.rows.proofs.Takes.{some-code}
-use Rattle.rows.proofs.Tables.{linked, needed, relations-said, requests-said}
-use Rattle.rows.proofs.Whole.{viewed, rows-good, rows-bad}
-use Rattle.rows.proofs.Parsing.{pairs-any}
+use Rattle.parsing.specs.Walk.{Seen, seeing, FoundSays}
+use Rattle.parsing.specs.Parsed.{onlyPairs, comes, first, ParsedSays}
+use Rattle.parsing.specs.declared.Table.the-variants.{Relations, Requests}
+use Rattle.parsing.specs.declared.Found.the-variants.{All}
+use Rattle.parsing.specs.declared.Parsed.the-variants.{Entire}
+use Rattle.parsing.proofs.Takes.{some-code}
+use Rattle.parsing.proofs.Tables.{linked, needed, relations-said, requests-said}
+use Rattle.parsing.proofs.Whole.{viewed, rows-good, rows-bad}
+use Rattle.parsing.proofs.Parsing.{pairs-any}
 use Rattle.psplib.specs.Psplib.{join, tables, sections, psplib}
 use Rattle.psplib.proofs.Joined.{join-long, join-pairs, join-durations, join-demands}
 use Rattle.psplib.proofs.Limits.{relations-take, requests-take, tables-take, tables-codes, psplib-codes, psplib-some}

@@ -1,9 +1,9 @@
 // A text of the PSPLIB layout read whole (document 01, 'Library layouts'; refusals of document 02, Items 1 and 13): its headings, the two counts, and
 // its three tables.
-use rows::Found;
-use rows::Parsed;
-use rows::Shape;
-use rows::Table;
+use parsing::Found;
+use parsing::Parsed;
+use parsing::Shape;
+use parsing::Table;
 use scanner::Got;
 use seeker::Count;
 ghost use mathlib.Core.Path.{_≡_};
@@ -11,7 +11,7 @@ ghost use Prim.Native.Nat.{ℕ, _≤_};
 ghost use lib.ListN.{length, drop};
 ghost use Rattle.lists.specs.Lists.{_!_};
 ghost use Rattle.joblist.specs.Limits.{mostTime, mostJobs};
-ghost use Rattle.rows.specs.Parsed.{ParsedSays};
+ghost use Rattle.parsing.specs.Parsed.{ParsedSays};
 ghost use Rattle.psplib.specs.Psplib.{tables, psplib};
 
 // How many lines a table's rows stand behind: the heading's and the column names'; for the requests a line of hyphens too.
@@ -75,15 +75,15 @@ fn read_tables(
     ensures { λ r. ⌜ ParsedSays (tables n k (drop (from .relations) (now (text .entry))) (drop (from .requests) (now (text .entry))) (drop (from .capacities) (now (text .entry)))) (now (text .entry)) res (now (dur .exit)) (now (dem .exit)) r × (length (now (dur .exit)) ≡ mostJobs) × (length (now (dem .exit)) ≡ mostJobs) × ((j : ℕ) → now (dur .exit) ! j ≤ mostTime) ⌝ }
 {
     let at = seeker::behind_lines(text, from.relations, BEHIND_NAMES);
-    match rows::validate(text, at, n, Table::Relations, res, dur, dem) {
+    match parsing::validate(text, at, n, Table::Relations, res, dur, dem) {
         Found::Not(c) => Parsed::Broken(c),
         Found::All(pairs, _) => {
             let requests = seeker::behind_lines(text, from.requests, BEHIND_HYPHENS);
-            match rows::validate(text, requests, n, Table::Requests(k), res, dur, dem) {
+            match parsing::validate(text, requests, n, Table::Requests(k), res, dur, dem) {
                 Found::Not(c) => Parsed::Broken(c),
                 Found::All(_, _) => {
                     let capacities = seeker::behind_lines(text, from.capacities, BEHIND_NAMES);
-                    match rows::read_many(text, capacities, k, screen::MOST_DEMAND, res) {
+                    match parsing::read_many(text, capacities, k, screen::MOST_DEMAND, res) {
                         Got::Bad(c) => Parsed::Broken(c),
                         Got::Good(cap, _) => Parsed::Entire(Shape {
                             n,

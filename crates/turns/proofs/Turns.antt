@@ -11,10 +11,10 @@ use Rattle.timetable.specs.Time.{bound}
 use Rattle.timetable.specs.Table.{Call, call, Workable}
 use Rattle.searches.specs.declared.Found.{Found}
 use Rattle.searches.specs.Found.{found}
-use Rattle.tabling.specs.Asked.{asked}
+use Rattle.crowding.specs.Asked.{asked}
 use Rattle.timetable.proofs.Moves.{best-applies, time-small}
 use Rattle.searches.proofs.Answers.{found-some}
-use Rattle.writer.specs.Record.{recordOf}
+use Rattle.noting.specs.Record.{recordOf}
 use Rattle.turns.specs.declared.Place.{Place}
 use Rattle.turns.specs.Moves.{timeAt, Moves}
 

@@ -9,7 +9,7 @@ use Rattle.journal.specs.Journal.{roomOf, rewritten}
 use Rattle.timetable.specs.Time.{bound}
 use Rattle.timetable.specs.Table.{Call}
 use Rattle.searches.specs.Found.{nextTime}
-use Rattle.writer.specs.Record.{recordOf}
+use Rattle.noting.specs.Record.{recordOf}
 use Rattle.turns.specs.declared.Place.{Place}
 use Rattle.turns.specs.declared.Turn.{Turn}
 use Rattle.turns.specs.declared.Turn.the-variants.{Rests, Moved, Closed, Full}

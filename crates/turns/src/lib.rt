@@ -86,7 +86,7 @@ pub fn take_turn(
             if logbook::room(log) <= count {
                 return Turn::Full;
             }
-            writer::note(est, lct, dur, dem, cap, job, side, t, log, count);
+            noting::note(est, lct, dur, dem, cap, job, side, t, log, count);
             windows::shift(est, lct, job, side, t);
             if windows::closed(est, lct, dur, job) {
                 return Turn::Closed;

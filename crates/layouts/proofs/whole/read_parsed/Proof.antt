@@ -1,6 +1,6 @@
 -- `layouts::read_parsed` meets its contract: the horizon, then what the text met, then what `read_whole` says.
 use borrow.Author.Needs.{needs}
-use Rattle.rows.proofs.Parsing.{parsed-within}
+use Rattle.parsing.proofs.Parsing.{parsed-within}
 use Rattle.exchange.proofs.Asked.{far, broken}
 use Rattle.exchange.proofs.Meaning.{reads-of}
 use Rattle.layouts.proofs.whole.read_parsed.Statement.{statement}

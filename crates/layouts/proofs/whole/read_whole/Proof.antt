@@ -9,7 +9,7 @@ use lib.ListN.{length}
 use Rattle.joblist.specs.Limits.{mostJobs}
 use Rattle.texts.proofs.Readings.{good-same}
 use Rattle.projects.specs.Projects.{Within}
-use Rattle.rows.proofs.Parsing.{parsing-range, parsing-few}
+use Rattle.parsing.proofs.Parsing.{parsing-range, parsing-few}
 use Rattle.exchange.specs.Tests.{Fitting}
 use Rattle.layouts.proofs.Answering.{tails-low, no-resource, no-room, no-order, taken}
 use Rattle.exchange.proofs.Meaning.{reads-of}

@@ -1,0 +1,118 @@
+-- A text read whole: from its opening and its rows to the project; and the pairs do not depend on the resource that the walk looks at.
+use Prim.Native.Nat.{ℕ, _-_, _≤_}
+use native.Mathlib.Omega.{arith}
+use mathlib.Core.Path.{_≡_, refl, sym, ap, _∙_, subst}
+use mathlib.Core.Bool.{true, false}
+use mathlib.Core.List.{List, [], _∷_, _++_}
+use lib.ListN.{length, drop, take, length-map}
+use lib.Seq.{length-take-le}
+use Rattle.joblist.specs.Limits.{mostJobs}
+use Rattle.chains.specs.Paths.{Precedes, Below}
+use Rattle.texts.specs.Tokens.{Token, tokens}
+use Rattle.texts.specs.Readings.{Read, bad, good, andThen, times}
+use Rattle.scanner.specs.Scan.{none?}
+use Rattle.texts.proofs.Readings.{bad-not-good, good-one}
+use Rattle.projects.specs.Projects.{Row, Project, link, tagged, pairsFrom, pairsOf, durations, demandsOn, Within}
+use Rattle.projects.specs.Patterson.{row, opening, project, patterson}
+use Rattle.parsing.specs.Heads.{headIn, rowIn}
+use Rattle.parsing.specs.Walk.{Seen, seeing, OpenSays, FoundSays}
+use Rattle.parsing.specs.Parsed.{onlyPairs, Parsing, ParsedSays}
+use Rattle.parsing.specs.declared.Table.{Table}
+use Rattle.parsing.specs.declared.Table.the-variants.{Whole}
+use Rattle.parsing.specs.declared.Shape.{Shape}
+use Rattle.parsing.specs.declared.Parsed.{Parsed}
+use Rattle.parsing.specs.declared.Parsed.the-variants.{Entire, Broken}
+use Rattle.parsing.specs.declared.parts.Opened.the-variants.{Ready}
+use Rattle.parsing.specs.declared.Found.the-variants.{All}
+use Rattle.parsing.proofs.Takes.{some-code}
+use Rattle.parsing.proofs.Limits.{patterson-takes, patterson-codes}
+use Rattle.parsing.proofs.Whole.{rows-good, rows-bad, project-bad, project-bad₂, project-over, project-good}
+
+pub pairs-any : (n : ℕ) (table : Table) (a b next left : ℕ) (ts : List Token) → onlyPairs (seeing n table a next left ts) ≡ onlyPairs (seeing n table b next left ts)
+unfolding seeing
+pairs-any n table a b next left ts = go (times (λ i. link n) 0 left ts)
+  where
+    rest : (ss : List ℕ) (r : Read (List Row))
+        → onlyPairs (andThen r (λ rs t₂. good (record { durs = durations rs; dems = demandsOn a rs; pairs = tagged (next - 1) ss ++ pairsFrom next rs }) t₂))
+        ≡ onlyPairs (andThen r (λ rs t₂. good (record { durs = durations rs; dems = demandsOn b rs; pairs = tagged (next - 1) ss ++ pairsFrom next rs }) t₂))
+    rest ss (bad c) = refl
+    rest ss (good rs t₂) = refl
+
+    go : (r : Read (List ℕ))
+        → onlyPairs (andThen r (λ ss t₁. andThen (times (rowIn table n) next (n - next) t₁) (λ rs t₂. good (record { durs = durations rs; dems = demandsOn a rs; pairs = tagged (next - 1) ss ++ pairsFrom next rs }) t₂)))
+        ≡ onlyPairs (andThen r (λ ss t₁. andThen (times (rowIn table n) next (n - next) t₁) (λ rs t₂. good (record { durs = durations rs; dems = demandsOn b rs; pairs = tagged (next - 1) ss ++ pairsFrom next rs }) t₂)))
+    go (bad c) = refl
+    go (good ss t₁) = rest ss (times (rowIn table n) next (n - next) t₁)
+
+-- whether tokens are left
+some-left : (ts : List Token) → none? ts ≡ false → (t : Token) × (rest : List Token) × (ts ≡ t ∷ rest)
+some-left [] e = let z : _≡_ {A = ℕ} 0 1 = cc in absurd (omega arith)
+some-left (t ∷ ts) e = (t, ts, refl)
+
+none-left : (ts : List Token) → none? ts ≡ true → ts ≡ []
+none-left [] e = refl
+none-left (t ∷ ts) e = let z : _≡_ {A = ℕ} 0 1 = cc in absurd (omega arith)
+
+-- a text that is refused, by a number
+abbrev Refused : List ℕ → ℕ → Type 0
+Refused s c = (patterson s ≡ bad c) × (c ≡ 0 → ⊥)
+
+module _ (s : List ℕ) (res : ℕ) where
+  refused : (c : ℕ) → patterson s ≡ bad c → Refused s c
+  refused c e = (e, some-code (patterson-codes s c e))
+
+  pub parsed-closed : (c : ℕ) → opening (tokens s) ≡ bad c → Refused s c
+  unfolding patterson row rowIn headIn
+  parsed-closed c e = refused c (project-bad (tokens s) c e)
+
+  module _ (n k cap at : ℕ) (q : OpenSays (opening (tokens s)) s res (Ready n k cap at)) where
+    pub parsed-rows : (c : ℕ) → seeing n (Whole k) res 0 0 (tokens (drop at s)) ≡ bad c → Refused s c
+    unfolding patterson row rowIn headIn
+    parsed-rows c e = refused c (project-bad₂ (tokens s) (tokens (drop at s)) (q .0) (q .1) c (rw (q .2, q .3) (rows-bad n (Whole k) res (tokens (drop at s)) c e)))
+
+    module _ (durs dems : List ℕ) (pairs to : ℕ) (f : FoundSays (seeing n (Whole k) res 0 0 (tokens (drop at s))) s n durs dems (All pairs to)) where
+      pub parsed-over : none? (tokens (drop to s)) ≡ false → Refused s 30
+      unfolding patterson row rowIn headIn
+      parsed-over h =
+          let t = rows-good n (Whole k) res (tokens (drop at s)) (tokens (drop to s)) (f .0) (f .1) in
+          let l = some-left (tokens (drop to s)) h in
+          refused 30 (project-over (tokens s) (tokens (drop at s)) (q .0) (q .1) (t .0) (tokens (drop to s)) (rw (q .2, q .3) (t .1)) (l .0) (l .1) (l .2))
+
+      pub parsed-whole : length durs ≡ mostJobs → none? (tokens (drop to s)) ≡ true
+          → ParsedSays (patterson s) s res durs dems (Entire (record { n = n; k = k; cap = cap; pairs = pairs; table = Whole k; at = at }))
+      unfolding patterson row rowIn headIn
+      parsed-whole l h =
+          let e = none-left (tokens (drop to s)) h in
+          let t = rows-good n (Whole k) res (tokens (drop at s)) (tokens (drop to s)) (f .0) (f .1) in
+          let ds : durations (t .0) ≡ take n durs = sym (ap (λ (y : Seen). y .durs) (t .2)) ∙ f .2 in
+          let said = project-good (tokens s) (tokens (drop at s)) (q .0) (q .1) (t .0) (tokens (drop to s)) (rw (q .2, q .3) (t .1)) e in (
+            record { capacities = q .0 .capacities; rows = t .0 },
+            said,
+            record {
+              jobs = sym (length-map (t .0) (λ (r : Row). r .duration)) ∙ ap length ds ∙ length-take-le n durs (omega (arith, q .5));
+              resources = q .6;
+              cap = q .4;
+              durs-are = ds;
+              dems-are = sym (ap (λ (y : Seen). y .dems) (t .2)) ∙ f .3;
+              count = ap (λ (y : Seen). length (y .pairs)) (sym (t .2)) ∙ f .4;
+              end = [];
+              come =
+                  pairs-any n (Whole k) 0 res 0 0 (tokens (drop at s)) ∙ ap onlyPairs (f .1) ∙ ap (λ (y : Seen). good (y .pairs) (tokens (drop to s))) (t .2)
+                  ∙ ap (λ (u : List Token). good (pairsFrom 0 (t .0)) u) e;
+              limits = patterson-takes s [] _ said .within;
+            },
+          )
+
+-- ---- what is known of a text read whole
+
+module _ (s : List ℕ) (res : ℕ) (durs dems : List ℕ) (z : Shape) (x : Project) (p : Parsing s res durs dems z x) where
+  pub parsing-range : Below (z .n) (Precedes (pairsOf x))
+  parsing-range = rw (← p .jobs) (p .limits .range)
+
+  pub parsing-few : z .n ≤ mostJobs
+  parsing-few = omega (arith, p .jobs, p .limits .few)
+
+pub parsed-within : (r : Read Project) (s : List ℕ) (res : ℕ) (durs dems : List ℕ) (p : Parsed) → ParsedSays r s res durs dems p
+    → (x : Project) (rest : List Token) → r ≡ good x rest → Within x
+parsed-within r s res durs dems (Entire z) t x rest e = subst Within (good-one r (t .0) x [] rest (t .1) e .0) (t .2 .limits)
+parsed-within r s res durs dems (Broken c) t x rest e = bad-not-good r c x rest (t .0) e

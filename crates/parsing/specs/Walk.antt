@@ -1,0 +1,93 @@
+-- The rows of a text as code walks them: what is left at a place among them, and what the functions of this crate say. Durations and demands are
+-- kept in arrays for one resource; pairs are met one by one.
+use Prim.Native.Nat.{ℕ, _+_, _-_, _*_, _≤_, _<_}
+use mathlib.Core.Path.{_≡_}
+use mathlib.Core.List.{List, [], _∷_, _++_}
+use lib.ListN.{length, drop, take}
+use Rattle.lists.specs.Lists.{_!_}
+use Rattle.joblist.specs.Limits.{mostTime, mostJobs}
+use Rattle.chains.specs.Paths.{Pair, pair, Precedes, Below}
+use Rattle.texts.specs.Tokens.{Token, tokens}
+use Rattle.texts.specs.Readings.{Read, bad, good, andThen, one, times}
+use Rattle.scanner.specs.declared.Got.{Got}
+use Rattle.scanner.specs.declared.Got.the-variants.{Good, Bad}
+use Rattle.projects.specs.Projects.{Head, link, tagged, pairsFrom, durations, demandsOn}
+use Rattle.projects.specs.Patterson.{head, Opening}
+use Rattle.parsing.specs.declared.Table.{Table}
+use Rattle.parsing.specs.Heads.{rowIn}
+use Rattle.parsing.specs.declared.parts.HeadGot.{HeadGot}
+use Rattle.parsing.specs.declared.parts.HeadGot.the-variants.{Line, NoLine}
+use Rattle.parsing.specs.declared.parts.Opened.{Opened}
+use Rattle.parsing.specs.declared.parts.Opened.the-variants.{Ready, Closed}
+use Rattle.parsing.specs.declared.Walk.{Walk}
+use Rattle.parsing.specs.declared.Step.{Step}
+use Rattle.parsing.specs.declared.Step.the-variants.{Successor, Begun, Done, Stop}
+use Rattle.parsing.specs.declared.Found.{Found}
+use Rattle.parsing.specs.declared.Found.the-variants.{All, Not}
+
+-- of numbers read, the one at `res`
+abbrev pub PickSays : Read (List ℕ) → List ℕ → ℕ → Got → Type 0
+PickSays r s res (Good v to) = (xs : List ℕ) × (r ≡ good xs (tokens (drop to s))) × (xs ! res ≡ v)
+PickSays r s res (Bad c) = r ≡ bad c
+
+-- the head of a row
+abbrev pub HeadSays : Read Head → List ℕ → ℕ → HeadGot → Type 0
+HeadSays r s res (Line d q c to) = (h : Head) × (r ≡ good h (tokens (drop to s))) × (h .duration ≡ d) × (h .demands ! res ≡ q) × (h .count ≡ c)
+HeadSays r s res (NoLine c) = r ≡ bad c
+
+-- the counts, and one of the capacities
+abbrev pub OpenSays : Read Opening → List ℕ → ℕ → Opened → Type 0
+OpenSays r s res (Ready n k cap at) =
+    (o : Opening) × (r ≡ good o (tokens (drop at s))) × (o .jobs ≡ n) × (o .resources ≡ k) × (o .capacities ! res ≡ cap) × (n ≤ mostJobs) × (length (o .capacities) ≡ k)
+OpenSays r s res (Closed c) = r ≡ bad c
+
+-- what rows say of one resource
+pub record Seen : Type 0 where
+  pub durs : List ℕ
+  pub dems : List ℕ
+  pub pairs : List Pair
+
+-- what is left: `left` successors of job next - 1, then the rows from `next` on
+unfoldable pub seeing : ℕ → Table → ℕ → ℕ → ℕ → List Token → Read Seen
+unfolding times link rowIn pairsFrom
+seeing n table res next left ts =
+    andThen (times (λ i. link n) 0 left ts) (λ ss t₁.
+    andThen (times (rowIn table n) next (n - next) t₁) (λ rs t₂.
+    good (record { durs = durations rs; dems = demandsOn res rs; pairs = tagged (next - 1) ss ++ pairsFrom next rs }) t₂))
+
+-- the same with a pair more, and with a row more, in front
+abbrev pub addPair : Pair → Read Seen → Read Seen
+addPair p (bad c) = bad c
+addPair p (good x ts) = good (record { durs = x .durs; dems = x .dems; pairs = p ∷ x .pairs }) ts
+
+abbrev pub addRow : ℕ → ℕ → Read Seen → Read Seen
+addRow d q (bad c) = bad c
+addRow d q (good x ts) = good (record { durs = d ∷ x .durs; dems = q ∷ x .dems; pairs = x .pairs }) ts
+
+-- what is left at a place of the walk
+abbrev pub see : ℕ → Table → ℕ → List ℕ → Walk → Read Seen
+see n table res s w = seeing n table res (w .next) (w .left) (tokens (drop (w .at) s))
+
+-- successors are left only of rows that were begun, at most mostJobs of each
+pub record Fit (n : ℕ) (w : Walk) : Type 0 where
+  pub begun : w .next ≤ n
+  pub owned : w .left ≤ mostJobs * w .next
+
+-- fewer tokens are left at u than at w
+abbrev pub Further : List ℕ → Walk → Walk → Type 0
+Further s w u = length (tokens (drop (u .at) s)) < length (tokens (drop (w .at) s))
+
+-- a step's answer: what is left before it, by what is left behind it
+abbrev pub StepSays : ℕ → Table → ℕ → List ℕ → Walk → Step → Type 0
+StepSays n table res s w (Successor v u) =
+    (see n table res s w ≡ addPair (pair (w .next - 1) v) (see n table res s u)) × Fit n u × Further s w u × (v < n) × (u .next ≡ w .next) × (w .left ≡ u .left + 1)
+StepSays n table res s w (Begun d q u) =
+    (see n table res s w ≡ addRow d q (see n table res s u)) × Fit n u × Further s w u × (d ≤ mostTime) × (w .left ≡ 0) × (u .next ≡ w .next + 1) × (u .left ≤ mostJobs)
+StepSays n table res s w Done = (see n table res s w ≡ good (record { durs = []; dems = []; pairs = [] }) (tokens (drop (w .at) s))) × (w .next ≡ n)
+StepSays n table res s w (Stop c) = see n table res s w ≡ bad c
+
+-- the rows checked: durations and demands stand in the first n places
+abbrev pub FoundSays : Read Seen → List ℕ → ℕ → List ℕ → List ℕ → Found → Type 0
+FoundSays r s n durs dems (All pairs to) =
+    (x : Seen) × (r ≡ good x (tokens (drop to s))) × (x .durs ≡ take n durs) × (x .dems ≡ take n dems) × (length (x .pairs) ≡ pairs) × Below n (Precedes (x .pairs))
+FoundSays r s n durs dems (Not c) = r ≡ bad c
