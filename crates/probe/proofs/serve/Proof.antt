@@ -8,18 +8,15 @@ use Rattle.probe.proofs.serve.Statement.{statement}
 use Rattle.probe.proofs.serve.Tie as tie
 
 abbrev Inv-loop : tie.InvT-loop
-Inv-loop source₀ sink₀ log₀ jobs₀ successors₀ text₀ cursor₀ turns₀ source sink log jobs successors text cursor turns =
+Inv-loop source₀ sink₀ words₀ text₀ cursor₀ turns₀ source sink words text cursor turns =
     (0 < length sink)
     × (length source ≡ length source₀)
     × (length sink ≡ length sink₀)
-    × (length log ≡ length log₀)
-    × (length jobs ≡ length jobs₀)
-    × (length successors ≡ length successors₀)
+    × (length words ≡ length words₀)
     × (length text ≡ length text₀)
 
 abbrev μ-loop : tie.MeasureT-loop
-μ-loop source₀ sink₀ log₀ jobs₀ successors₀ text₀ cursor₀ turns₀ source sink log jobs successors text cursor turns =
-    turns
+μ-loop source₀ sink₀ words₀ text₀ cursor₀ turns₀ source sink words text cursor turns = turns
 
 start-requires : tie.Need-start-requires Inv-loop μ-loop
 start-requires c κs = search needs
@@ -51,32 +48,20 @@ same-length-3 c = search needs
 same-length-4 : tie.Need-same-length-4 Inv-loop μ-loop
 same-length-4 c = search needs
 
+returns : tie.Need-returns Inv-loop μ-loop
+returns c = search needs
+
 same-length-5 : tie.Need-same-length-5 Inv-loop μ-loop
 same-length-5 c = search needs
 
 same-length-6 : tie.Need-same-length-6 Inv-loop μ-loop
 same-length-6 c = search needs
 
-returns : tie.Need-returns Inv-loop μ-loop
-returns c = search needs
-
 same-length-7 : tie.Need-same-length-7 Inv-loop μ-loop
 same-length-7 c = search needs
 
 same-length-8 : tie.Need-same-length-8 Inv-loop μ-loop
 same-length-8 c = search needs
-
-same-length-9 : tie.Need-same-length-9 Inv-loop μ-loop
-same-length-9 c = search needs
-
-same-length-10 : tie.Need-same-length-10 Inv-loop μ-loop
-same-length-10 c = search needs
-
-same-length-11 : tie.Need-same-length-11 Inv-loop μ-loop
-same-length-11 c = search needs
-
-same-length-12 : tie.Need-same-length-12 Inv-loop μ-loop
-same-length-12 c = search needs
 
 returns-2 : tie.Need-returns-2 Inv-loop μ-loop
 returns-2 c = search needs
@@ -97,13 +82,9 @@ serve-spec =
     same-length-2
     same-length-3
     same-length-4
+    returns
     same-length-5
     same-length-6
-    returns
     same-length-7
     same-length-8
-    same-length-9
-    same-length-10
-    same-length-11
-    same-length-12
     returns-2)

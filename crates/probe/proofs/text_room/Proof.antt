@@ -1,0 +1,12 @@
+-- `probe::text_room` meets its contract, by the law on the length of a repeat; to count so many entries would take seconds. Assumes nothing.
+use mathlib.Core.Path.{sym}
+use Prim.Native.Nat.{ℕ}
+use lib.ListN.{length-replicate}
+use Rattle.probe.proofs.text_room.Statement.{statement}
+use Rattle.probe.proofs.text_room.Tie as tie
+
+returns : tie.Need-returns
+returns c = sym (length-replicate {A = ℕ} 524288 0)
+
+pub text-room-spec : {M : Type 1} → statement M
+text-room-spec = tie.close (tie.spec returns)

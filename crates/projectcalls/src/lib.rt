@@ -1,0 +1,125 @@
+// The calls over a project list: read in the Patterson layout (document 02, Item 1) or the PSPLIB layout (Item 13), and written in the
+// Patterson layout (Item 13). They are made over the lists of a line, which stand packed in lent words. Each call changes its lists there, and puts
+// its answer and the lists that it may change into the sink, from its first byte on.
+use answers::ReadAnswer;
+use requests::JOBS;
+use requests::Layout;
+use requests::PAIRS;
+ghost use mathlib.Core.Path.{_≡_};
+ghost use Prim.Native.Nat.{_<_};
+ghost use lib.ListN.{length};
+
+// Room for a list of jobs. The `ensures` gives only the length, which lending the array as a slice needs.
+fn room() -> [u32; JOBS]
+    ensures { λ r. ⌜ 1200 ≡ length r ⌝ }
+{
+    [0; JOBS]
+}
+
+// Room for a list of pairs.
+fn long_room() -> [u32; PAIRS]
+    ensures { λ r. ⌜ 70000 ≡ length r ⌝ }
+{
+    [0; PAIRS]
+}
+
+// What a reader is asked: the layout and the two numbers.
+struct Task {
+    layout: Layout,
+    resource: u32,
+    horizon: u32,
+}
+
+// The only place where the layouts part.
+fn made(
+    task: Task,
+    text: &[u8],
+    est: &mut [u32],
+    lct: &mut [u32],
+    dur: &mut [u32],
+    dem: &mut [u32],
+    jobs: &mut [u32],
+    successors: &mut [u32],
+) -> ReadAnswer {
+    let r = task.resource;
+    let h = task.horizon;
+    let layout = task.layout;
+    match layout {
+        Layout::Patterson => desk::read_patterson(text, r, h, est, lct, dur, dem, jobs, successors),
+        Layout::Psplib => desk::read_psplib(text, r, h, est, lct, dur, dem, jobs, successors),
+    }
+}
+
+// Puts the first four lists back into the words.
+fn put_four(words: &mut [u32], est: &[u32], lct: &[u32], dur: &[u32], dem: &[u32]) {
+    packed::put(words, 0, est);
+    packed::put(words, 1, lct);
+    packed::put(words, 2, dur);
+    packed::put(words, 3, dem);
+}
+
+// The call made over the packed lists est lct dur dem jobs successors, which are changed in their places.
+fn on_words(words: &mut [u32], task: Task, text: &[u8]) -> ReadAnswer {
+    let mut est = room();
+    let mut lct = room();
+    let mut dur = room();
+    let mut dem = room();
+    let mut jobs = long_room();
+    let n = packed::copy_four(words, &mut est, &mut lct, &mut dur, &mut dem);
+    let e = n.a;
+    let l = n.b;
+    let p = n.c;
+    let d = n.d;
+    let j = packed::copy(words, 4, &mut jobs);
+    let answer = made(
+        task,
+        text,
+        &mut est[..e],
+        &mut lct[..l],
+        &mut dur[..p],
+        &mut dem[..d],
+        &mut jobs[..j],
+        packed::list_mut(words, 5),
+    );
+    put_four(words, &est, &lct, &dur, &dem);
+    packed::put(words, 4, &jobs);
+    answer
+}
+
+// patterson RESOURCE HORIZON est lct dur dem jobs successors text
+// psplib RESOURCE HORIZON est lct dur dem jobs successors text
+pub fn read(
+    sink: &mut [u8],
+    words: &mut [u32],
+    layout: Layout,
+    resource: u32,
+    horizon: u32,
+    text: &[u8],
+) -> usize
+    requires { ⌜ 0 < length (now sink) ⌝ }
+    ensures { λ r. ⌜ r < length (now (sink .entry)) ⌝ }
+{
+    let task = Task {
+        layout,
+        resource,
+        horizon,
+    };
+    let answer = on_words(words, task, text);
+    let told = lines::said::reading(sink, 0, answer);
+    let end = packed::start(words, 6);
+    lines::numbers(sink, told, &words[..end])
+}
+
+// write CAP dur dem jobs successors buffer
+pub fn write(sink: &mut [u8], words: &[u32], cap: u32, buffer: &mut [u8]) -> usize
+    requires { ⌜ 0 < length (now sink) ⌝ }
+    ensures { λ r. ⌜ r < length (now (sink .entry)) ⌝ }
+{
+    let dur = packed::list(words, 0);
+    let dem = packed::list(words, 1);
+    let jobs = packed::list(words, 2);
+    let successors = packed::list(words, 3);
+    let answer = desk::write_patterson(cap, dur, dem, jobs, successors, buffer);
+    let told = lines::said::writing(sink, 0, answer);
+    lines::bytes(sink, told, buffer)
+}
