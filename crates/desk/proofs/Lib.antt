@@ -3,3 +3,4 @@ pub mod Checking
 pub mod Overloads
 pub mod Reading
 pub mod Writing
+pub mod Showing

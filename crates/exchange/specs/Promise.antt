@@ -34,7 +34,7 @@ capacity a = a .says .numbers ! 0
 abbrev pub count : TextAfter → ℕ
 count a = a .says .numbers ! 1
 
--- the contract of a reader
+-- the contract of a reader; the answer table itself is in facts, and the other fields tie what was read to the base
 pub record Reads (c : TextCall) (a : TextAfter) : Type 0 where
   pub answered : Answered c a
   -- the lists pass tests 1 to 3 of document 01

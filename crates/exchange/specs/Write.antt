@@ -104,7 +104,7 @@ TakenAgain c horizon L =
     × Fitting (length (c .dur)) (length (c .jobs)) (length (L .est)) (length (L .lct)) (length (L .dur)) (length (L .dem)) (length (L .jobs)) (length (L .successors))
     × (Longer (Precedes (pairsIn c)) (length (c .dur)) (weight (c .dur)) horizon → ⊥)
 
--- the contract of the writer
+-- the contract of the writer; the answer table itself is in facts, and the other fields tie the text to the reader
 pub record Writes (c : WriteCall) (a : WriteAfter) : Type 0 where
   pub answered : WriteAnswered c a
   -- what is written is a text of the Patterson layout that says the same

@@ -76,11 +76,34 @@ module _ (W : Win) (p : List ℕ) where
   row-pair : (x y : ℕ) → Good W p × FirstPair (jobs W) p W x y → checked W p ≡ said Word.overload (x ∷ y ∷ [])
   row-pair x y (g, f) = found g ∙ ap foundSaid (sym (overload-is (jobs W) p W (Found.pair x y) f))
 
+  -- refusal k is given exactly when its row says so and no row before it does
+  refused-row : (k : ℕ) → (checked W p ≡ said Word.refused (k ∷ [])) ↔ ((1 ≤ k) × Given k (jobs W) (threeLists W p) [])
+  unfolding refusalOf
+  refused-row k = (λ e. to e case-of, from)
+    where
+      to : checked W p ≡ said Word.refused (k ∷ []) → Case (checked W p) → (1 ≤ k) × Given k (jobs W) (threeLists W p) []
+      to e (inl (i, d, q)) =
+          let z : k ≡ suc i = ap (λ (s : Said). s .numbers ! 0) (sym e ∙ q) in
+          (omega arith, refusal-exactly (jobs W) (threeLists W p) [] k .0 (d ∙ sym z))
+      to e (inr (g, (nothing, f, q))) = said-apart Word.refused Word.none (k ∷ []) [] (λ z. omega arith) (sym e ∙ q)
+      to e (inr (g, (Found.pair x y, f, q))) = said-apart Word.refused Word.overload (k ∷ []) (x ∷ y ∷ []) (λ z. omega arith) (sym e ∙ q)
+
+      from : (1 ≤ k) × Given k (jobs W) (threeLists W p) [] → checked W p ≡ said Word.refused (k ∷ [])
+      from (b, t) = by case-of
+        where
+          r : refusal (jobs W) (threeLists W p) [] ≡ k
+          r = refusal-exactly (jobs W) (threeLists W p) [] k .1 t
+
+          by : Case (checked W p) → checked W p ≡ said Word.refused (k ∷ [])
+          by (inl (i, d, q)) = q ∙ ap (λ (m : ℕ). said Word.refused (m ∷ [])) (sym d ∙ r)
+          by (inr (g, c)) = absurd (omega (arith, r, good-is g))
+
   -- what the definition says meets the promise
   pub overloads : Overloads W p (checked W p)
   overloads =
       record {
         answered = refl;
+        refused = refused-row;
         none = (none-row, row-none);
         pair = λ x y. (pair-row x y, row-pair x y);
         bounds = λ x y e. first-bounds (jobs W) p W x y (pair-row x y e .1);
@@ -97,28 +120,6 @@ module _ (W : Win) (p : List ℕ) where
   found-meets g = subst (Overloads W p) (found g) overloads
 
   module _ (a : Said) (h : Overloads W p a) where
-    -- refusal k is given exactly when its row says so and no row before it does
-    pub refused-exactly : (k : ℕ) → (a ≡ said Word.refused (k ∷ [])) ↔ ((1 ≤ k) × Given k (jobs W) (threeLists W p) [])
-    unfolding refusalOf
-    refused-exactly k = (λ e. to e case-of, from)
-      where
-        to : a ≡ said Word.refused (k ∷ []) → Case (checked W p) → (1 ≤ k) × Given k (jobs W) (threeLists W p) []
-        to e (inl (i, d, q)) =
-            let z : k ≡ suc i = ap (λ (s : Said). s .numbers ! 0) (sym e ∙ h .answered ∙ q) in
-            (omega arith, refusal-exactly (jobs W) (threeLists W p) [] k .0 (d ∙ sym z))
-        to e (inr (g, (nothing, f, q))) = said-apart Word.refused Word.none (k ∷ []) [] (λ z. omega arith) (sym e ∙ h .answered ∙ q)
-        to e (inr (g, (Found.pair x y, f, q))) = said-apart Word.refused Word.overload (k ∷ []) (x ∷ y ∷ []) (λ z. omega arith) (sym e ∙ h .answered ∙ q)
-
-        from : (1 ≤ k) × Given k (jobs W) (threeLists W p) [] → a ≡ said Word.refused (k ∷ [])
-        from (b, t) = h .answered ∙ by case-of
-          where
-            r : refusal (jobs W) (threeLists W p) [] ≡ k
-            r = refusal-exactly (jobs W) (threeLists W p) [] k .1 t
-
-            by : Case (checked W p) → checked W p ≡ said Word.refused (k ∷ [])
-            by (inl (i, d, q)) = q ∙ ap (λ (m : ℕ). said Word.refused (m ∷ [])) (sym d ∙ r)
-            by (inr (g, c)) = absurd (omega (arith, r, good-is g))
-
     -- of a good list the answer is one of the other two
     pub decided : Good W p → (a ≡ said Word.none []) ⊎ ((x : ℕ) × (y : ℕ) × (a ≡ said Word.overload (x ∷ y ∷ [])))
     decided g = go (overload (jobs W) p W) refl

@@ -1,11 +1,11 @@
 -- What the overload check promises (01, 'One job at a time' and 'Answer table'; 02, Item 3), of the windows, the durations and what it says.
-use Prim.Native.Nat.{ℕ, zero, suc, _<_}
+use Prim.Native.Nat.{ℕ, zero, suc, _≤_, _<_}
 use mathlib.Core.Path.{_≡_}
 use mathlib.Core.List.{List, [], _∷_}
 use mathlib.Core.Logic.{_↔_}
 use Rattle.answers.specs.Said.{Word, Said, said}
 use Rattle.lists.specs.Sets.{Set}
-use Rattle.joblist.specs.GoodList.{GoodList, refusal}
+use Rattle.joblist.specs.GoodList.{GoodList, Given, refusal}
 use Rattle.joblist.specs.Limits.{jobs, threeLists}
 use Rattle.narrowing.specs.Windows.{Win, Long}
 use Rattle.overloads.specs.Overload.{Overloaded, NoneOverloaded, FirstPair, overload, foundSaid}
@@ -32,6 +32,8 @@ checked W p = tabled W p (refusalOf W p)
 -- the contract of the overload check
 pub record Overloads (W : Win) (p : List ℕ) (a : Said) : Type 0 where
   pub answered : a ≡ checked W p
+  -- refusal k exactly where its test is the first that fails
+  pub refused : (k : ℕ) → (a ≡ said Word.refused (k ∷ [])) ↔ ((1 ≤ k) × Given k (jobs W) (threeLists W p) [])
   -- "none" exactly when the list is good and no non-empty set of its jobs is overloaded
   pub none : (a ≡ said Word.none []) ↔ (Good W p × NoneOverloaded (jobs W) p W)
   -- "overload x, y" exactly when the list is good and x, y is 01's pair

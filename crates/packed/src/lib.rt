@@ -82,7 +82,7 @@ pub fn copy(words: &[u32], k: usize, into: &mut [u32]) -> usize
     ensures { λ r. ⌜ Copied (listOf (now (words .entry)) k) (now (into .entry)) r (now (into .exit)) ⌝ }
 {
     let numbers = list(words, k);
-    joblist::copy(numbers, into);
+    windows::copy(numbers, into);
     lesser(numbers.len(), into.len())
 }
 
@@ -115,5 +115,5 @@ pub fn put(words: &mut [u32], k: usize, list: &[u32])
     }
     let first = at + 1;
     let end = behind(words, at);
-    joblist::copy(list, &mut words[first..end]);
+    windows::copy(list, &mut words[first..end]);
 }

@@ -1,6 +1,6 @@
 -- What narrowing by any rules promises: the answer table, demand 2 and demand 3 (the mission's numbers) and its reasons, of a call and what it leaves.
--- Demands 2 and 3 and the table's column 'exactly when' speak of schedules and of the rules; only the premise on the room names the run, by the number
--- of records that it needs.
+-- Demands 2 and 3 and the table's column 'exactly when' speak of schedules and of the rules; the run is named by the number of records that it needs alone, in
+-- the premise on the room and as the count of a settled answer and of a clash.
 use Prim.Native.Nat.{ℕ, _+_, _≤_, _<_}
 use mathlib.Core.Path.{_≡_}
 use mathlib.Core.List.{List, [], _∷_}

@@ -29,5 +29,5 @@ pub record Anew (K : Task) (W : Win) (L : Task) : Type 0 where
   pub durations : L .p ≡ K .p
   pub lists : L .beside ≡ K .beside
   pub numbers : L .alone ≡ K .alone
-  -- the rules are K's
+  -- no rule of L applies where none of K's does
   pub stable : Stable (K .n) (K .rules) W → Stable (L .n) (L .rules) (L .win)

@@ -1,4 +1,5 @@
--- The same jobs listed in another order (the mission's demand 3): job k of the call d is job π k of the call c. The logs may differ.
+-- The same jobs listed in another order (the mission's demand 3): job k of the call d is job π k of the call c, in lists of the same lengths; what lies beyond a
+-- list's end counts as 0. The logs may differ.
 use Prim.Native.Nat.{ℕ}
 use mathlib.Core.Path.{_≡_}
 use lib.ListN.{length}

@@ -22,7 +22,8 @@ unfoldable pub crowded : Jobs → Win → ℕ → ℕ → Bool
 unfolding load
 crowded J W j t = both (leb 1 (J .p ! j)) (both (leb 1 (J .r ! j)) (ltb (J .cap) (load J W j t + J .r ! j)))
 
--- side 0: the greatest crowded t with e ≤ t < e + p; side 1: the least with l - p ≤ t < l
+-- side 0: the greatest crowded t with e ≤ t < e + p; side 1: the least with l - p ≤ t < l, where l is p or more, as in windows that are long enough (below
+-- that l - p stops at 0)
 unfoldable pub best : Jobs → Win → ℕ → Side → Option ℕ
 unfolding crowded greatest least
 best J W j early = greatest (crowded J W j) (W .e ! j) (J .p ! j)

@@ -1,13 +1,13 @@
 -- Document 01's 'Runs on the record', cases 1 to 12, case 9 as Item 3 of document 02 has it; with capacity 0 and outside answers (numbers from 20:
 -- 000's Example 1.27, 004's 4.1 and 4.2, a tie of latest ends), windows that are too short (from 30), members that can be spared (Item 7, from 50), the
 -- ends of sure parts (Item 5, from 60: the last time of one, the first of one, and the new ends after a move of side 0 and of side 1), and the order of
--- work with a job that draws nothing (from 70).
-use Prim.Native.Nat.{_*_}
+-- work, with a job that draws nothing and members above 31 (from 70).
+use Prim.Native.Nat.{ℕ, _*_}
 use mathlib.Core.List.{List, [], _∷_, _++_}
 use lib.ListN.{replicate}
 use Rattle.journal.specs.Journal.{recordWords}
 use Rattle.timetable.specs.Table.{After}
-use Rattle.worked.specs.Rows.{Row, Job, job, span, line}
+use Rattle.worked.specs.Rows.{Row, Job, job, span, line, lineAt}
 use Rattle.worked.specs.Runs.{settles, clashes, tooShort, refuses, ragged, overloaded, fine}
 
 -- a job with a wide window beside three side by side: at its beginning, with the greatest of them first, and at its end
@@ -19,6 +19,10 @@ first = job 0 4 1 3 ∷ job 0 1 1 2 ∷ job 0 1 1 1 ∷ job 0 1 1 1 ∷ []
 
 abbrev pub late : List Job
 late = job 0 4 1 3 ∷ job 3 4 1 1 ∷ job 3 4 1 2 ∷ job 3 4 1 2 ∷ []
+
+-- a job with a wide window, so many jobs that are sure of no time, and one beside which the first does not fit at its beginning
+abbrev pub behind : ℕ → List Job
+behind n = job 0 4 1 3 ∷ (replicate n (job 0 9 1 1) ++ (job 0 1 1 3 ∷ []))
 
 abbrev pub runs : List (Row After)
 runs =
@@ -84,4 +88,14 @@ runs =
     clashes 73 1 (job 2 5 1 1 ∷ job 3 6 3 2 ∷ job 5 8 3 1 ∷ []) 3 3 1 (line 0 1 4 1 2 ++ (line 0 1 3 1 2 ++ line 1 0 5 0 0)) ∷
     -- the work stops at the first record that closes a window
     clashes 74 1 (job 0 1 1 2 ∷ job 0 9 1 0 ∷ []) 2 1 0 (line 0 0 0 0 0) ∷
+    -- wrong orders part here: from the first job after a move of side 1, up and down in turn, sides in another order, too few rounds
+    settles 75 2 (job 0 2 1 1 ∷ job 0 7 3 1 ∷ job 1 7 3 2 ∷ job 1 2 1 1 ∷ []) 4 4 (span 0 1 ∷ span 0 4 ∷ span 3 7 ∷ span 1 2 ∷ [])
+    (line 2 0 1 1 8 ++ (line 1 1 4 1 4 ++ (line 2 0 2 1 2 ++ line 0 1 1 2 10))) ∷
+    clashes 76 2 (job 0 5 3 2 ∷ job 0 4 2 1 ∷ job 2 5 1 2 ∷ []) 5 5 2 (line 1 1 2 1 1 ++ (line 2 0 2 1 1 ++ (line 0 0 1 1 2 ++ (line 2 0 3 1 1 ++ line 2 0 4 1 1)))) ∷
+    settles 77 1 (job 1 5 3 1 ∷ job 0 5 2 1 ∷ []) 3 3 (span 2 5 ∷ span 0 2 ∷ []) (line 1 1 3 1 1 ++ (line 1 1 2 1 1 ++ line 0 0 1 1 2)) ∷
+    settles 78 2 (job 2 8 2 2 ∷ job 0 5 3 2 ∷ job 0 2 1 1 ∷ job 2 6 2 2 ∷ []) 8 8 (span 6 8 ∷ span 1 4 ∷ span 0 1 ∷ span 4 6 ∷ [])
+    (line 0 0 2 1 2 ++ (line 3 0 2 1 2 ++ (line 0 0 4 1 8 ++ (line 1 1 4 1 8 ++ (line 2 1 1 1 2 ++ (line 1 0 0 1 4 ++ (line 3 0 3 1 2 ++ line 0 0 5 1 8))))))) ∷
+    -- two members are dropped, one after the other; a member above 31
+    clashes 79 1 (job 0 2 1 2 ∷ job 0 2 2 1 ∷ job 1 3 2 2 ∷ []) 3 2 0 (line 0 0 0 0 0 ++ line 0 0 1 0 0) ∷
+    settles 80 5 (behind 32) 1 1 (span 1 4 ∷ (replicate 32 (span 0 9) ++ (span 0 1 ∷ []))) (lineAt 1 0 0 0 1 2) ∷
     []

@@ -1,10 +1,9 @@
 -- Logs by hand for the checker: what holds, what clashes, refusal 6 and each code 20 to 27 (document 01, 'Answer table'; document 02, Items 3 and 7): the
 -- capacity, the jobs, the claimed records and the log.
-use Prim.Native.Nat.{ℕ}
 use mathlib.Core.List.{List, [], _∷_, _++_}
 use lib.ListN.{replicate}
 use Rattle.worked.specs.Rows.{Job, job, span, line, lineAt}
-use Rattle.worked.specs.Cases.{crowd, first, late}
+use Rattle.worked.specs.Cases.{crowd, first, late, behind}
 use Rattle.worked.specs.Logs.{Log, holding, clashing, refusing, rejecting}
 
 -- cases 2 and 4 of the runs on the record, and Example 4.1 of 004
@@ -16,10 +15,6 @@ four = job 0 2 2 1 ∷ job 0 2 2 1 ∷ []
 
 abbrev pub pair : List Job
 pair = job 3 7 2 1 ∷ job 2 7 3 2 ∷ []
-
--- a job with a wide window beside so many that draw nothing at its beginning, and one that fills the supply there
-abbrev pub behind : ℕ → List Job
-behind n = job 0 4 1 3 ∷ (replicate n (job 0 9 1 1) ++ (job 0 1 1 3 ∷ []))
 
 abbrev pub checks : List Log
 checks =
@@ -83,9 +78,21 @@ checks =
     rejecting 22 0 5 (job 2 10 3 2 ∷ job 4 4 0 2 ∷ job 2 8 4 2 ∷ []) 1 (line 0 0 4 2 6) ∷
     rejecting 22 0 3 (job 2 10 3 2 ∷ job 2 7 3 0 ∷ job 2 8 4 2 ∷ []) 1 (line 0 0 4 2 6) ∷
     rejecting 22 0 5 (job 4 4 0 2 ∷ job 2 7 3 2 ∷ job 2 8 4 2 ∷ []) 1 (line 0 0 4 2 6) ∷
-    -- 25 by the moved job alone, on side 1; by a member alone, on each side; 26 on side 1
+    -- 25 by the moved job alone, on side 1; by a member whose sure part is empty, on side 0, and by one alone on side 1; 26 on side 1
     rejecting 25 0 5 (job 0 4 1 3 ∷ job 0 4 1 1 ∷ job 2 3 1 2 ∷ job 2 3 1 2 ∷ []) 1 (line 0 1 2 2 12) ∷
     rejecting 25 0 5 (job 2 10 3 2 ∷ job 2 7 3 2 ∷ job 2 8 2 2 ∷ []) 1 (line 0 0 4 2 6) ∷
     rejecting 25 0 5 (job 0 4 2 3 ∷ job 3 4 1 1 ∷ job 2 3 1 2 ∷ job 3 4 1 2 ∷ []) 1 (line 0 1 2 2 12) ∷
     rejecting 26 1 5 late 2 (line 0 1 3 2 12 ++ line 0 1 3 2 12) ∷
+    -- 25 by the moved job alone, on side 0; by a member that ends too early, and by one that may start too late; a lower limit below zero is none
+    rejecting 25 0 1 (job 0 1 1 2 ∷ []) 1 (line 0 0 1 0 0) ∷
+    rejecting 25 0 1 (job 0 9 3 1 ∷ job 0 1 1 1 ∷ []) 1 (line 0 0 1 1 2) ∷
+    rejecting 25 0 2 (job 0 4 2 2 ∷ job 0 4 1 1 ∷ []) 1 (line 0 0 0 1 2) ∷
+    holding 1 (job 0 9 3 1 ∷ job 0 1 1 1 ∷ []) 1 (line 0 0 0 1 2) (span 1 9 ∷ span 0 1 ∷ []) ∷
+    -- what lies behind the claimed records is not looked at; the place counts the good ones
+    holding 5 two 1 (line 0 0 4 2 6 ++ line 9 9 9 9 9) (span 5 10 ∷ span 2 7 ∷ span 2 8 ∷ []) ∷
+    rejecting 21 1 2 pair 2 (line 0 0 4 1 2 ++ line 5 0 0 0 0) ∷
+    -- a spare member behind one that is needed, before one, and above 31
+    rejecting 27 0 5 (job 0 4 1 3 ∷ job 0 1 1 3 ∷ job 0 1 1 1 ∷ []) 1 (line 0 0 0 2 6) ∷
+    rejecting 27 0 5 (job 0 4 1 3 ∷ job 0 1 1 1 ∷ job 0 1 1 3 ∷ []) 1 (line 0 0 0 2 6) ∷
+    rejecting 27 0 1 (job 0 3 1 2 ∷ (replicate 32 (job 0 9 1 1) ++ (job 0 1 1 1 ∷ []))) 1 (lineAt 1 0 0 0 1 2) ∷
     []

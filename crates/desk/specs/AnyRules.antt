@@ -1,0 +1,14 @@
+-- The words over any rules that stand behind those of `narrow` and `check_log`, handed on: what is asked, the answer table, the number of records needed, the
+-- checker's replay.
+unfoldable pub use Rattle.narrowing.specs.Run.{needed}
+pub use Rattle.narrowing.specs.Run.{Out, settled, clash, short}
+unfoldable pub use Rattle.promises.specs.Ask.{refusalOf}
+pub use Rattle.promises.specs.Ask.{Ask, many, lasts, columns}
+unfoldable pub use Rattle.promises.specs.Table.{ended, tabled, narrowed}
+pub use Rattle.promises.specs.Table.{ran}
+unfoldable pub use Rattle.promises.specs.Promise.{needs}
+pub use Rattle.promises.specs.Promise.{RefusedRow}
+unfoldable pub use Rattle.verdicts.specs.Replay.{replay, verdictOn}
+pub use Rattle.verdicts.specs.Replay.{Trial, Verdict, closing}
+unfoldable pub use Rattle.verdicts.specs.Fate.{reached}
+pub use Rattle.verdicts.specs.Fate.{nth, Takes, Held, Closed, Open, Closing, Shut, Fate}
