@@ -11,3 +11,4 @@ pub mod Room
 pub mod Walk
 pub mod Rounds
 pub mod Again
+pub mod Chosen

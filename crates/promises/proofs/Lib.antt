@@ -10,3 +10,4 @@ pub mod Again
 pub mod Reordered
 pub mod Plain
 pub mod Unlogged
+pub mod Firm
