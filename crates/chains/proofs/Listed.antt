@@ -34,12 +34,6 @@ paired-listed (j ∷ js) [] a b r = absurd r
 paired-listed (j ∷ js) (s ∷ ss) a b (inl e) = (0, omega arith, e .0, e .1)
 paired-listed (j ∷ js) (s ∷ ss) a b (inr r) = let q = paired-listed js ss a b r in (suc (q .0), omega (arith, q .1), q .2, q .3)
 
-pub listed-paired : (js ss : List ℕ) → length ss ≡ length js → (a b : ℕ) → Listed js ss (length js) a b → Precedes (paired js ss) a b
-listed-paired [] ss e a b q = absurd (omega (arith, q .1))
-listed-paired (j ∷ js) [] e a b q = absurd (omega arith)
-listed-paired (j ∷ js) (s ∷ ss) e a b (zero, h, x, y) = inl (x, y)
-listed-paired (j ∷ js) (s ∷ ss) e a b (suc i, h, x, y) = inr (listed-paired js ss (omega arith) a b (i, omega arith, x, y))
-
 pub paired-below : (n : ℕ) (js ss : List ℕ) → ((i : ℕ) → i < length js → InRange n js ss i) → Below n (Precedes (paired js ss))
 paired-below n js ss f a b r =
     let q = paired-listed js ss a b r in

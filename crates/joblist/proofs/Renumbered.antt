@@ -11,7 +11,7 @@ use Rattle.lists.specs.Turns.{Turn, SameList}
 use Rattle.lists.proofs.Lists.{beyond}
 use Rattle.narrowing.specs.Windows.{Win}
 use Rattle.narrowing.specs.Renumbered.{SameWin}
-use Rattle.joblist.specs.Limits.{Column, jobs, fourLists, threeLists, supply}
+use Rattle.joblist.specs.Limits.{Column, jobs, threeLists}
 use Rattle.joblist.specs.GoodList.{Sized, Within, Above, Any, Given, refusal}
 use Rattle.joblist.specs.Renumbered.{SameColumn, SameColumns}
 use Rattle.joblist.proofs.Refusals.{refusal-exactly}
@@ -73,12 +73,3 @@ module _ (π σ : ℕ → ℕ) (W U : Win) (p q : List ℕ) (t : Turn (jobs W) �
 
   three : SameColumns (jobs W) π (threeLists W p) (threeLists U q)
   three = (one _ _ _ b (w .early), (one _ _ _ l (w .late), (one _ _ _ m d, tt)))
-
-  pub refusal-turned-three : refusal (jobs U) (threeLists U q) [] ≡ refusal (jobs W) (threeLists W p) []
-  refusal-turned-three = ap (λ (n : ℕ). refusal n (threeLists U q) []) b ∙ refusal-turned (jobs W) π σ t (threeLists W p) (threeLists U q) [] three
-
-  pub refusal-turned-four : (r s : List ℕ) (cap : ℕ) → length s ≡ length r → SameList (jobs W) π r s
-      → refusal (jobs U) (fourLists U q s) (supply cap) ≡ refusal (jobs W) (fourLists W p r) (supply cap)
-  refusal-turned-four r s cap e f =
-      ap (λ (n : ℕ). refusal n (fourLists U q s) (supply cap)) b
-      ∙ refusal-turned (jobs W) π σ t (fourLists W p r) (fourLists U q s) (supply cap) (three .0, (three .1 .0, (three .1 .1 .0, (one _ _ _ e f, tt))))

@@ -4,22 +4,17 @@ use native.Mathlib.Omega.{arith}
 use mathlib.Core.Path.{_≡_, refl, sym, ap, _∙_}
 use mathlib.Core.List.{List, [], _∷_, _++_, append-assoc, append-nil}
 use mathlib.Core.Logic.{_↔_}
-use lib.ListN.{length, take, drop, getD, replicate, length-append, length-drop, length-replicate}
-use lib.Seq.{length-take-le, take-at, drop-at, drop-drop, drop-append-add, getD-take, getD-drop, take-length, paste, take-paste, drop-paste}
+use lib.ListN.{length, take, drop, getD, length-append, length-drop}
+use lib.Seq.{length-take-le, take-at, drop-at, drop-drop, drop-append-add, take-length, paste, take-paste, drop-paste}
 use borrow.Author.Tests.{lt-ltb, le-ltb}
-use Rattle.lists.specs.Lists.{_!_}
 use Rattle.members.specs.Members.{setWords}
-use Rattle.journal.specs.Journal.{recordWords, written, roomOf, recordAt, records, flat, AreRecords, logged, rewritten, cleared}
+use Rattle.journal.specs.Journal.{recordWords, written, roomOf, recordAt, records, flat, AreRecords, logged, rewritten}
 
 -- ---- the room
 
 pub room-words : (log : List ℕ) (k : ℕ) → k < roomOf log → recordWords * k + recordWords ≤ length log
 unfolding roomOf
 room-words log k h = omega arith
-
-pub words-room : (log : List ℕ) (k : ℕ) → recordWords * k + recordWords ≤ length log → k < roomOf log
-unfolding roomOf
-words-room log k h = omega arith
 
 -- a log has room for fewer than k records exactly where it is shorter than a record's words for each
 pub room-short : (log : List ℕ) (k : ℕ) → (roomOf log < k) ↔ (length log < recordWords * k)
@@ -48,10 +43,6 @@ record-part log k h =
 
 pub record-length : (log : List ℕ) (k : ℕ) → k < roomOf log → length (recordAt log k) ≡ recordWords
 record-length log k h = rw (record-in log k h) (length-take-le recordWords (drop (recordWords * k) log) (rw length-drop (omega (arith, room-words log k h))))
-
--- the words of a record are words of the log
-pub record-at : (log : List ℕ) (k i : ℕ) → k < roomOf log → i < recordWords → recordAt log k ! i ≡ log ! (recordWords * k + i)
-record-at log k i h b = rw (record-in log k h) (getD-take recordWords (drop (recordWords * k) log) i 0 b ∙ getD-drop (recordWords * k) log i 0)
 
 -- two parts that the contract of showing a record allows are the same words
 pub shown-firm : (log x y : List ℕ) (k : ℕ) → x ≡ recordAt log k → y ≡ recordAt log k → x ≡ y
@@ -92,15 +83,6 @@ module _ (log : List ℕ) (k : ℕ) (x : List ℕ) (h : k < roomOf log) (e : len
 
   pub rewritten-length : length (rewritten log k x) ≡ length log
   rewritten-length = rw (rewritten-in log k x h, length-append, length-append, front-length, e, length-drop) (omega (arith, room-words log k h))
-
-  pub rewritten-same : recordAt (rewritten log k x) k ≡ x
-  rewritten-same =
-      record-in (rewritten log k x) k (omega (arith, room-length log (rewritten log k x) rewritten-length))
-      ∙ rw (
-        rewritten-in log k x h,
-        append-assoc (take (recordWords * k) log) x (drop (recordWords * suc k) log),
-        drop-at (take (recordWords * k) log) (x ++ drop (recordWords * suc k) log) (recordWords * k) front-length,
-      ) (take-at x (drop (recordWords * suc k) log) recordWords e)
 
   -- the head first, then the set
   pub rewritten-parts : (head set : List ℕ) → head ++ set ≡ x
@@ -193,22 +175,6 @@ module _ (rs : List (List ℕ)) (log : List ℕ) (e : AreRecords rs) (b : length
 
 -- ---- the records of a log as a list
 
-pub records-length : (log : List ℕ) (k m : ℕ) → length (records log k m) ≡ m
-unfolding records
-records-length log k zero = refl
-records-length log k (suc m) = ap suc (records-length log (suc k) m)
-
-pub records-at : (log : List ℕ) (k m i : ℕ) → i < m → getD (records log k m) i [] ≡ recordAt log (k + i)
-unfolding records
-records-at log k zero i h = absurd (omega arith)
-records-at log k (suc m) zero h = ap (recordAt log) (omega arith)
-records-at log k (suc m) (suc i) h = records-at log (suc k) m i (omega arith) ∙ ap (recordAt log) (omega arith)
-
-pub records-are : (log : List ℕ) (k m : ℕ) → k + m ≤ roomOf log → AreRecords (records log k m)
-unfolding records
-records-are log k zero h = tt
-records-are log k (suc m) h = (record-length log k (omega arith), records-are log (suc k) m (omega arith))
-
 -- records that agree with a list place by place are that list
 records-is : (log : List ℕ) (k : ℕ) (rs : List (List ℕ)) → ((i : ℕ) → i < length rs → recordAt log (k + i) ≡ getD rs i []) → records log k (length rs) ≡ rs
 unfolding records
@@ -221,21 +187,4 @@ records-is log k (x ∷ rs) f =
 pub logged-records : (rs : List (List ℕ)) (log : List ℕ) → AreRecords rs → length rs ≤ roomOf log → records (logged rs log) 0 (length rs) ≡ rs
 logged-records rs log e b = records-is (logged rs log) 0 rs (λ i h. ap (recordAt (logged rs log)) (omega arith) ∙ logged-record rs log e b i h)
 
-pub more-records : (rs : List (List ℕ)) (x : List ℕ) → AreRecords rs → length x ≡ recordWords → AreRecords (rs ++ x ∷ [])
-more-records [] x e f = (f, tt)
-more-records (y ∷ rs) x e f = (e .0, more-records rs x (e .1) f)
-
 -- ---- every word 0
-
-pub cleared-length : (log : List ℕ) → length (cleared log) ≡ length log
-unfolding cleared
-cleared-length log = length-replicate (length log) 0
-
-pub cleared-at : (log : List ℕ) (k : ℕ) → cleared log ! k ≡ 0
-unfolding cleared
-cleared-at log k = zeros (length log) k
-  where
-    zeros : (n k : ℕ) → _≡_ {A = ℕ} (getD (replicate n 0) k 0) 0
-    zeros zero k = refl
-    zeros (suc n) zero = refl
-    zeros (suc n) (suc k) = zeros n k

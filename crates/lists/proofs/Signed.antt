@@ -5,9 +5,9 @@ use native.Mathlib.Omega.{arith}
 use native.Mathlib.Nat.{add-zero, sub-zero, le-refl}
 use native.Mathlib.Decide.{decLt, decLe}
 use borrow.Author.Tests.{lt-ltb, le-ltb, le-leb, lt-leb}
-use lib.Dec.{leb, ltb}
+use lib.Dec.{leb}
 use lib.IntN.{ℤ, pos, negsuc, subℕ, _+ℤ_, _-ℤ_}
-use lib.Signed.{mag, leZ, ltZ}
+use lib.Signed.{mag, leZ}
 
 -- the two forms
 pub sub-lt : (a b : ℕ) → a < b → subℕ a b ≡ negsuc (b - suc a)
@@ -67,16 +67,6 @@ sub-leb a b c d =
     (λ h. by-case (λ (z : ℤ). leZ (pos (a - b)) z ≡ leb (a + d) (c + b)) c d
     (λ k. sym (lt-leb (a + d) (c + b) (omega arith)))
     (λ k. leb-same (a - b) (c - d) (a + d) (c + b) (λ q. omega arith) (λ q. omega arith)))
-
-pub sub-ltb : (a b c d : ℕ) → ltZ (subℕ a b) (subℕ c d) ≡ ltb (a + d) (c + b)
-sub-ltb a b c d =
-    by-case (λ (z : ℤ). ltZ z (subℕ c d) ≡ ltb (a + d) (c + b)) a b
-    (λ h. by-case (λ (z : ℤ). ltZ (negsuc (b - suc a)) z ≡ ltb (a + d) (c + b)) c d
-    (λ k. leb-same (suc (d - suc c)) (b - suc a) (suc (a + d)) (c + b) (λ q. omega arith) (λ q. omega arith))
-    (λ k. sym (lt-ltb (a + d) (c + b) (omega arith))))
-    (λ h. by-case (λ (z : ℤ). ltZ (pos (a - b)) z ≡ ltb (a + d) (c + b)) c d
-    (λ k. sym (le-ltb (a + d) (c + b) (omega arith)))
-    (λ k. leb-same (suc (a - b)) (c - d) (suc (a + d)) (c + b) (λ q. omega arith) (λ q. omega arith)))
 
 -- a sum's size
 pub mag-add : (z : ℤ) (c : ℕ) → mag (z +ℤ pos c) ≤ mag z + c

@@ -52,12 +52,6 @@ split false true x = omega arith
 split true false x = omega arith
 split false false x = omega arith
 
-pub total-split : (f c : ℕ → Bool) (p : ℕ → ℕ) (m : ℕ)
-    → total (λ k. only (f k) (p k)) m ≡ total (λ k. only (both (f k) (c k)) (p k)) m + total (λ k. only (both (f k) (not (c k))) (p k)) m
-unfolding total
-total-split f c p zero = refl
-total-split f c p (suc m) = omega (arith, total-split f c p m, split (c m) (f m) (p m))
-
 -- ---- a sum without its term at a
 
 unfoldable pub omitting : (ℕ → ℕ) → ℕ → ℕ → ℕ

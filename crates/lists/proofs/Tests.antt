@@ -7,7 +7,7 @@ use mathlib.Core.Path.{_≡_, refl, sym}
 use mathlib.Core.Bool.{Bool, true, false}
 use lib.Dec.{leb}
 use borrow.Author.Tests.{le-leb, lt-leb, lt-ltb, le-ltb}
-use Rattle.lists.specs.Tests.{both, either, where?, between, only, every}
+use Rattle.lists.specs.Tests.{both, either, between, only, every}
 
 pub both-true : (a b : Bool) → both a b ≡ true → (a ≡ true) × (b ≡ true)
 both-true true b h = (refl, h)
@@ -83,14 +83,6 @@ only-cong true b x f g = rw (f refl)
 only-cong false true x f g = elim (ℕ-discrete x 0) [ yes e ↦ sym e | no e ↦ let q = g refl e in cc ]
 only-cong false false x f g = refl
 
-pub where-at : (a b : Bool) → where? a b ≡ true → a ≡ true → b ≡ true
-where-at true b h q = h
-where-at false b h q = cc
-
-pub at-where : (a b : Bool) → (a ≡ true → b ≡ true) → where? a b ≡ true
-at-where true b h = h refl
-at-where false b h = refl
-
 pub every-at : (f : ℕ → Bool) (m : ℕ) → every f m ≡ true → (k : ℕ) → k < m → f k ≡ true
 unfolding every
 every-at f zero h k b = absurd (omega arith)
@@ -98,11 +90,6 @@ every-at f (suc m) h k b = go (both-true (f m) (every f m) h) (λ q. every-at f 
   where
     go : (f m ≡ true) × (every f m ≡ true) → (k < m → f k ≡ true) → f k ≡ true
     go q r = elim (ℕ-discrete k m) [ yes e ↦ rw e (q .0) | no e ↦ r (omega arith) ]
-
-pub at-every : (f : ℕ → Bool) (m : ℕ) → ((k : ℕ) → k < m → f k ≡ true) → every f m ≡ true
-unfolding every
-at-every f zero h = refl
-at-every f (suc m) h = true-both (f m) (every f m) (h m (omega arith)) (at-every f m (λ k b. h k (omega arith)))
 
 -- as a loop makes it, from 0 up
 pub every-none : (f : ℕ → Bool) → every f 0 ≡ true

@@ -84,11 +84,6 @@ ones-bits zero x = sym (total-zero (λ i. bitOf x i))
 ones-bits (suc m) x =
     omega (arith, ones-bits m (x / 2), total-first (λ i. bitOf x i) m, total-cong (λ i. bitOf x (suc i)) (λ i. bitOf (x / 2) i) m (λ i b. bit-half x i))
 
-pub ones-most : (m x : ℕ) → onesIn m x ≤ m
-unfolding onesIn
-ones-most zero x = omega arith
-ones-most (suc m) x = omega (arith, ones-most m (x / 2))
-
 -- `u32::count_ones` gives `ones`
 pub ones-all : (m x : ℕ) → x < 2 ^ m → onesIn m x ≡ ones x
 unfolding onesIn ones

@@ -20,7 +20,7 @@ use Rattle.lists.proofs.Lists.{same-list}
 use Rattle.lists.proofs.Sums.{total-zero, total-cong}
 use Rattle.lists.proofs.Stretches.{total-join}
 use Rattle.members.specs.Members.{has, onesOf, word, words, setOf, AreWords}
-use Rattle.members.proofs.Bits.{bitOf, bit-lt, mask-test, ones-bits, ones-most, ones-all, word-lt, word-bit, word-unique}
+use Rattle.members.proofs.Bits.{bitOf, bit-lt, mask-test, ones-bits, ones-all, word-lt, word-bit, word-unique}
 
 -- ---- a bit as a test
 
@@ -116,10 +116,6 @@ setOf-unique w f ws long small h = same-list w ws (setOf w f) long (setOf-length
         word-unique f (q * 32) 32 (ws ! q) (small q) (λ i c. bit-has ws q i c ∙ ap (λ (t : Bool). only t 1) (h (q * 32 + i) (omega arith)))
         ∙ sym (setOf-at w f q b)
 
--- words are the set of their members
-pub setOf-self : (ws : List ℕ) → AreWords ws → ws ≡ setOf (length ws) (has ws)
-setOf-self ws small = setOf-unique (length ws) (has ws) ws refl small (λ k b. refl)
-
 pub setOf-cong : (w : ℕ) (f g : ℕ → Bool) → ((k : ℕ) → k < 32 * w → f k ≡ g k) → setOf w f ≡ setOf w g
 setOf-cong w f g h = setOf-unique w g (setOf w f) (setOf-length w f) (setOf-words w f) (λ k b. has-setOf w f k b ∙ h k b)
 
@@ -161,15 +157,6 @@ ones-members (x ∷ ws) =
       ones-members ws,
       total-cong (λ k. in-all (32 + k)) in-rest n (λ k b. ap (λ (t : Bool). only t 1) (has-later x ws k)),
     )
-
-pub ones-setOf : (w : ℕ) (f : ℕ → Bool) → onesOf (setOf w f) ≡ total (λ k. only (f k) 1) (32 * w)
-ones-setOf w f =
-    ones-members (setOf w f)
-    ∙ rw (setOf-length w f) (total-cong (λ k. only (has (setOf w f) k) 1) (λ k. only (f k) 1) (32 * w) (λ k b. ap (λ (t : Bool). only t 1) (has-setOf w f k b)))
-
-pub ones-fit : (ws : List ℕ) → onesOf ws ≤ 32 * length ws
-ones-fit [] = omega (arith, ones-none)
-ones-fit (x ∷ ws) = omega (arith, ones-cons x ws, ones-most 32 x, ones-fit ws)
 
 -- as a loop counts them: the ones of word i, and those of the words after it
 pub ones-drop : (ws : List ℕ) (i : ℕ) → i < length ws → ws ! i < 2 ^ 32 → onesOf (drop i ws) ≡ ones (ws ! i) + onesOf (drop (i + 1) ws)

@@ -2,7 +2,7 @@
 -- finding is 01's, and the only one.
 use Prim.Native.Nat.{ℕ, _+_, _≤_, _<_}
 use native.Mathlib.Omega.{arith}
-use mathlib.Core.Path.{_≡_, refl, sym, subst}
+use mathlib.Core.Path.{_≡_, refl, subst}
 use mathlib.Core.Bool.{Bool, true, false}
 use mathlib.Core.List.{List}
 use mathlib.Core.Logic.{_⊎_, inl, inr}
@@ -187,6 +187,3 @@ module _ (n : ℕ) (p : List ℕ) (W : Win) where
   -- "nothing" exactly when no non-empty set is overloaded
   pub nothing-sets : overload n p W ≡ nothing → NoneOverloaded n p W
   nothing-sets e = none-sets (subst (Finds n p W) e overload-finds)
-
-  pub sets-nothing : NoneOverloaded n p W → overload n p W ≡ nothing
-  sets-nothing f = sym (overload-is nothing (none-pairs f))

@@ -82,10 +82,6 @@ abbrev pub said : {A B : Type 0} → (A → B) → Read A → Read B
 said g (bad c) = bad c
 said g (good a ts) = good (g a) ts
 
-pub said-then : {A B C : Type 0} (g : B → C) (r : Read A) (f : A → List Token → Read B) → said g (andThen r f) ≡ andThen r (λ a ts. said g (f a ts))
-said-then g (bad c) f = refl
-said-then g (good a ts) f = refl
-
 -- where each is the other said otherwise, so are several
 pub times-said : {A B : Type 0} (g : A → B) (f : ℕ → List Token → Read A) (h : ℕ → List Token → Read B) → ((j : ℕ) (ts : List Token) → h j ts ≡ said g (f j ts))
     → (j m : ℕ) (ts : List Token) → times h j m ts ≡ said (map g) (times f j m ts)

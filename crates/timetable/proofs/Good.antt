@@ -32,9 +32,6 @@ module _ {W : Win} {p r : List ℕ} {cap : ℕ} (g : GoodList (jobs W) (fourList
   pub demand-most : (k : ℕ) → r ! k ≤ mostDemand
   demand-most = g .within .1 .1 .1 .0
 
-  pub capacity-most : cap ≤ mostDemand
-  capacity-most = g .beside .0 0
-
 pub window-long : {c : Call} → Workable c → (k : ℕ) → k < length (c .p) → c .win .e ! k + c .p ! k ≤ c .win .l ! k
 unfolding Long
 window-long w k b = w .long k (omega (arith, durations-sized (w .good)))

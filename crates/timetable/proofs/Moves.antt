@@ -5,7 +5,7 @@ use native.Mathlib.Omega.{arith}
 use mathlib.Core.Path.{_≡_, refl, subst}
 use mathlib.Core.Bool.{false}
 use mathlib.Core.List.{List}
-use mathlib.Core.Option.{none, some}
+use mathlib.Core.Option.{some}
 use lib.ListN.{length-set}
 use Rattle.lists.specs.Lists.{_!_}
 use Rattle.lists.proofs.Lists.{set-any}
@@ -32,10 +32,6 @@ module _ (c : Call) (w : Workable c) (j : ℕ) (s : Side) (b : j < jobs (c .win)
   -- the time found is one at which the rule applies
   pub best-applies : (t : ℕ) → best (jobsOf c) (c .win) j s ≡ some t → Applies (jobsOf c) (c .win) j s (bound s t)
   best-applies t h = subst (search.Found (Applies (jobsOf c) (c .win) j s) (bound s)) h best-is
-
-  -- where none is found the rule applies nowhere
-  pub best-rests : best (jobsOf c) (c .win) j s ≡ none → (d : ℕ) → Applies (jobsOf c) (c .win) j s d → ⊥
-  best-rests h = subst (search.Found (Applies (jobsOf c) (c .win) j s) (bound s)) h best-is
 
 -- ---- a move
 
