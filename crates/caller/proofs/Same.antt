@@ -13,7 +13,7 @@ use Rattle.desk.specs.Reading.{Lent, TextCall, TextAfter}
 use Rattle.desk.proofs.Narrowing.{narrows-same}
 use Rattle.desk.proofs.Checking.{checks-same}
 use Rattle.desk.proofs.Reading.{reads-one}
-use Rattle.caller.specs.Told.{Settles, Holds, ReadsText}
+use Rattle.caller.specs.Told.{ToldSettles, ToldHolds, ToldReads}
 
 -- results that are true exactly where the word is w, of one word
 same-result : (r q : Bool) (a b w : Word) → a ≡ b → (r ≡ true) ↔ (a ≡ w) → (q ≡ true) ↔ (b ≡ w) → r ≡ q
@@ -22,7 +22,7 @@ same-result false false a b w e f g = refl
 same-result true false a b w e f g = sym (g .1 (sym e ∙ f .0 refl))
 same-result false true a b w e f g = f .1 (e ∙ g .0 refl)
 
-pub settles-same : (c : Call) (U W : Win) (log other : List ℕ) (r q : Bool) → Settles c U log r → Settles c W other q → (r ≡ q) × (U ≡ W) × (log ≡ other)
+pub settles-same : (c : Call) (U W : Win) (log other : List ℕ) (r q : Bool) → ToldSettles c U log r → ToldSettles c W other q → (r ≡ q) × (U ≡ W) × (log ≡ other)
 settles-same c U W log other r q f g =
     let h = narrows-same c _ _ (f .narrows) (g .narrows) in (
       same-result r q _ _ Word.settled (ap (λ (x : After). x .says .word) h) (f .settled) (g .settled),
@@ -30,12 +30,12 @@ settles-same c U W log other r q f g =
       ap (λ (x : After). x .log) h,
     )
 
-pub holds-same : (c : Call) (count : ℕ) (U W : Win) (r q : Bool) → Holds c count U r → Holds c count W q → (r ≡ q) × (U ≡ W)
+pub holds-same : (c : Call) (count : ℕ) (U W : Win) (r q : Bool) → ToldHolds c count U r → ToldHolds c count W q → (r ≡ q) × (U ≡ W)
 holds-same c count U W r q f g =
     let h = checks-same c count _ _ (f .checks) (g .checks) in
     (same-result r q _ _ Word.holds (ap (λ (x : Checked). x .says .word) h) (f .holds) (g .holds), ap (λ (x : Checked). x .win) h)
 
-pub reads-same : (c : TextCall) (L K : Lent) (r q : Bool) → ReadsText c L r → ReadsText c K q → (r ≡ q) × (L ≡ K)
+pub reads-same : (c : TextCall) (L K : Lent) (r q : Bool) → ToldReads c L r → ToldReads c K q → (r ≡ q) × (L ≡ K)
 reads-same c L K r q f g =
     let h = reads-one c _ _ (f .reads) (g .reads) in
     (same-result r q _ _ Word.read (ap (λ (x : TextAfter). x .says .word) h) (f .read) (g .read), ap (λ (x : TextAfter). x .lent) h)

@@ -13,7 +13,7 @@ use Rattle.desk.specs.Lists.{Win}
 use Rattle.desk.specs.Narrowing.{Call, NoneIn, leaves, Narrows}
 use Rattle.desk.specs.Checking.{finds, Checks}
 use Rattle.desk.specs.Reading.{Lent, TextCall, Reads}
-use Rattle.caller.specs.Told.{Settles, Holds, ReadsText}
+use Rattle.caller.specs.Told.{ToldSettles, ToldHolds, ToldReads}
 
 -- false is not true
 not-true : false ≡ true → ⊥
@@ -27,7 +27,7 @@ no-exactly : (a w : Word) → (a ≡ w → ⊥) → (false ≡ true) ↔ (a ≡ 
 no-exactly a w f = (λ z. absurd (not-true z), λ z. absurd (f z))
 
 module _ (c : Call) (U : Win) (log : List ℕ) (a : Answer) (h : Narrows c (leaves (says a) U log)) where
-  pub settles-yes : (n : ℕ) → a ≡ Answer.Settled n → Settles c U log true
+  pub settles-yes : (n : ℕ) → a ≡ Answer.Settled n → ToldSettles c U log true
   settles-yes n q =
       let e = ap (λ (x : Answer). says x .word) q in
       record {
@@ -37,7 +37,7 @@ module _ (c : Call) (U : Win) (log : List ℕ) (a : Answer) (h : Narrows c (leav
         free = λ g b. ((λ z. h .largest g .free b .1 .0 e, λ z. refl), λ f. absurd (f refl));
       }
 
-  pub settles-no : (b : Answer) → (says b .word ≡ Word.settled → ⊥) → a ≡ b → Settles c U log false
+  pub settles-no : (b : Answer) → (says b .word ≡ Word.settled → ⊥) → a ≡ b → ToldSettles c U log false
   settles-no b other q =
       record {
         says = says a;
@@ -54,10 +54,10 @@ module _ (c : Call) (U : Win) (log : List ℕ) (a : Answer) (h : Narrows c (leav
       clashes (inr e) = e
 
 module _ (c : Call) (count : ℕ) (U : Win) (a : CheckAnswer) (h : Checks c count (finds (saysCheck a) U)) where
-  pub holds-yes : (n : ℕ) → a ≡ CheckAnswer.Holds n → Holds c count U true
+  pub holds-yes : (n : ℕ) → a ≡ CheckAnswer.Holds n → ToldHolds c count U true
   holds-yes n q = record { says = saysCheck a; checks = h; holds = yes-exactly (saysCheck a .word) Word.holds (ap (λ (x : CheckAnswer). saysCheck x .word) q) }
 
-  pub holds-no : (b : CheckAnswer) → (saysCheck b .word ≡ Word.holds → ⊥) → a ≡ b → Holds c count U false
+  pub holds-no : (b : CheckAnswer) → (saysCheck b .word ≡ Word.holds → ⊥) → a ≡ b → ToldHolds c count U false
   holds-no b other q =
       record {
         says = saysCheck a;
@@ -66,12 +66,12 @@ module _ (c : Call) (count : ℕ) (U : Win) (a : CheckAnswer) (h : Checks c coun
       }
 
 module _ (c : TextCall) (L : Lent) (a : ReadAnswer) (h : Reads c (record { says = saysRead a; lent = L })) where
-  pub reads-yes : (cap pairs : ℕ) → a ≡ ReadAnswer.Read cap pairs → ReadsText c L true
+  pub reads-yes : (cap pairs : ℕ) → a ≡ ReadAnswer.Read cap pairs → ToldReads c L true
   reads-yes cap pairs q =
       let e = ap (λ (x : ReadAnswer). saysRead x .word) q in
       record { says = saysRead a; reads = h; read = yes-exactly (saysRead a .word) Word.read e; long = λ z. h .long e }
 
-  pub reads-no : (b : ReadAnswer) → (saysRead b .word ≡ Word.read → ⊥) → a ≡ b → ReadsText c L false
+  pub reads-no : (b : ReadAnswer) → (saysRead b .word ≡ Word.read → ⊥) → a ≡ b → ToldReads c L false
   reads-no b other q =
       let f : saysRead a .word ≡ Word.read → ⊥ = λ e. other (sym (ap (λ (x : ReadAnswer). saysRead x .word) q) ∙ e) in
       record { says = saysRead a; reads = h; read = no-exactly (saysRead a .word) Word.read f; long = λ z. absurd (not-true z) }

@@ -9,7 +9,7 @@ use Rattle.answers.specs.Said.{Word}
 use Rattle.desk.specs.Lists.{_!_, win, Side, jobs, recordWords, Long, slack, roomOf}
 use Rattle.desk.specs.Narrowing.{Call, Good, After, Narrows, Stable, Applies, jobsOf}
 use Rattle.desk.specs.Reading.{Lent, TextCall, windows}
-use Rattle.caller.specs.Told.{ReadsText}
+use Rattle.caller.specs.Told.{ToldReads}
 
 -- room for one record is enough for a window that just holds its job
 pub just-room : slack (1 ∷ []) (win (0 ∷ []) (1 ∷ [])) 1 < roomOf (replicate recordWords 0)
@@ -17,7 +17,7 @@ unfolding slack roomOf
 just-room = omega arith
 
 -- every window of a text that was read holds its job
-pub window-holds : (c : TextCall) (L : Lent) → ReadsText c L true → (k : ℕ) → k < jobs (windows L) → L .est ! k + L .dur ! k ≤ L .lct ! k
+pub window-holds : (c : TextCall) (L : Lent) → ToldReads c L true → (k : ℕ) → k < jobs (windows L) → L .est ! k + L .dur ! k ≤ L .lct ! k
 unfolding Long
 window-holds c L h k b = h .long refl k b
 

@@ -12,7 +12,7 @@ use Rattle.desk.specs.Checking.{finds, Checks}
 use Rattle.desk.specs.Reading.{Lent, TextCall, windows, Reads}
 
 -- whether the windows of a job list could be narrowed
-pub record Settles (c : Call) (U : Win) (log : List ℕ) (r : Bool) : Type 0 where
+pub record ToldSettles (c : Call) (U : Win) (log : List ℕ) (r : Bool) : Type 0 where
   pub says : Said
   pub narrows : Narrows c (leaves says U log)
   pub settled : (r ≡ true) ↔ (says .word ≡ Word.settled)
@@ -20,13 +20,13 @@ pub record Settles (c : Call) (U : Win) (log : List ℕ) (r : Bool) : Type 0 whe
   pub free : Good c → slack (c .p) (c .win) (jobs (c .win)) < roomOf (c .log) → ((r ≡ true) ↔ ((W : Win) × StableIn c W)) × ((r ≡ true → ⊥) → NoneIn c)
 
 -- whether a log of claimed records holds
-pub record Holds (c : Call) (count : ℕ) (U : Win) (r : Bool) : Type 0 where
+pub record ToldHolds (c : Call) (count : ℕ) (U : Win) (r : Bool) : Type 0 where
   pub says : Said
   pub checks : Checks c count (finds says U)
   pub holds : (r ≡ true) ↔ (says .word ≡ Word.holds)
 
 -- whether a project text could be read
-pub record ReadsText (c : TextCall) (L : Lent) (r : Bool) : Type 0 where
+pub record ToldReads (c : TextCall) (L : Lent) (r : Bool) : Type 0 where
   pub says : Said
   pub reads : Reads c (record { says = says; lent = L })
   pub read : (r ≡ true) ↔ (says .word ≡ Word.read)

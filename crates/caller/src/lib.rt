@@ -5,7 +5,7 @@ use answers::ReadAnswer;
 ghost use Rattle.desk.specs.Lists.{win};
 ghost use Rattle.desk.specs.Narrowing.{call};
 ghost use Rattle.desk.specs.Reading.{patterson};
-ghost use Rattle.caller.specs.Told.{Settles, Holds, ReadsText};
+ghost use Rattle.caller.specs.Told.{ToldSettles, ToldHolds, ToldReads};
 
 // Whether the windows of a job list could be narrowed, with room in the log for the reasons.
 pub fn settles(
@@ -16,7 +16,7 @@ pub fn settles(
     cap: u32,
     log: &mut [u32],
 ) -> bool
-    ensures { λ r. ⌜ Settles (call (win (now (est .entry)) (now (lct .entry))) (now (dur .entry)) (now (dem .entry)) cap (now (log .entry))) (win (now (est .exit)) (now (lct .exit))) (now (log .exit)) r ⌝ }
+    ensures { λ r. ⌜ ToldSettles (call (win (now (est .entry)) (now (lct .entry))) (now (dur .entry)) (now (dem .entry)) cap (now (log .entry))) (win (now (est .exit)) (now (lct .exit))) (now (log .exit)) r ⌝ }
 {
     let answer = desk::narrow(est, lct, dur, dem, cap, log);
     match answer {
@@ -36,11 +36,11 @@ pub fn holds(
     log: &[u32],
     count: usize,
 ) -> bool
-    ensures { λ r. ⌜ Holds (call (win (now (est .entry)) (now (lct .entry))) (now (dur .entry)) (now (dem .entry)) cap (now (log .entry))) count (win (now (est .exit)) (now (lct .exit))) r ⌝ }
+    ensures { λ r. ⌜ ToldHolds (call (win (now (est .entry)) (now (lct .entry))) (now (dur .entry)) (now (dem .entry)) cap (now (log .entry))) count (win (now (est .exit)) (now (lct .exit))) r ⌝ }
 {
     let answer = desk::check_log(est, lct, dur, dem, cap, log, count);
     match answer {
-        CheckAnswer::Holds(_) => true,
+        CheckAnswer::ToldHolds(_) => true,
         CheckAnswer::Clash(_, _) => false,
         CheckAnswer::Rejected(_, _) => false,
         CheckAnswer::Refused(_) => false,
@@ -58,7 +58,7 @@ pub fn reads(
     jobs: &mut [u32],
     successors: &mut [u32],
 ) -> bool
-    ensures { λ r. ⌜ ReadsText
+    ensures { λ r. ⌜ ToldReads
         (record { text = patterson (now (text .entry)); resource = 0; horizon = horizon; lent = record { est = now (est .entry); lct = now (lct .entry); dur = now (dur .entry); dem = now (dem .entry); jobs = now (jobs .entry); successors = now (successors .entry) } })
         (record { est = now (est .exit); lct = now (lct .exit); dur = now (dur .exit); dem = now (dem .exit); jobs = now (jobs .exit); successors = now (successors .exit) })
         r ⌝ }

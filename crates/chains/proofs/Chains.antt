@@ -6,7 +6,7 @@ use mathlib.Core.Path.{_≡_, refl, sym, ap, _∙_, subst}
 use mathlib.Core.List.{List}
 use Rattle.lists.specs.Lists.{_!_}
 use Rattle.chains.specs.Paths.{Below, Path, here, on, lengthOf, Cycle, Chain, Longest, Back}
-use Rattle.chains.specs.Passes.{Stable, Chained}
+use Rattle.chains.specs.Passes.{NoneRaises, Chained}
 use Rattle.chains.proofs.Holes.{holes}
 
 -- no job before j
@@ -24,7 +24,7 @@ chain-of w {a} t = record { from = a; path = t; long = refl }
 pub longest-unique : (R : ℕ → ℕ → Type 0) (w : ℕ → ℕ) (j L M : ℕ) → Longest R w j L → Longest R w j M → L ≡ M
 longest-unique R w j L M f g = omega (arith, f .most M (g .one), g .most L (f .one))
 
-module _ (R : ℕ → ℕ → Type 0) (w : ℕ → ℕ) (v : List ℕ) (s : Stable R w v) where
+module _ (R : ℕ → ℕ → Type 0) (w : ℕ → ℕ) (v : List ℕ) (s : NoneRaises R w v) where
   -- along a path the values rise by its length
   pub stable-path : {a j : ℕ} (t : Path R a j) → v ! a + lengthOf w t ≤ v ! j
   stable-path here = omega arith

@@ -6,7 +6,7 @@ use mathlib.Core.List.{List}
 use lib.Dec.{ltb}
 use Rattle.lists.specs.Lists.{_!_}
 use Rattle.lists.proofs.Judged.{Judged, judged-every, judged-ltb}
-use Rattle.chains.specs.Paths.{Pair, Precedes, Below, Path, here, on, lengthOf, Cycle}
+use Rattle.chains.specs.Paths.{Pair, Precedes, Below, Path, here, on, lengthOf, Cycle, Back}
 use Rattle.chains.specs.Passes.{longest, acyclic?}
 use Rattle.chains.proofs.Chains.{long-cycle}
 use Rattle.chains.proofs.Longest.{longest-chained, longest-most}
@@ -37,6 +37,13 @@ shortened (suc m) (on t r) h = let x = shortened m t (omega arith) in (x .0, on 
 before : {R : ℕ → ℕ → Type 0} {a b c : ℕ} → R a b → Path R b c → Path R a c
 before r here = on here r
 before r (on t s) = on (before r t) s
+
+turned-path : {R : ℕ → ℕ → Type 0} {a b : ℕ} → Path (Back R) a b → Path R b a
+turned-path here = here
+turned-path (on t r) = before r (turned-path t)
+
+pub cycle-back : (R : ℕ → ℕ → Type 0) → Cycle (Back R) → Cycle R
+cycle-back R c = record { at = c .last; last = c .at; path = turned-path (c .path); back = c .back }
 
 pub cycle-map : (R S : ℕ → ℕ → Type 0) → ((a b : ℕ) → R a b → S a b) → Cycle R → Cycle S
 cycle-map R S f c = record { at = c .at; last = c .last; path = path-map (c .path); back = f (c .last) (c .at) (c .back) }

@@ -7,7 +7,7 @@ use mathlib.Core.Logic.{inl, inr}
 use lib.ListN.{length, drop, drop-of-length-le}
 use Rattle.lists.specs.Lists.{_!_}
 use Rattle.chains.specs.Paths.{Pair, pair, Precedes, Listed, Below}
-use Rattle.chains.specs.Listed.{paired, InRange, InOrder, Rising, OutOfRange, OutOfOrder, NotRising}
+use Rattle.chains.specs.Listed.{paired, PairInRange, InOrder, Rising, PairOutOfRange, OutOfOrder, NotRising}
 
 pub paired-length : (js ss : List ℕ) → length ss ≡ length js → length (paired js ss) ≡ length js
 paired-length [] ss e = refl
@@ -34,7 +34,7 @@ paired-listed (j ∷ js) [] a b r = absurd r
 paired-listed (j ∷ js) (s ∷ ss) a b (inl e) = (0, omega arith, e .0, e .1)
 paired-listed (j ∷ js) (s ∷ ss) a b (inr r) = let q = paired-listed js ss a b r in (suc (q .0), omega (arith, q .1), q .2, q .3)
 
-pub paired-below : (n : ℕ) (js ss : List ℕ) → ((i : ℕ) → i < length js → InRange n js ss i) → Below n (Precedes (paired js ss))
+pub paired-below : (n : ℕ) (js ss : List ℕ) → ((i : ℕ) → i < length js → PairInRange n js ss i) → Below n (Precedes (paired js ss))
 paired-below n js ss f a b r =
     let q = paired-listed js ss a b r in
     let g = f (q .0) (q .1) in
@@ -54,7 +54,7 @@ paired-end js ss e i h = drop-of-length-le (paired js ss) {i = i} (omega (arith,
 -- ---- the order of the pairs
 
 module _ (n : ℕ) (js ss : List ℕ) (i : ℕ) where
-  range-one : InRange n js ss i → OutOfRange n js ss i → ⊥
+  range-one : PairInRange n js ss i → PairOutOfRange n js ss i → ⊥
   range-one f (inl h) = omega (arith, f .0)
   range-one f (inr h) = omega (arith, f .1)
 

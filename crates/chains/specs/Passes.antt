@@ -15,8 +15,8 @@ abbrev pub Chained : (ℕ → ℕ → Type 0) → (ℕ → ℕ) → List ℕ →
 Chained R w v = (j : ℕ) → Chain R w j (v ! j)
 
 -- no pair raises a value any more
-abbrev pub Stable : (ℕ → ℕ → Type 0) → (ℕ → ℕ) → List ℕ → Type 0
-Stable R w v = (a b : ℕ) → R a b → v ! a + w a ≤ v ! b
+abbrev pub NoneRaises : (ℕ → ℕ → Type 0) → (ℕ → ℕ) → List ℕ → Type 0
+NoneRaises R w v = (a b : ℕ) → R a b → v ! a + w a ≤ v ! b
 
 -- b's value raised to a's value plus duration
 unfoldable pub raise : (ℕ → ℕ) → ℕ → ℕ → List ℕ → List ℕ

@@ -17,7 +17,7 @@ pub use Rattle.timetable.specs.Time.{Jobs, Runs, Overdrawn, Sure, Crowded, Earl
 unfoldable pub use Rattle.timetable.specs.Search.{crowded, best, member, leanMember, naming}
 pub use Rattle.timetable.specs.Search.{search, Member, entry}
 unfoldable pub use Rattle.timetable.specs.Reason.{namedDrawn}
-pub use Rattle.timetable.specs.Reason.{OwnFact, Stated, Implied, Changed, Within, named, Counted, Exceeds, Lean, LeanRecord}
+pub use Rattle.timetable.specs.Reason.{OwnFact, Stated, Implied, Changed, StartsWithin, named, Counted, Exceeds, Lean, LeanRecord}
 pub use Rattle.timetable.specs.Table.{Call, call, jobsOf, asks, Good, AllLong, TooShort, Workable, narrowed}
 pub use Rattle.promises.specs.Table.{After, leaves}
 pub use Rattle.timetable.specs.Promise.{Scheduled, StableIn, LargestIn, NoneIn, AllFixed, needs, Room, RefusedRow, Exactly, Kept, Narrowest, Narrows}

@@ -7,7 +7,7 @@ pub use Rattle.projects.specs.Projects.{Row, Project, pairsOf, durations, deman
 unfoldable pub use Rattle.projects.specs.Patterson.{patterson}
 unfoldable pub use Rattle.psplib.specs.Psplib.{psplib}
 pub use Rattle.exchange.specs.Calls.{Lent, TextCall, TextAfter, Order, durationOf}
-pub use Rattle.exchange.specs.Tests.{Fitting, Misfit, Fits, Unfit, TooLong, Unless, None, Tested, Met, Refusal}
+pub use Rattle.exchange.specs.Tests.{Fitting, Misfit, ListsFit, Unfit, TooLong, Unless, None, Tested, Met, Refusal}
 pub use Rattle.exchange.specs.Table.{Filled, Taken, Leaves, Answered}
-pub use Rattle.exchange.specs.Promise.{windows, ListedIn, Respects, capacity, count, Reads}
+pub use Rattle.exchange.specs.Promise.{windows, ListedIn, RespectsPairs, capacity, count, Reads}
 pub use Rattle.exchange.specs.When.{Meets, AboveLimit, Says, NoResource, NoRoom, Cyclic, ChainTooLong, Readable}

@@ -13,7 +13,7 @@ ghost use Rattle.members.specs.Members.{has};
 ghost use Rattle.journal.specs.Journal.{recordWords, jobOf, isMember};
 ghost use Rattle.timetable.specs.Reason.{named};
 ghost use Rattle.codes.specs.Codes.{lean};
-ghost use Rattle.exam.specs.Lent.{jobsIn, Drawn, Placed};
+ghost use Rattle.exam.specs.Lent.{jobsIn, Drawn, LetThrough};
 
 // What job k adds to the demands of the members.
 fn share(dem: &[u32], set: &[u32], k: usize) -> u32
@@ -71,7 +71,7 @@ fn spare(dem: &[u32], cap: u32, set: &[u32], k: usize, all: u32) -> bool
 
 // 27: no member is spare. Every bit of the set is looked at.
 pub fn lean(dem: &[u32], cap: u32, words: &[u32]) -> bool
-    requires { ⌜ Drawn (now dem) × Placed (length (now dem)) (now words) ⌝ }
+    requires { ⌜ Drawn (now dem) × LetThrough (length (now dem)) (now words) ⌝ }
     ensures { λ r. ⌜ r ≡ lean (jobsIn (length (now (dem .entry))) [] (now (dem .entry)) cap) (now (words .entry)) ⌝ }
 {
     let all = named(dem, words);

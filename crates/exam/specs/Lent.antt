@@ -23,7 +23,7 @@ abbrev pub Drawn : List ℕ → Type 0
 Drawn r = GoodList (length r) (demands r ∷ []) []
 
 -- a record that codes 21 and 22 let through: its job and its members are among n jobs, its time is small
-pub record Placed (n : ℕ) (x : List ℕ) : Type 0 where
+pub record LetThrough (n : ℕ) (x : List ℕ) : Type 0 where
   pub words : length x ≡ recordWords
   pub job : jobOf x < n
   pub time : timeOf x ≤ mostTime

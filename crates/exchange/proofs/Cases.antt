@@ -11,18 +11,18 @@ use Rattle.answers.specs.Said.{Word, said}
 use Rattle.joblist.specs.Limits.{mostTime}
 use Rattle.chains.specs.Passes.{longest, acyclic?}
 use Rattle.texts.specs.Readings.{good}
-use Rattle.projects.specs.Projects.{Project, pairsFrom, Within}
+use Rattle.projects.specs.Projects.{Project, pairsFrom, WithinLimits}
 use Rattle.projects.specs.Patterson.{patterson}
 use Rattle.parsing.proofs.Limits.{patterson-takes}
 use Rattle.exchange.specs.Calls.{Lent, TextAfter}
-use Rattle.exchange.specs.Tests.{Fits}
+use Rattle.exchange.specs.Tests.{ListsFit}
 use Rattle.exchange.specs.Promise.{Reads}
 use Rattle.exchange.proofs.Asked.{asked, refused, far, broken}
 use Rattle.exchange.proofs.One.{answered-one}
 use Rattle.exchange.proofs.Computed.{by-number, by-33, by-34, by-reading}
 
 -- what such a text says is within the limits
-limits : (s : List ℕ) (x : Project) → patterson s ≡ good x [] → Within x
+limits : (s : List ℕ) (x : Project) → patterson s ≡ good x [] → WithinLimits x
 limits s x e = patterson-takes s [] x e .within
 
 -- three jobs on two resources, 0 before 1 and 2, 1 before 2; the lists of pairs have room for 5 and 4: `3 2\n5 9\n2 1 0 2 2 3\n4 2 7 1 3\n3 1 0 0\n`
@@ -39,7 +39,7 @@ three-is = refl
 abbrev three-lent : Lent
 three-lent = record { est = 91 ∷ 92 ∷ 93 ∷ []; lct = 94 ∷ 95 ∷ 96 ∷ []; dur = 97 ∷ 98 ∷ 99 ∷ []; dem = 81 ∷ 82 ∷ 83 ∷ []; jobs = 84 ∷ 85 ∷ 86 ∷ 87 ∷ 88 ∷ []; successors = 71 ∷ 72 ∷ 73 ∷ 74 ∷ [] }
 
-three-fits : Fits three-says three-lent
+three-fits : ListsFit three-says three-lent
 unfolding pairsFrom
 three-fits = record { est = refl; lct = refl; dur = refl; dem = refl; jobs = leb-true _ _ refl; successors = leb-true _ _ refl }
 
@@ -94,7 +94,7 @@ alone-is = refl
 abbrev alone-lent : Lent
 alone-lent = record { est = 91 ∷ []; lct = 92 ∷ []; dur = 93 ∷ []; dem = 94 ∷ []; jobs = 95 ∷ []; successors = 96 ∷ [] }
 
-alone-fits : Fits alone-says alone-lent
+alone-fits : ListsFit alone-says alone-lent
 unfolding pairsFrom
 alone-fits = record { est = refl; lct = refl; dur = refl; dem = refl; jobs = leb-true _ _ refl; successors = leb-true _ _ refl }
 
@@ -123,7 +123,7 @@ long-is : patterson long-alone ≡ good long-says []
 unfolding patterson
 long-is = refl
 
-long-fits : Fits long-says alone-lent
+long-fits : ListsFit long-says alone-lent
 unfolding pairsFrom
 long-fits = record { est = refl; lct = refl; dur = refl; dem = refl; jobs = leb-true _ _ refl; successors = leb-true _ _ refl }
 
@@ -145,7 +145,7 @@ reached-is = refl
 abbrev reached-lent : Lent
 reached-lent = record { est = 91 ∷ 92 ∷ 93 ∷ 94 ∷ []; lct = 95 ∷ 96 ∷ 97 ∷ 98 ∷ []; dur = 81 ∷ 82 ∷ 83 ∷ 84 ∷ []; dem = 85 ∷ 86 ∷ 87 ∷ 88 ∷ []; jobs = 71 ∷ 72 ∷ 73 ∷ 74 ∷ []; successors = 75 ∷ 76 ∷ 77 ∷ 78 ∷ [] }
 
-reached-fits : Fits reached-says reached-lent
+reached-fits : ListsFit reached-says reached-lent
 unfolding pairsFrom
 reached-fits = record { est = refl; lct = refl; dur = refl; dem = refl; jobs = leb-true _ _ refl; successors = leb-true _ _ refl }
 
@@ -169,7 +169,7 @@ nobody-is = refl
 abbrev nobody-lent : Lent
 nobody-lent = record { est = []; lct = []; dur = []; dem = []; jobs = 91 ∷ []; successors = [] }
 
-nobody-fits : Fits nobody-says nobody-lent
+nobody-fits : ListsFit nobody-says nobody-lent
 unfolding pairsFrom
 nobody-fits = record { est = refl; lct = refl; dur = refl; dem = refl; jobs = leb-true _ _ refl; successors = leb-true _ _ refl }
 

@@ -20,12 +20,12 @@ use Rattle.chains.proofs.Chains.{chain-map}
 use Rattle.chains.proofs.Longest.{longest-chained, longest-is}
 use Rattle.chains.proofs.Cycles.{judged-acyclic, cycle-back, cycle-map}
 use Rattle.texts.specs.Readings.{Read, good}
-use Rattle.projects.specs.Projects.{Project, pairsOf, durations, demandsOn, Within}
+use Rattle.projects.specs.Projects.{Project, pairsOf, durations, demandsOn, WithinLimits}
 use Rattle.precedence.specs.Rounds.{turned}
 use Rattle.precedence.proofs.Orders.{back-of, of-back}
 use Rattle.precedence.proofs.Settling.{below-turned}
 use Rattle.exchange.specs.Calls.{Lent, TextAfter, Order, durationOf}
-use Rattle.exchange.specs.Tests.{Fits, Tested}
+use Rattle.exchange.specs.Tests.{ListsFit, Tested}
 use Rattle.exchange.specs.Promise.{Reads}
 use Rattle.exchange.proofs.Tests.{refusal-of, none-tested}
 use Rattle.exchange.proofs.Asked.{asked, refused}
@@ -50,7 +50,7 @@ short? x h = every (λ j. leb (heads x ! j + durationOf x j) h) (length (x .rows
 abbrev pub ends? : Project → ℕ → List ℕ → Bool
 ends? x h lct = every (λ j. eqb (lct ! j + tails x ! j) h) (length (x .rows))
 
-module _ (t : Read Project) (x : Project) (e : t ≡ good x []) (limits : Within x) (res h : ℕ) (L : Lent) (near : h ≤ mostTime) (a : TextAfter) (r : Reads (asked t res h L) a) where
+module _ (t : Read Project) (x : Project) (e : t ≡ good x []) (limits : WithinLimits x) (res h : ℕ) (L : Lent) (near : h ≤ mostTime) (a : TextAfter) (r : Reads (asked t res h L) a) where
   range : Below (length (x .rows)) (Order x)
   range = limits .range
 
@@ -59,7 +59,7 @@ module _ (t : Read Project) (x : Project) (e : t ≡ good x []) (limits : Within
   by-number k q =
       answered-one (asked t res h L) a (refused L (suc k)) (r .answered) (record { number = suc k; refusal = refusal-of (asked t res h L) x [] e (suc k) near q; leaves = refl })
 
-  module _ (chosen : res < length (x .capacities)) (fits : Fits x L) where
+  module _ (chosen : res < length (x .capacities)) (fits : ListsFit x L) where
     pub by-33 : calm? x ≡ false → a ≡ refused L 33
     by-33 q = by-number 32 (inr (chosen, inr (fits, inl (judged-acyclic (pairsOf x) (length (x .rows)) range .failed q, refl))))
 

@@ -16,16 +16,16 @@ use Rattle.narrowing.specs.Schedules.{Schedule}
 use Rattle.joblist.specs.Limits.{jobs, mostTime, mostDemand, fourLists, supply}
 use Rattle.joblist.specs.GoodList.{GoodList}
 use Rattle.chains.specs.Paths.{Pair, Precedes, Below, Cycle, Back}
-use Rattle.chains.specs.Passes.{Stable}
+use Rattle.chains.specs.Passes.{NoneRaises}
 use Rattle.chains.proofs.Cycles.{cycle-map}
 use Rattle.chains.proofs.Chains.{stable-most, stable-after, chain-on, chain-starts}
 use Rattle.texts.specs.Tokens.{Token}
 use Rattle.texts.specs.Readings.{good}
-use Rattle.projects.specs.Projects.{Row, Project, pairsOf, durations, demandsOn, Within}
+use Rattle.projects.specs.Projects.{Row, Project, pairsOf, durations, demandsOn, WithinLimits}
 use Rattle.exchange.specs.Calls.{Lent, TextCall, TextAfter, Order, durationOf}
 use Rattle.exchange.specs.Tests.{Refusal}
 use Rattle.exchange.specs.Table.{Filled, Taken, Leaves, Answered}
-use Rattle.exchange.specs.Promise.{windows, ListedIn, Respects, Reads}
+use Rattle.exchange.specs.Promise.{windows, ListedIn, RespectsPairs, Reads}
 use Rattle.exchange.proofs.Tests.{Passed, refusal-none}
 
 -- a pair's place
@@ -43,13 +43,13 @@ place-pair (x ∷ ps) a b (suc i) h p q = inr (place-pair ps a b i (omega arith)
 
 -- ---- a text that was read
 
-module _ (x : Project) (resource horizon : ℕ) (L K : Lent) (limits : Within x) (near : horizon ≤ mostTime) (passed : Passed x resource horizon L)
+module _ (x : Project) (resource horizon : ℕ) (L K : Lent) (limits : WithinLimits x) (near : horizon ≤ mostTime) (passed : Passed x resource horizon L)
     (f : Filled x resource horizon L K) where
   abbrev w : ℕ → ℕ
   w = durationOf x
 
   -- earliest starts respect the pairs
-  est-stable : Stable (Order x) w (K .est)
+  est-stable : NoneRaises (Order x) w (K .est)
   est-stable a b r =
       let q = limits .range a b r in
       f .est b (q .1) .most (K .est ! a + w a) (chain-on r (f .est a (q .0) .one))
@@ -58,7 +58,7 @@ module _ (x : Project) (resource horizon : ℕ) (L K : Lent) (limits : Within x)
   est-ends j b = by-contra (K .est ! j + w j) horizon (λ h. passed .short (record { last = j; job = b; before = K .est ! j; chain = f .est j b .one; over = h }))
 
   -- a chain after a job, from whatever values that respect the pairs and the horizon
-  after-ends : (v : List ℕ) → Stable (Order x) w v → ((j : ℕ) → j < length (x .rows) → v ! j + w j ≤ horizon)
+  after-ends : (v : List ℕ) → NoneRaises (Order x) w v → ((j : ℕ) → j < length (x .rows) → v ! j + w j ≤ horizon)
       → (j : ℕ) → j < length (x .rows) → v ! j + w j ≤ K .lct ! j
   after-ends v s e j b =
       let m = f .lct j b in
@@ -120,14 +120,14 @@ module _ (x : Project) (resource horizon : ℕ) (L K : Lent) (limits : Within x)
     (λ c. passed .acyclic (cycle-map (ListedIn K (length (pairsOf x))) (Order x) of-written c)),
   )
 
-  module _ (s : List ℕ) (t : Respects K (length (pairsOf x)) horizon s) where
-    starts-stable : Stable (Order x) w s
+  module _ (s : List ℕ) (t : RespectsPairs K (length (pairsOf x)) horizon s) where
+    starts-stable : NoneRaises (Order x) w s
     starts-stable a b r = omega (arith, t .pairs a b (written a b r), dur-at a)
 
     starts-end : (j : ℕ) → j < length (x .rows) → s ! j + w j ≤ horizon
     starts-end j b = omega (arith, t .ends j (omega (arith, dur-long)), dur-at j)
 
-    pub filled-kept : Schedule (length (K .dur)) (K .dur) (Respects K (length (pairsOf x)) horizon) (windows K) s
+    pub filled-kept : Schedule (length (K .dur)) (K .dur) (RespectsPairs K (length (pairsOf x)) horizon) (windows K) s
     filled-kept = record {
       from = λ j b. stable-most (Order x) w s starts-stable (f .est j (omega (arith, dur-long)) .one);
       to = λ j b. omega (arith, after-ends s starts-stable starts-end j (omega (arith, dur-long)), dur-at j);
@@ -145,7 +145,7 @@ module _ (c : TextCall) (a : TextAfter) where
       go zero t l = (l, t)
       go (suc k) t l = absurd (not-said Word.refused Word.read (λ z. omega arith) (sym (ap (λ (y : TextAfter). y .says .word) l) ∙ e))
 
-module _ (c : TextCall) (limits : (x : Project) (rest : List Token) → c .text ≡ good x rest → Within x) (a : TextAfter) where
+module _ (c : TextCall) (limits : (x : Project) (rest : List Token) → c .text ≡ good x rest → WithinLimits x) (a : TextAfter) where
   pub reads-of : Answered c a → Reads c a
   reads-of r = record {
     answered = r;
@@ -172,7 +172,7 @@ module _ (c : TextCall) (limits : (x : Project) (rest : List Token) → c .text 
         let t = read-taken c a r e in
         let y = t .0 in
         let n = refusal-none c (y .x) (y .rest) (y .text) (t .1) in
-        subst (λ (m : ℕ). Respects (a .lent) m (c .horizon) s → Schedule (length (a .lent .dur)) (a .lent .dur) (Respects (a .lent) m (c .horizon)) (windows (a .lent)) s)
+        subst (λ (m : ℕ). RespectsPairs (a .lent) m (c .horizon) s → Schedule (length (a .lent .dur)) (a .lent .dur) (RespectsPairs (a .lent) m (c .horizon)) (windows (a .lent)) s)
         (sym (ap (λ (z : Said). z .numbers ! 1) (y .says)))
         (filled-kept (y .x) (c .resource) (c .horizon) (c .lent) (a .lent) (limits (y .x) (y .rest) (y .text)) (n .0) (n .1) (y .filled) s);
   }

@@ -14,7 +14,7 @@ use Rattle.psplib.specs.Psplib.{psplib}
 use Rattle.psplib.proofs.Limits.{psplib-takes}
 use Rattle.psplib.proofs.Cases.{small, two-jobs, lettered, headed-twice, headings-first}
 use Rattle.exchange.specs.Calls.{Lent, TextAfter}
-use Rattle.exchange.specs.Tests.{Fits}
+use Rattle.exchange.specs.Tests.{ListsFit}
 use Rattle.exchange.specs.Promise.{Reads}
 use Rattle.exchange.proofs.Asked.{asked, refused, far, broken}
 use Rattle.exchange.proofs.One.{answered-one}
@@ -27,7 +27,7 @@ two-says = record { capacities = 5 ∷ []; rows = record { duration = 3; demands
 abbrev two-lent : Lent
 two-lent = record { est = 91 ∷ 92 ∷ []; lct = 93 ∷ 94 ∷ []; dur = 95 ∷ 96 ∷ []; dem = 97 ∷ 98 ∷ []; jobs = 81 ∷ 82 ∷ []; successors = 83 ∷ [] }
 
-two-fits : Fits two-says two-lent
+two-fits : ListsFit two-says two-lent
 unfolding pairsFrom
 two-fits = record { est = refl; lct = refl; dur = refl; dem = refl; jobs = leb-true _ _ refl; successors = leb-true _ _ refl }
 

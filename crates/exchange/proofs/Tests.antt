@@ -11,7 +11,7 @@ use Rattle.texts.specs.Tokens.{Token}
 use Rattle.texts.specs.Readings.{Read, bad, good}
 use Rattle.projects.specs.Projects.{Project}
 use Rattle.exchange.specs.Calls.{Lent, TextCall, Order}
-use Rattle.exchange.specs.Tests.{Fitting, Misfit, Fits, TooLong, Unless, None, Tested, Met, Refusal}
+use Rattle.exchange.specs.Tests.{Fitting, Misfit, ListsFit, TooLong, Unless, None, Tested, Met, Refusal}
 
 -- ---- one number alone
 
@@ -57,7 +57,7 @@ refusal-one c =
 -- what the tests have let through
 pub record Passed (x : Project) (resource horizon : ℕ) (L : Lent) : Type 0 where
   pub chosen : resource < length (x .capacities)
-  pub fits : Fits x L
+  pub fits : ListsFit x L
   pub acyclic : Cycle (Order x) → ⊥
   pub short : TooLong x horizon → ⊥
 

@@ -12,7 +12,7 @@ use Rattle.joblist.specs.GoodList.{GoodList, refusal}
 use Rattle.joblist.proofs.Refusals.{good}
 use Rattle.chains.specs.Passes.{acyclic?}
 use Rattle.chains.specs.Paths.{Precedes, Cycle}
-use Rattle.chains.specs.Listed.{paired, InRange, Rising}
+use Rattle.chains.specs.Listed.{paired, PairInRange, Rising}
 use Rattle.chains.proofs.Cycles.{judged-acyclic}
 use Rattle.chains.proofs.Listed.{paired-below}
 use Rattle.projects.specs.Form.{written}
@@ -34,7 +34,7 @@ by-pairs js ss buffer k t a w =
     write-answered-one (two js ss buffer) a _ (w .answered) (record { number = k; refusal = behind-lists (two js ss buffer) k (two-good js ss buffer) t; leaves = refl })
 
 -- job 0 before job 1
-one-range : (i : ℕ) → i < 1 → InRange 2 (0 ∷ []) (1 ∷ []) i
+one-range : (i : ℕ) → i < 1 → PairInRange 2 (0 ∷ []) (1 ∷ []) i
 one-range zero h = (leb-true _ _ refl, leb-true _ _ refl)
 one-range (suc i) h = absurd (omega arith)
 
@@ -73,7 +73,7 @@ pub uneven-pairs : (a : WriteAfter) → Writes (two (9 ∷ []) [] []) a → a �
 uneven-pairs = by-pairs (9 ∷ []) [] _ 1 (inl ((λ e. omega arith), refl))
 
 -- a job before itself: 33, before the buffer is looked at
-self-range : (i : ℕ) → i < 1 → InRange 2 (0 ∷ []) (0 ∷ []) i
+self-range : (i : ℕ) → i < 1 → PairInRange 2 (0 ∷ []) (0 ∷ []) i
 self-range zero h = (leb-true _ _ refl, leb-true _ _ refl)
 self-range (suc i) h = absurd (omega arith)
 

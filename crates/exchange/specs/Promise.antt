@@ -23,7 +23,7 @@ abbrev pub ListedIn : Lent → ℕ → ℕ → ℕ → Type 0
 ListedIn K count = Listed (K .jobs) (K .successors) count
 
 -- start times s that respect the first `count` pairs in the lists and end by the horizon
-pub record Respects (K : Lent) (count horizon : ℕ) (s : List ℕ) : Type 0 where
+pub record RespectsPairs (K : Lent) (count horizon : ℕ) (s : List ℕ) : Type 0 where
   pub pairs : (a b : ℕ) → ListedIn K count a b → s ! a + K .dur ! a ≤ s ! b
   pub ends : (j : ℕ) → j < length (K .dur) → s ! j + K .dur ! j ≤ horizon
 
@@ -44,5 +44,5 @@ pub record Reads (c : TextCall) (a : TextAfter) : Type 0 where
   -- the pairs that are written are of its jobs, and there is no cycle among them
   pub ordered : a .says .word ≡ Word.read → Below (length (a .lent .dur)) (ListedIn (a .lent) (count a)) × (Cycle (ListedIn (a .lent) (count a)) → ⊥)
   -- all start times that respect the pairs and end by the horizon lie within the windows
-  pub kept : a .says .word ≡ Word.read → (s : List ℕ) → Respects (a .lent) (count a) (c .horizon) s
-      → Schedule (length (a .lent .dur)) (a .lent .dur) (Respects (a .lent) (count a) (c .horizon)) (windows (a .lent)) s
+  pub kept : a .says .word ≡ Word.read → (s : List ℕ) → RespectsPairs (a .lent) (count a) (c .horizon) s
+      → Schedule (length (a .lent .dur)) (a .lent .dur) (RespectsPairs (a .lent) (count a) (c .horizon)) (windows (a .lent)) s

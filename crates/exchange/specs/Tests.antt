@@ -23,8 +23,8 @@ abbrev pub Misfit : ℕ → ℕ → ℕ → ℕ → ℕ → ℕ → ℕ → ℕ 
 Misfit n m e l d q j s = (e ≡ n → ⊥) ⊎ ((l ≡ n → ⊥) ⊎ ((d ≡ n → ⊥) ⊎ ((q ≡ n → ⊥) ⊎ ((j < m) ⊎ (s < m)))))
 
 -- the lent lists fit the project, or do not
-abbrev pub Fits : Project → Lent → Type 0
-Fits x L = Fitting (length (x .rows)) (length (pairsOf x)) (length (L .est)) (length (L .lct)) (length (L .dur)) (length (L .dem)) (length (L .jobs)) (length (L .successors))
+abbrev pub ListsFit : Project → Lent → Type 0
+ListsFit x L = Fitting (length (x .rows)) (length (pairsOf x)) (length (L .est)) (length (L .lct)) (length (L .dur)) (length (L .dem)) (length (L .jobs)) (length (L .successors))
 
 abbrev pub Unfit : Project → Lent → Type 0
 Unfit x L = Misfit (length (x .rows)) (length (pairsOf x)) (length (L .est)) (length (L .lct)) (length (L .dur)) (length (L .dem)) (length (L .jobs)) (length (L .successors))
@@ -45,7 +45,7 @@ None c = c ≡ 0
 abbrev pub Tested : Project → ℕ → ℕ → Lent → ℕ → Type 0
 Tested x resource horizon L =
     Unless 37 (resource < length (x .capacities)) (length (x .capacities) ≤ resource)
-    (Unless 38 (Fits x L) (Unfit x L)
+    (Unless 38 (ListsFit x L) (Unfit x L)
     (Unless 33 (Cycle (Order x) → ⊥) (Cycle (Order x))
     (Unless 34 (TooLong x horizon → ⊥) (TooLong x horizon) None)))
 

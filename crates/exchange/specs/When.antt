@@ -10,7 +10,7 @@ use Rattle.texts.specs.Tokens.{Token}
 use Rattle.texts.specs.Readings.{bad, good}
 use Rattle.projects.specs.Projects.{Project}
 use Rattle.exchange.specs.Calls.{TextCall, Order}
-use Rattle.exchange.specs.Tests.{Fits, Unfit, TooLong}
+use Rattle.exchange.specs.Tests.{ListsFit, Unfit, TooLong}
 
 -- the horizon is within its limit, and the text meets k
 pub record Meets (c : TextCall) (k : ℕ) : Type 0 where
@@ -43,14 +43,14 @@ pub record NoRoom (c : TextCall) : Type 0 where
 pub record Cyclic (c : TextCall) : Type 0 where
   pub says : Says c
   pub chosen : c .resource < length (says .x .capacities)
-  pub fits : Fits (says .x) (c .lent)
+  pub fits : ListsFit (says .x) (c .lent)
   pub cycle : Cycle (Order (says .x))
 
 -- 34: there is none, but a chain is too long
 pub record ChainTooLong (c : TextCall) : Type 0 where
   pub says : Says c
   pub chosen : c .resource < length (says .x .capacities)
-  pub fits : Fits (says .x) (c .lent)
+  pub fits : ListsFit (says .x) (c .lent)
   pub acyclic : Cycle (Order (says .x)) → ⊥
   pub long : TooLong (says .x) (c .horizon)
 
@@ -58,6 +58,6 @@ pub record ChainTooLong (c : TextCall) : Type 0 where
 pub record Readable (c : TextCall) : Type 0 where
   pub says : Says c
   pub chosen : c .resource < length (says .x .capacities)
-  pub fits : Fits (says .x) (c .lent)
+  pub fits : ListsFit (says .x) (c .lent)
   pub acyclic : Cycle (Order (says .x)) → ⊥
   pub short : TooLong (says .x) (c .horizon) → ⊥

@@ -16,7 +16,7 @@ use Rattle.timetable.specs.Reason.{named}
 use Rattle.timetable.specs.Table.{call, Good}
 use Rattle.codes.specs.Facts.{side, InRange}
 use Rattle.codes.specs.Codes.{inRange, takesPart, partners, statedTrue, tightens, lean, code}
-use Rattle.exam.specs.Lent.{jobsIn, Timed, Drawn, Placed}
+use Rattle.exam.specs.Lent.{jobsIn, Timed, Drawn, LetThrough}
 use Rattle.codes.proofs.Codes.{range-judged, partners-judged}
 
 -- ---- the chain from each code on, each test over what it looks at
@@ -52,7 +52,7 @@ module _ (cap : ℕ) (W : Win) (p r x : List ℕ) where
 pub ranged : (n : ℕ) (x : List ℕ) → inRange (jobsIn n [] [] 0) x ≡ true → InRange (jobsIn n [] [] 0) x
 ranged n x h = range-judged (jobsIn n [] [] 0) (win [] []) x .passed h
 
-pub placed : (n : ℕ) (p r x : List ℕ) → inRange (jobsIn n [] [] 0) x ≡ true → partners (jobsIn n p r 0) x ≡ true → length x ≡ recordWords → Placed n x
+pub placed : (n : ℕ) (p r x : List ℕ) → inRange (jobsIn n [] [] 0) x ≡ true → partners (jobsIn n p r 0) x ≡ true → length x ≡ recordWords → LetThrough n x
 placed n p r x h q w = record {
   words = w;
   job = ranged n x h .job;

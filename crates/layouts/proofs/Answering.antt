@@ -18,7 +18,7 @@ use Rattle.parsing.specs.declared.Shape.{Shape}
 use Rattle.parsing.proofs.Parsing.{parsing-range, parsing-few}
 use Rattle.precedence.specs.Chains.{OrderSays}
 use Rattle.exchange.specs.Calls.{Lent, Order, durationOf}
-use Rattle.exchange.specs.Tests.{Fitting, Misfit, Fits, Unfit}
+use Rattle.exchange.specs.Tests.{Fitting, Misfit, ListsFit, Unfit}
 use Rattle.exchange.specs.Table.{Answered}
 use Rattle.lent.specs.Parts.{Lessened, Wrote}
 use Rattle.exchange.proofs.Tests.{none-tested, refusal-of}
@@ -51,7 +51,7 @@ module _ (t : Read Project) (res h : ℕ) (L : Lent) (near : h ≤ mostTime) (s 
   abbrev Short : Type 0
   Short = Misfit (z .n) (z .pairs) (length (L .est)) (length (L .lct)) (length (L .dur)) (length (L .dem)) (length (L .jobs)) (length (L .successors))
 
-  fits-of : Room → Fits x L
+  fits-of : Room → ListsFit x L
   fits-of r = rw (p .jobs, p .count) r
 
   unfit-of : Short → Unfit x L

@@ -15,7 +15,7 @@ use Rattle.lists.proofs.Tests.{both-true, true-both, by-contra}
 use Rattle.lists.proofs.Sums.{total-at}
 use Rattle.lists.proofs.Sets.{clash, totalOf-sub, totalOf-none, least-of, greatest-of, most-is, most-le, fewest-is, fewest-le, some-at, at-some}
 use Rattle.narrowing.specs.Windows.{Win, Long}
-use Rattle.overloads.specs.Overload.{Overloaded, NoneOverloaded, window, Pair, FirstPair, pair?, stops, starts, Found, nothing, found, overload, Finds}
+use Rattle.overloads.specs.Overload.{Overloaded, NoneOverloaded, window, OverloadedPair, FirstPair, pair?, stops, starts, Finding, nothing, found, overload, Finds}
 
 module _ (n : ℕ) (p : List ℕ) (W : Win) where
   -- ---- sets and pairs
@@ -27,7 +27,7 @@ module _ (n : ℕ) (p : List ℕ) (W : Win) where
   window-in a b k h = let q = both-true (leb (W .l ! k) b) (leb a (W .e ! k)) h in (leb-true _ _ (q .1), leb-true _ _ (q .0))
 
   -- an overloaded set's own bounds are such a pair
-  pub overloaded-pair : (T : Set) → (o : Overloaded n p W T) → Pair n p W (o .from) (o .upto)
+  pub overloaded-pair : (T : Set) → (o : Overloaded n p W T) → OverloadedPair n p W (o .from) (o .upto)
   overloaded-pair T o =
       let l = o .least in
       let g = o .greatest in
@@ -40,7 +40,7 @@ module _ (n : ℕ) (p : List ℕ) (W : Win) where
       }
 
   -- and the jobs between such a pair are an overloaded set
-  pub pair-overloaded : (a b : ℕ) → Pair n p W a b → Overloaded n p W (window W a b)
+  pub pair-overloaded : (a b : ℕ) → OverloadedPair n p W a b → Overloaded n p W (window W a b)
   pair-overloaded a b q =
       let k = q .some .0 in
       let l = least-of n (W .e) (window W a b) k (q .some .1) (q .some .2) in
@@ -52,10 +52,10 @@ module _ (n : ℕ) (p : List ℕ) (W : Win) where
       record { from = l .0; least = x; upto = g .0; greatest = y; over = omega (arith, x .is, y .is) }
 
   -- no set is overloaded exactly when there is no pair
-  pub none-pairs : NoneOverloaded n p W → (a b : ℕ) → Pair n p W a b → ⊥
+  pub none-pairs : NoneOverloaded n p W → (a b : ℕ) → OverloadedPair n p W a b → ⊥
   none-pairs f a b q = f (window W a b) (pair-overloaded a b q)
 
-  pub none-sets : ((a b : ℕ) → Pair n p W a b → ⊥) → NoneOverloaded n p W
+  pub none-sets : ((a b : ℕ) → OverloadedPair n p W a b → ⊥) → NoneOverloaded n p W
   none-sets f T o = f (o .from) (o .upto) (overloaded-pair T o)
 
   -- the first pair is the bounds of the jobs between them
@@ -66,7 +66,7 @@ module _ (n : ℕ) (p : List ℕ) (W : Win) where
       let l = window-in a b (o .least .at) (o .least .member) in
       let g = window-in a b (o .greatest .at) (o .greatest .member) in
       let up : o .upto ≡ b = omega (arith, o .greatest .is, f .least (o .from) (o .upto) q) in
-      let low : o .from ≡ a = omega (arith, o .least .is, f .greatest (o .from) (subst (Pair n p W (o .from)) up q)) in
+      let low : o .from ≡ a = omega (arith, o .least .is, f .greatest (o .from) (subst (OverloadedPair n p W (o .from)) up q)) in
       (window W a b, o, low, up)
 
   -- a job whose window is too short is overloaded by itself
@@ -82,7 +82,7 @@ module _ (n : ℕ) (p : List ℕ) (W : Win) where
       }
 
   -- where every window holds its job, such a pair has a < b
-  pub pair-apart : Long n p W → (a b : ℕ) → Pair n p W a b → a < b
+  pub pair-apart : Long n p W → (a b : ℕ) → OverloadedPair n p W a b → a < b
   unfolding Long
   pair-apart L a b q =
       by-contra _ _
@@ -94,19 +94,19 @@ module _ (n : ℕ) (p : List ℕ) (W : Win) where
 
   -- ---- the computed finding
 
-  pair-yes : (i k : ℕ) → i < n → k < n → pair? n p W (W .e ! i) (W .l ! k) ≡ true → Pair n p W (W .e ! i) (W .l ! k)
+  pair-yes : (i k : ℕ) → i < n → k < n → pair? n p W (W .e ! i) (W .l ! k) ≡ true → OverloadedPair n p W (W .e ! i) (W .l ! k)
   unfolding pair?
   pair-yes i k b c h =
       let q = both-true (some? (window W (W .e ! i) (W .l ! k)) n) (ltb (W .l ! k) (W .e ! i + totalOf n p (window W (W .e ! i) (W .l ! k)))) h in
       record { start = (i, b, refl); stop = (k, c, refl); some = at-some (window W (W .e ! i) (W .l ! k)) n (q .0); over = ltb-true _ _ (q .1) }
 
-  yes-pair : (a b : ℕ) → Pair n p W a b → pair? n p W a b ≡ true
+  yes-pair : (a b : ℕ) → OverloadedPair n p W a b → pair? n p W a b ≡ true
   unfolding pair?
   yes-pair a b q =
       true-both (some? (window W a b) n) (ltb b (a + totalOf n p (window W a b))) (some-at (window W a b) n (q .some .0) (q .some .1) (q .some .2)) (lt-ltb _ _ (q .over))
 
   -- a pair's stop is one of the stops, its start one of the starts
-  is-stop : (a b : ℕ) → Pair n p W a b → (k : ℕ) × (k < n) × (stops n p W k ≡ true) × (W .l ! k ≡ b)
+  is-stop : (a b : ℕ) → OverloadedPair n p W a b → (k : ℕ) × (k < n) × (stops n p W k ≡ true) × (W .l ! k ≡ b)
   unfolding stops
   is-stop a b q =
       let i = q .start in
@@ -114,7 +114,7 @@ module _ (n : ℕ) (p : List ℕ) (W : Win) where
       let h : pair? n p W (W .e ! (i .0)) (W .l ! (k .0)) ≡ true = rw (i .2, k .2) (yes-pair a b q) in
       (k .0, k .1, some-at (λ i. pair? n p W (W .e ! i) (W .l ! (k .0))) n (i .0) (i .1) h, k .2)
 
-  is-start : (a b : ℕ) → Pair n p W a b → (i : ℕ) × (i < n) × (starts n p W b i ≡ true) × (W .e ! i ≡ a)
+  is-start : (a b : ℕ) → OverloadedPair n p W a b → (i : ℕ) × (i < n) × (starts n p W b i ≡ true) × (W .e ! i ≡ a)
   unfolding starts
   is-start a b q = let i = q .start in (i .0, i .1, rw (i .2) (yes-pair a b q), i .2)
 
@@ -135,7 +135,7 @@ module _ (n : ℕ) (p : List ℕ) (W : Win) where
           (x .0, x .1, x .2, omega (arith, fewest-le (stops n p W) (λ k. W .l ! k) top n .1 (x .0) (x .1) (x .2), most-le (λ k. true) (λ k. W .l ! k) 0 n .1 (x .0) (x .1) refl))
       go x (inr y) = y
 
-  low-least : (a b : ℕ) → Pair n p W a b → low ≤ b
+  low-least : (a b : ℕ) → OverloadedPair n p W a b → low ≤ b
   unfolding low
   low-least a b q = let k = is-stop a b q in omega (arith, fewest-le (stops n p W) (λ k. W .l ! k) top n .1 (k .0) (k .1) (k .2))
 
@@ -171,17 +171,17 @@ module _ (n : ℕ) (p : List ℕ) (W : Win) where
       go false h = λ a b q. let k = is-stop a b q in clash (some? (stops n p W) n) (some-at (stops n p W) n (k .0) (k .1) (k .2)) h
 
   -- two findings are equal
-  pub finds-same : (x y : Found) → Finds n p W x → Finds n p W y → x ≡ y
+  pub finds-same : (x y : Finding) → Finds n p W x → Finds n p W y → x ≡ y
   finds-same nothing nothing f g = refl
-  finds-same nothing (Found.pair a b) f g = absurd (f a b (g .pair))
-  finds-same (Found.pair a b) nothing f g = absurd (g a b (f .pair))
-  finds-same (Found.pair a b) (Found.pair c d) f g =
+  finds-same nothing (Finding.pair a b) f g = absurd (f a b (g .pair))
+  finds-same (Finding.pair a b) nothing f g = absurd (g a b (f .pair))
+  finds-same (Finding.pair a b) (Finding.pair c d) f g =
       let e : b ≡ d = omega (arith, f .least c d (g .pair), g .least a b (f .pair)) in
       let q : a ≡ c = omega (arith, g .greatest a (rw e at (f .pair)), f .greatest c (rw e (g .pair))) in
       cc
 
   -- whatever meets 01's words is what the definition computes
-  pub overload-is : (x : Found) → Finds n p W x → x ≡ overload n p W
+  pub overload-is : (x : Finding) → Finds n p W x → x ≡ overload n p W
   overload-is x f = finds-same x (overload n p W) f overload-finds
 
   -- "nothing" exactly when no non-empty set is overloaded

@@ -14,7 +14,7 @@ use Rattle.joblist.specs.Limits.{jobs, threeLists}
 use Rattle.joblist.proofs.Refusals.{refusal-exactly, good, refused-none}
 use Rattle.lists.specs.Lists.{_!_}
 use Rattle.narrowing.specs.Windows.{Win}
-use Rattle.overloads.specs.Overload.{NoneOverloaded, FirstPair, Found, nothing, overload, foundSaid, Finds}
+use Rattle.overloads.specs.Overload.{NoneOverloaded, FirstPair, Finding, nothing, overload, foundSaid, Finds}
 use Rattle.overloads.specs.Promise.{Good, refusalOf, tabled, checked, Overloads}
 use Rattle.overloads.proofs.Pairs.{overload-finds, overload-is, none-sets, none-pairs, first-bounds, alone-overloaded, pair-apart}
 
@@ -32,7 +32,7 @@ module _ (W : Win) (p : List ℕ) where
 
   -- the answer is a refusal's, or what is found
   abbrev Case : Said → Type 0
-  Case a = ((k : ℕ) × (refusalOf W p ≡ suc k) × (a ≡ said Word.refused (suc k ∷ []))) ⊎ (Good W p × ((x : Found) × Finds (jobs W) p W x × (a ≡ foundSaid x)))
+  Case a = ((k : ℕ) × (refusalOf W p ≡ suc k) × (a ≡ said Word.refused (suc k ∷ []))) ⊎ (Good W p × ((x : Finding) × Finds (jobs W) p W x × (a ≡ foundSaid x)))
 
   cased : (k : ℕ) → refusalOf W p ≡ k → Case (tabled W p k)
   unfolding tabled
@@ -51,9 +51,9 @@ module _ (W : Win) (p : List ℕ) where
   none-row : checked W p ≡ said Word.none [] → Good W p × NoneOverloaded (jobs W) p W
   none-row e = go case-of
     where
-      by : (x : Found) → Finds (jobs W) p W x → said Word.none [] ≡ foundSaid x → NoneOverloaded (jobs W) p W
+      by : (x : Finding) → Finds (jobs W) p W x → said Word.none [] ≡ foundSaid x → NoneOverloaded (jobs W) p W
       by nothing f q = none-sets (jobs W) p W f
-      by (Found.pair a b) f q = said-apart Word.none Word.overload [] (a ∷ b ∷ []) (λ z. omega arith) q
+      by (Finding.pair a b) f q = said-apart Word.none Word.overload [] (a ∷ b ∷ []) (λ z. omega arith) q
 
       go : Case (checked W p) → Good W p × NoneOverloaded (jobs W) p W
       go (inl (k, d, q)) = said-apart Word.none Word.refused [] (suc k ∷ []) (λ z. omega arith) (sym e ∙ q)
@@ -65,16 +65,16 @@ module _ (W : Win) (p : List ℕ) where
   pair-row : (x y : ℕ) → checked W p ≡ said Word.overload (x ∷ y ∷ []) → Good W p × FirstPair (jobs W) p W x y
   pair-row x y e = go case-of
     where
-      by : (z : Found) → Finds (jobs W) p W z → said Word.overload (x ∷ y ∷ []) ≡ foundSaid z → FirstPair (jobs W) p W x y
+      by : (z : Finding) → Finds (jobs W) p W z → said Word.overload (x ∷ y ∷ []) ≡ foundSaid z → FirstPair (jobs W) p W x y
       by nothing f q = said-apart Word.overload Word.none (x ∷ y ∷ []) [] (λ z. omega arith) q
-      by (Found.pair a b) f q = let s = same-pair x y a b q in rw (s .0, s .1) f
+      by (Finding.pair a b) f q = let s = same-pair x y a b q in rw (s .0, s .1) f
 
       go : Case (checked W p) → Good W p × FirstPair (jobs W) p W x y
       go (inl (k, d, q)) = said-apart Word.overload Word.refused (x ∷ y ∷ []) (suc k ∷ []) (λ z. omega arith) (sym e ∙ q)
       go (inr (g, (z, f, q))) = (g, by z f (sym e ∙ q))
 
   row-pair : (x y : ℕ) → Good W p × FirstPair (jobs W) p W x y → checked W p ≡ said Word.overload (x ∷ y ∷ [])
-  row-pair x y (g, f) = found g ∙ ap foundSaid (sym (overload-is (jobs W) p W (Found.pair x y) f))
+  row-pair x y (g, f) = found g ∙ ap foundSaid (sym (overload-is (jobs W) p W (Finding.pair x y) f))
 
   -- refusal k is given exactly when its row says so and no row before it does
   refused-row : (k : ℕ) → (checked W p ≡ said Word.refused (k ∷ [])) ↔ ((1 ≤ k) × Given k (jobs W) (threeLists W p) [])
@@ -86,7 +86,7 @@ module _ (W : Win) (p : List ℕ) where
           let z : k ≡ suc i = ap (λ (s : Said). s .numbers ! 0) (sym e ∙ q) in
           (omega arith, refusal-exactly (jobs W) (threeLists W p) [] k .0 (d ∙ sym z))
       to e (inr (g, (nothing, f, q))) = said-apart Word.refused Word.none (k ∷ []) [] (λ z. omega arith) (sym e ∙ q)
-      to e (inr (g, (Found.pair x y, f, q))) = said-apart Word.refused Word.overload (k ∷ []) (x ∷ y ∷ []) (λ z. omega arith) (sym e ∙ q)
+      to e (inr (g, (Finding.pair x y, f, q))) = said-apart Word.refused Word.overload (k ∷ []) (x ∷ y ∷ []) (λ z. omega arith) (sym e ∙ q)
 
       from : (1 ≤ k) × Given k (jobs W) (threeLists W p) [] → checked W p ≡ said Word.refused (k ∷ [])
       from (b, t) = by case-of
@@ -124,9 +124,9 @@ module _ (W : Win) (p : List ℕ) where
     pub decided : Good W p → (a ≡ said Word.none []) ⊎ ((x : ℕ) × (y : ℕ) × (a ≡ said Word.overload (x ∷ y ∷ [])))
     decided g = go (overload (jobs W) p W) refl
       where
-        go : (z : Found) → overload (jobs W) p W ≡ z → (a ≡ said Word.none []) ⊎ ((x : ℕ) × (y : ℕ) × (a ≡ said Word.overload (x ∷ y ∷ [])))
+        go : (z : Finding) → overload (jobs W) p W ≡ z → (a ≡ said Word.none []) ⊎ ((x : ℕ) × (y : ℕ) × (a ≡ said Word.overload (x ∷ y ∷ [])))
         go nothing e = inl (h .answered ∙ found g ∙ ap foundSaid e)
-        go (Found.pair x y) e = inr (x, y, h .answered ∙ found g ∙ ap foundSaid e)
+        go (Finding.pair x y) e = inr (x, y, h .answered ∙ found g ∙ ap foundSaid e)
 
     -- a good list with a window that is too short gets a pair
     pub too-short-found : Good W p → (j : ℕ) → j < jobs W → W .l ! j < W .e ! j + p ! j → (x : ℕ) × (y : ℕ) × (a ≡ said Word.overload (x ∷ y ∷ []))

@@ -32,7 +32,7 @@ abbrev pub window : Win → ℕ → ℕ → Set
 window W a b = above (W .e) (by W b) a
 
 -- a is some job's e, b some job's l, and the jobs between them, of which there are some, last longer than b - a
-pub record Pair (n : ℕ) (p : List ℕ) (W : Win) (a b : ℕ) : Type 0 where
+pub record OverloadedPair (n : ℕ) (p : List ℕ) (W : Win) (a b : ℕ) : Type 0 where
   pub start : (i : ℕ) × (i < n) × (W .e ! i ≡ a)
   pub stop : (i : ℕ) × (i < n) × (W .l ! i ≡ b)
   pub some : (i : ℕ) × (i < n) × (window W a b i ≡ true)
@@ -40,9 +40,9 @@ pub record Pair (n : ℕ) (p : List ℕ) (W : Win) (a b : ℕ) : Type 0 where
 
 -- 01's answer: b the least latest end, and for it a the greatest earliest start, of such a pair
 pub record FirstPair (n : ℕ) (p : List ℕ) (W : Win) (a b : ℕ) : Type 0 where
-  pub pair : Pair n p W a b
-  pub least : (a′ b′ : ℕ) → Pair n p W a′ b′ → b ≤ b′
-  pub greatest : (a′ : ℕ) → Pair n p W a′ b → a′ ≤ a
+  pub pair : OverloadedPair n p W a b
+  pub least : (a′ b′ : ℕ) → OverloadedPair n p W a′ b′ → b ≤ b′
+  pub greatest : (a′ : ℕ) → OverloadedPair n p W a′ b → a′ ≤ a
 
 -- ---- the same, computed
 
@@ -61,17 +61,17 @@ unfolding pair?
 starts n p W b i = pair? n p W (W .e ! i) b
 
 -- what the check finds: nothing, or a and b
-pub data Found : Type 0 where
-  nothing : Found
-  pair : ℕ → ℕ → Found
+pub data Finding : Type 0 where
+  nothing : Finding
+  pair : ℕ → ℕ → Finding
 
 -- a and b where the test passes
-abbrev pub found : Bool → ℕ → ℕ → Found
-found true a b = Found.pair a b
+abbrev pub found : Bool → ℕ → ℕ → Finding
+found true a b = Finding.pair a b
 found false a b = nothing
 
 -- b the least of the stops' latest ends, and a the greatest of the starts' earliest starts for it
-unfoldable pub overload : ℕ → List ℕ → Win → Found
+unfoldable pub overload : ℕ → List ℕ → Win → Finding
 unfolding some? stops starts most fewest
 overload n p W =
     let b = fewest (stops n p W) (λ k. W .l ! k) (most (λ k. true) (λ k. W .l ! k) 0 n) n in
@@ -79,11 +79,11 @@ overload n p W =
     found (some? (stops n p W) n) a b
 
 -- a finding is right: the pair is 01's, and where nothing is found there is no pair
-abbrev pub Finds : ℕ → List ℕ → Win → Found → Type 0
-Finds n p W nothing = (a b : ℕ) → Pair n p W a b → ⊥
-Finds n p W (Found.pair a b) = FirstPair n p W a b
+abbrev pub Finds : ℕ → List ℕ → Win → Finding → Type 0
+Finds n p W nothing = (a b : ℕ) → OverloadedPair n p W a b → ⊥
+Finds n p W (Finding.pair a b) = FirstPair n p W a b
 
 -- a finding in the paper's words
-abbrev pub foundSaid : Found → Said
+abbrev pub foundSaid : Finding → Said
 foundSaid nothing = said Word.none []
-foundSaid (Found.pair a b) = said Word.overload (a ∷ b ∷ [])
+foundSaid (Finding.pair a b) = said Word.overload (a ∷ b ∷ [])

@@ -11,7 +11,7 @@ use Rattle.chains.specs.Paths.{Pair, Precedes, Below}
 use Rattle.texts.specs.Tokens.{Token, tokens}
 use Rattle.texts.specs.Readings.{bad, good, andThen, one, times, many, nothingMore}
 use Rattle.texts.proofs.Readings.{bad-not-good, good-same, then-good, one-takes, one-codes, many-takes, many-codes, times-takes, times-codes, each-within}
-use Rattle.projects.specs.Projects.{Row, Project, tagged, pairsFrom, durations, demandsOn, Within}
+use Rattle.projects.specs.Projects.{Row, Project, tagged, pairsFrom, durations, demandsOn, WithinLimits}
 use Rattle.projects.specs.Patterson.{row, Opening, opening, project, patterson}
 use Rattle.parsing.specs.Heads.{headIn, rowIn}
 use Rattle.parsing.specs.declared.Table.the-variants.{Whole}
@@ -40,7 +40,7 @@ pairs-range n j (r ∷ rs) h b = tagged-range n j (r .successors) (pairsFrom (su
 
 -- a project of rows within their limits
 pub rows-within : (n : ℕ) (caps : List ℕ) (rs : List Row) → n ≤ mostJobs → ((k : ℕ) → caps ! k ≤ mostDemand) → length rs ≡ n → Every (Limited n) rs
-    → Within (record { capacities = caps; rows = rs })
+    → WithinLimits (record { capacities = caps; rows = rs })
 rows-within n caps rs few low l h = record {
   few = omega arith;
   capacities = low;
@@ -78,7 +78,7 @@ over-codes a (t ∷ ts) c e = cc
 
 -- nothing is left of a text that was read
 pub record Takes (x : Project) (rest : List Token) : Type 0 where
-  pub within : Within x
+  pub within : WithinLimits x
   pub over : rest ≡ []
 
 project-takes : (ts rest : List Token) (x : Project) → project ts ≡ good x rest → Takes x rest
@@ -90,7 +90,7 @@ project-takes ts rest x e =
     let q = times-takes (row (s .0 .jobs) (s .0 .resources)) (Limited (s .0 .jobs)) (λ j u v r p. row-takes (Whole (s .0 .resources)) (s .0 .jobs) j u v r p) 0 (s .0 .jobs) (s .1) (t .1) (t .0) (t .2) in
     let y = over-good (made (s .0) (t .0)) x (t .1) rest (t .3) in
     record {
-      within = subst Within (y .0) (rows-within (s .0 .jobs) (s .0 .capacities) (t .0) (o .few) (o .capacities) (q .0) (q .1));
+      within = subst WithinLimits (y .0) (rows-within (s .0 .jobs) (s .0 .capacities) (t .0) (o .few) (o .capacities) (q .0) (q .1));
       over = y .1;
     }
   where

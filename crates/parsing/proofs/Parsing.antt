@@ -12,7 +12,7 @@ use Rattle.texts.specs.Tokens.{Token, tokens}
 use Rattle.texts.specs.Readings.{Read, bad, good, andThen, times}
 use Rattle.scanner.specs.Scan.{none?}
 use Rattle.texts.proofs.Readings.{bad-not-good, good-one}
-use Rattle.projects.specs.Projects.{Row, Project, link, tagged, pairsFrom, pairsOf, durations, demandsOn, Within}
+use Rattle.projects.specs.Projects.{Row, Project, link, tagged, pairsFrom, pairsOf, durations, demandsOn, WithinLimits}
 use Rattle.projects.specs.Patterson.{row, opening, project, patterson}
 use Rattle.parsing.specs.Heads.{headIn, rowIn}
 use Rattle.parsing.specs.Walk.{Seen, seeing, OpenSays, FoundSays}
@@ -113,6 +113,6 @@ module _ (s : List ℕ) (res : ℕ) (durs dems : List ℕ) (z : Shape) (x : Proj
   parsing-few = omega (arith, p .jobs, p .limits .few)
 
 pub parsed-within : (r : Read Project) (s : List ℕ) (res : ℕ) (durs dems : List ℕ) (p : Parsed) → ParsedSays r s res durs dems p
-    → (x : Project) (rest : List Token) → r ≡ good x rest → Within x
-parsed-within r s res durs dems (Entire z) t x rest e = subst Within (good-one r (t .0) x [] rest (t .1) e .0) (t .2 .limits)
+    → (x : Project) (rest : List Token) → r ≡ good x rest → WithinLimits x
+parsed-within r s res durs dems (Entire z) t x rest e = subst WithinLimits (good-one r (t .0) x [] rest (t .1) e .0) (t .2 .limits)
 parsed-within r s res durs dems (Broken c) t x rest e = bad-not-good r c x rest (t .0) e

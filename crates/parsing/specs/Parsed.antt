@@ -7,7 +7,7 @@ use Rattle.lists.specs.Lists.{_!_}
 use Rattle.chains.specs.Paths.{Pair}
 use Rattle.texts.specs.Tokens.{Token}
 use Rattle.texts.specs.Readings.{Read, bad, good}
-use Rattle.projects.specs.Projects.{Project, pairsOf, durations, demandsOn, Within}
+use Rattle.projects.specs.Projects.{Project, pairsOf, durations, demandsOn, WithinLimits}
 use Rattle.parsing.specs.Walk.{Seen, see}
 use Rattle.parsing.specs.declared.Table.{Table}
 use Rattle.parsing.specs.declared.Walk.{Walk}
@@ -38,7 +38,7 @@ pub record Parsing (s : List ℕ) (res : ℕ) (durs dems : List ℕ) (z : Shape)
   pub count : length (pairsOf x) ≡ z .pairs
   pub end : List Token
   pub come : comes (z .n) (z .table) s (first (z .at)) ≡ good (pairsOf x) end
-  pub limits : Within x
+  pub limits : WithinLimits x
 
 -- by the answer: the text says a project, or meets a refusal, which has a number
 abbrev pub ParsedSays : Read Project → List ℕ → ℕ → List ℕ → List ℕ → Parsed → Type 0

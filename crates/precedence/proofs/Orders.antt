@@ -9,11 +9,11 @@ use lib.ListN.{replicate, getD-replicate}
 use Rattle.lists.specs.Lists.{_!_}
 use Rattle.joblist.specs.Limits.{mostJobs}
 use Rattle.chains.specs.Paths.{Pair, Precedes, Below, Cycle, Chain, Longest, Longer, Back, weight}
-use Rattle.chains.specs.Passes.{Chained, Stable}
+use Rattle.chains.specs.Passes.{Chained, NoneRaises}
 use Rattle.chains.proofs.Chains.{stable-most, stable-longest, stable-after, stable-acyclic, long-cycle, chain-map, chain-starts, chain-inside}
 use Rattle.texts.specs.Tokens.{Token}
 use Rattle.texts.specs.Readings.{Read, good}
-use Rattle.precedence.specs.Rounds.{turned, TooLong, AtRest, Overrun, ExceedsSays}
+use Rattle.precedence.specs.Rounds.{turned, ChainOver, AtRest, Overrun, ExceedsSays}
 
 turned-false : (ps : List Pair) → turned false ps ≡ ps
 turned-false [] = refl
@@ -37,13 +37,13 @@ module _ (r : Read (List Pair)) (n : ℕ) (few : n ≤ mostJobs) (ps : List Pair
 
   pub says-33 : Overrun r (replicate mostJobs 1) false n → Cycle (Precedes ps)
   says-33 t =
-      let u : TooLong ps (replicate mostJobs 1) n = subst (λ (l : List Pair). TooLong l (replicate mostJobs 1) n) (turned-false ps) (t .long ps end e) in
+      let u : ChainOver ps (replicate mostJobs 1) n = subst (λ (l : List Pair). ChainOver l (replicate mostJobs 1) n) (turned-false ps) (t .long ps end e) in
       let c : Chain (Precedes ps) (λ i. 1) (u .at) (u .length) = chain-map (Precedes ps) (Precedes ps) (weight (replicate mostJobs 1)) (λ i. 1) (λ a b q. (q, one-each a b q)) (u .chain) in
       long-cycle (Precedes ps) n range (chain-inside (Precedes ps) n (λ i. 1) range (omega (arith, u .over)) c) (omega (arith, u .over)) c
 
   pub no-33 : (v : List ℕ) → AtRest r n (replicate mostJobs 1) false n v → Cycle (Precedes ps) → ⊥
   no-33 v t c =
-      let s : Stable (Precedes ps) (weight (replicate mostJobs 1)) v = subst (λ (l : List Pair). Stable (Precedes l) (weight (replicate mostJobs 1)) v) (turned-false ps) (t .stable ps end e range) in
+      let s : NoneRaises (Precedes ps) (weight (replicate mostJobs 1)) v = subst (λ (l : List Pair). NoneRaises (Precedes l) (weight (replicate mostJobs 1)) v) (turned-false ps) (t .stable ps end e range) in
       stable-acyclic (Precedes ps) (λ i. 1) v (λ a b q. omega (arith, s a b q, one-each a b q)) (λ i. omega arith) c
 
   -- ---- durations
@@ -51,7 +51,7 @@ module _ (r : Read (List Pair)) (n : ℕ) (few : n ≤ mostJobs) (ps : List Pair
   module _ (p : List ℕ) (h : ℕ) where
     pub head-34 : Overrun r p false h → Longer (Precedes ps) n (weight p) h
     head-34 t =
-        let u : TooLong ps p h = subst (λ (l : List Pair). TooLong l p h) (turned-false ps) (t .long ps end e) in
+        let u : ChainOver ps p h = subst (λ (l : List Pair). ChainOver l p h) (turned-false ps) (t .long ps end e) in
         record {
           last = u .at;
           job = chain-inside (Precedes ps) n (weight p) range (omega (arith, u .over)) (u .chain);
@@ -72,8 +72,8 @@ module _ (r : Read (List Pair)) (n : ℕ) (few : n ≤ mostJobs) (ps : List Pair
     }
 
     module _ (heads : List ℕ) (t : AtRest r n p false h heads) where
-      stable : Stable (Precedes ps) (weight p) heads
-      stable = subst (λ (l : List Pair). Stable (Precedes l) (weight p) heads) (turned-false ps) (t .stable ps end e range)
+      stable : NoneRaises (Precedes ps) (weight p) heads
+      stable = subst (λ (l : List Pair). NoneRaises (Precedes l) (weight p) heads) (turned-false ps) (t .stable ps end e range)
 
       pub head-longest : (j : ℕ) → Longest (Precedes ps) (weight p) j (heads ! j)
       head-longest = stable-longest (Precedes ps) (weight p) heads stable (subst (λ (l : List Pair). Chained (Precedes l) (weight p) heads) (turned-false ps) (t .chains ps end e))

@@ -10,7 +10,7 @@ use lib.ListN.{length, drop, replicate, getD-replicate}
 use Rattle.lists.specs.Lists.{_!_}
 use Rattle.joblist.specs.Limits.{mostJobs}
 use Rattle.chains.specs.Paths.{Pair}
-use Rattle.chains.specs.Listed.{paired, InRange, NotRising}
+use Rattle.chains.specs.Listed.{paired, PairInRange, NotRising}
 use Rattle.chains.proofs.Listed.{paired-next, paired-end}
 use Rattle.texts.specs.Tokens.{Token}
 use Rattle.texts.specs.Readings.{Read, good}
@@ -53,7 +53,7 @@ module _ (js ss : List ℕ) (l : length ss ≡ length js) (i : ℕ) where
   from-end h ps end e = sym (read-pairs (drop i (paired js ss)) ps end e) ∙ paired-end js ss l i h
 
 -- the round goes on with the pair at place i: nothing rises, a value does, or one would rise above n
-module _ (js ss : List ℕ) (l : length ss ≡ length js) (n : ℕ) (few : n ≤ mostJobs) (i : ℕ) (h : i < length js) (f : InRange n js ss i) where
+module _ (js ss : List ℕ) (l : length ss ≡ length js) (n : ℕ) (few : n ≤ mostJobs) (i : ℕ) (h : i < length js) (f : PairInRange n js ss i) where
   module _ (v₀ v v' : List ℕ) (changed : Bool) (g : Counting js ss n i v₀ v changed) where
     pub place-kept : RiseSays v v' (js ! i) (ss ! i) 1 n Kept → Counting js ss n (i + 1) v₀ v' changed
     place-kept t = relaxing-kept _ _ _ _ _ _ _ _ g _ _ _ (from-place js ss l i h) (js ! i) (ss ! i) refl refl v' (by-one v v' (js ! i) (ss ! i) n Kept (omega (arith, f .0)) t)
@@ -66,7 +66,7 @@ module _ (js ss : List ℕ) (l : length ss ≡ length js) (n : ℕ) (few : n ≤
 
 -- the pair at place i beside the next one
 module _ (n : ℕ) (js ss : List ℕ) (i : ℕ) where
-  pub comes-before : InRange n js ss i → (js ! i < js ! (i + 1)) ⊎ ((js ! i ≡ js ! (i + 1)) × (ss ! i < ss ! (i + 1))) → PlacedSays n js ss i true
+  pub comes-before : PairInRange n js ss i → (js ! i < js ! (i + 1)) ⊎ ((js ! i ≡ js ! (i + 1)) × (ss ! i < ss ! (i + 1))) → PlacedSays n js ss i true
   comes-before f h = (f, λ b. rw (← add-one i) h)
 
   pub not-before : i + 1 < length js → (js ! (i + 1) < js ! i) ⊎ ((js ! (i + 1) ≡ js ! i) × (ss ! (i + 1) ≤ ss ! i)) → PlacedSays n js ss i false

@@ -7,7 +7,7 @@ use Rattle.lists.specs.Lists.{_!_}
 use Rattle.chains.specs.Paths.{Pair, Precedes, weight, Cycle, Longest, Longer, Back}
 
 -- neither: `heads` are the longest chains before the jobs, `tails` those after them
-pub record Ordered (ps : List Pair) (n : ℕ) (p : List ℕ) (h : ℕ) (heads tails : List ℕ) : Type 0 where
+pub record ChainsFound (ps : List Pair) (n : ℕ) (p : List ℕ) (h : ℕ) (heads tails : List ℕ) : Type 0 where
   pub acyclic : Cycle (Precedes ps) → ⊥
   pub short : Longer (Precedes ps) n (weight p) h → ⊥
   pub before : (j : ℕ) → Longest (Precedes ps) (weight p) j (heads ! j)
@@ -16,6 +16,6 @@ pub record Ordered (ps : List Pair) (n : ℕ) (p : List ℕ) (h : ℕ) (heads ta
 
 -- by the number
 abbrev pub OrderSays : List Pair → ℕ → List ℕ → ℕ → List ℕ → List ℕ → ℕ → Type 0
-OrderSays ps n p h heads tails zero = Ordered ps n p h heads tails
+OrderSays ps n p h heads tails zero = ChainsFound ps n p h heads tails
 OrderSays ps n p h heads tails (suc c) =
     ((suc c ≡ 33) × Cycle (Precedes ps)) ⊎ ((suc c ≡ 34) × (Cycle (Precedes ps) → ⊥) × Longer (Precedes ps) n (weight p) h)

@@ -5,12 +5,12 @@ use mathlib.Core.List.{List}
 use mathlib.Core.Logic.{_⊎_}
 use lib.ListN.{length}
 use Rattle.chains.specs.Paths.{Precedes, Cycle}
-use Rattle.chains.specs.Listed.{paired, InRange, InOrder, Rising, OutOfRange, OutOfOrder, NotRising}
+use Rattle.chains.specs.Listed.{paired, PairInRange, InOrder, Rising, PairOutOfRange, OutOfOrder, NotRising}
 
 -- the pair at place i is of the n jobs and comes before the next, where there is one; or it is not, or does not
 abbrev pub PlacedSays : ℕ → List ℕ → List ℕ → ℕ → Bool → Type 0
-PlacedSays n js ss i true = InRange n js ss i × (suc i < length js → InOrder js ss i)
-PlacedSays n js ss i false = OutOfRange n js ss i ⊎ ((suc i < length js) × OutOfOrder js ss i)
+PlacedSays n js ss i true = PairInRange n js ss i × (suc i < length js → InOrder js ss i)
+PlacedSays n js ss i false = PairOutOfRange n js ss i ⊎ ((suc i < length js) × OutOfOrder js ss i)
 
 -- every pair is of the n jobs and they are in strictly rising order, or not
 abbrev pub RisingSays : ℕ → List ℕ → List ℕ → Bool → Type 0

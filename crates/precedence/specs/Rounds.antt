@@ -9,7 +9,7 @@ use Rattle.lists.specs.Lists.{_!_}
 use Rattle.lists.specs.Sums as sums
 use Rattle.joblist.specs.Limits.{mostJobs}
 use Rattle.chains.specs.Paths.{Pair, pair, Precedes, Below, weight, Chain}
-use Rattle.chains.specs.Passes.{Chained, Stable, pass}
+use Rattle.chains.specs.Passes.{Chained, NoneRaises, pass}
 use Rattle.texts.specs.Tokens.{Token}
 use Rattle.texts.specs.Readings.{Read, good}
 use Rattle.precedence.specs.declared.rounds.Rise.{Rise}
@@ -36,7 +36,7 @@ abbrev pub sum : List ℕ → ℕ
 sum v = sums.total (λ i. v ! i) mostJobs
 
 -- some chain is longer than top
-pub record TooLong (ps : List Pair) (p : List ℕ) (top : ℕ) : Type 0 where
+pub record ChainOver (ps : List Pair) (p : List ℕ) (top : ℕ) : Type 0 where
   pub at : ℕ
   pub length : ℕ
   pub chain : Chain (Precedes ps) (weight p) at length
@@ -47,17 +47,17 @@ abbrev pub RoundSays : Read (List Pair) → List ℕ → Bool → ℕ → List �
 RoundSays r p back top v u Same = (u ≡ v) × ((ps : List Pair) (end : List Token) → r ≡ good ps end → pass (weight p) (turned back ps) v ≡ v)
 RoundSays r p back top v u Changed =
     (sum v < sum u) × ((j : ℕ) → u ! j ≤ top) × ((ps : List Pair) (end : List Token) → r ≡ good ps end → u ≡ pass (weight p) (turned back ps) v)
-RoundSays r p back top v u Over = (ps : List Pair) (end : List Token) → r ≡ good ps end → Chained (Precedes (turned back ps)) (weight p) v → TooLong (turned back ps) p top
+RoundSays r p back top v u Over = (ps : List Pair) (end : List Token) → r ≡ good ps end → Chained (Precedes (turned back ps)) (weight p) v → ChainOver (turned back ps) p top
 
 -- rounds until nothing changes: values that are chains' lengths and that no pair raises
 pub record AtRest (r : Read (List Pair)) (n : ℕ) (p : List ℕ) (back : Bool) (top : ℕ) (v : List ℕ) : Type 0 where
   pub low : (j : ℕ) → v ! j ≤ top
   pub chains : (ps : List Pair) (end : List Token) → r ≡ good ps end → Chained (Precedes (turned back ps)) (weight p) v
-  pub stable : (ps : List Pair) (end : List Token) → r ≡ good ps end → Below n (Precedes ps) → Stable (Precedes (turned back ps)) (weight p) v
+  pub stable : (ps : List Pair) (end : List Token) → r ≡ good ps end → Below n (Precedes ps) → NoneRaises (Precedes (turned back ps)) (weight p) v
 
 -- or until some chain is longer than top
 pub record Overrun (r : Read (List Pair)) (p : List ℕ) (back : Bool) (top : ℕ) : Type 0 where
-  pub long : (ps : List Pair) (end : List Token) → r ≡ good ps end → TooLong (turned back ps) p top
+  pub long : (ps : List Pair) (end : List Token) → r ≡ good ps end → ChainOver (turned back ps) p top
 
 -- by the answer: at rest, or overrun
 abbrev pub SettleSays : Read (List Pair) → ℕ → List ℕ → Bool → ℕ → List ℕ → Bool → Type 0

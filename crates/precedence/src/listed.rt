@@ -10,7 +10,7 @@ ghost use Prim.Native.Nat.{ℕ, _≤_, _<_};
 ghost use lib.ListN.{length, replicate};
 ghost use Rattle.lists.specs.Lists.{_!_};
 ghost use Rattle.joblist.specs.Limits.{mostJobs};
-ghost use Rattle.chains.specs.Listed.{paired, InRange};
+ghost use Rattle.chains.specs.Listed.{paired, PairInRange};
 ghost use Rattle.texts.specs.Readings.{good};
 ghost use Rattle.precedence.specs.Rounds.{RoundSays};
 ghost use Rattle.precedence.specs.Listed.{PlacedSays, RisingSays, CycleSays};
@@ -64,7 +64,7 @@ pub fn rising(jobs: &[u32], successors: &[u32], n: u32) -> bool
 // One round over the pairs: a step counts 1, and n is the limit.
 fn round_listed(jobs: &[u32], successors: &[u32], n: u32, v: &mut [u32; screen::MOST_JOBS]) -> Round
     requires { ⌜ (n ≤ mostJobs) × (length (now successors) ≡ length (now jobs)) × (length (now v) ≡ mostJobs) ⌝ }
-    requires { ⌜ ((i : ℕ) → i < length (now jobs) → InRange n (now jobs) (now successors) i) × ((j : ℕ) → now v ! j ≤ n) ⌝ }
+    requires { ⌜ ((i : ℕ) → i < length (now jobs) → PairInRange n (now jobs) (now successors) i) × ((j : ℕ) → now v ! j ≤ n) ⌝ }
     ensures { λ r. ⌜ RoundSays (good (paired (now (jobs .entry)) (now (successors .entry))) []) (replicate mostJobs 1) false n (now (v .entry)) (now (v .exit)) r × (length (now (v .exit)) ≡ mostJobs) ⌝ }
 {
     let mut changed = false;
@@ -92,7 +92,7 @@ fn round_listed(jobs: &[u32], successors: &[u32], n: u32, v: &mut [u32; screen::
 // Whether there is a cycle: steps are counted, and without a cycle no chain has as many as there are jobs. The sum of the values rises with each round.
 pub fn has_cycle(jobs: &[u32], successors: &[u32], n: u32) -> bool
     requires { ⌜ (n ≤ mostJobs) × (length (now successors) ≡ length (now jobs)) ⌝ }
-    requires { ⌜ ((i : ℕ) → i < length (now jobs) → InRange n (now jobs) (now successors) i) ⌝ }
+    requires { ⌜ ((i : ℕ) → i < length (now jobs) → PairInRange n (now jobs) (now successors) i) ⌝ }
     ensures { λ r. ⌜ CycleSays (now (jobs .entry)) (now (successors .entry)) r ⌝ }
 {
     let mut levels = [0u32; screen::MOST_JOBS];

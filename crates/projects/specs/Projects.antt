@@ -63,7 +63,7 @@ abbrev pub demandsOn : ℕ → List Row → List ℕ
 demandsOn resource rs = map (λ (r : Row). r .demands ! resource) rs
 
 -- a project whose numbers are within their limits, its successors among its jobs
-pub record Within (x : Project) : Type 0 where
+pub record WithinLimits (x : Project) : Type 0 where
   pub few : length (x .rows) ≤ mostJobs
   pub capacities : (k : ℕ) → x .capacities ! k ≤ mostDemand
   pub durations : (j : ℕ) → durations (x .rows) ! j ≤ mostTime

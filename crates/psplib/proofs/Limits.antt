@@ -14,7 +14,7 @@ use Rattle.texts.proofs.Readings.{bad-not-good, good-same, then-good, many-take
 use Rattle.headings.specs.Lines.{behindLines, counted}
 use Rattle.headings.specs.Headings.{marks, inOrder, section}
 use Rattle.headings.proofs.Facts.{counted-codes, counted-takes}
-use Rattle.projects.specs.Projects.{Project, Within}
+use Rattle.projects.specs.Projects.{Project, WithinLimits}
 use Rattle.projects.specs.Tables.{relation, Need, request}
 use Rattle.parsing.proofs.Takes.{OfText, low-code, some-code, then-codes, Limited}
 use Rattle.parsing.proofs.Tables.{linked, needed, relation-within, request-within, relation-code, request-code}
@@ -47,7 +47,7 @@ module _ (n k : ℕ) (s₁ s₂ s₃ : List ℕ) where
   abbrev capacities : Read (List ℕ)
   capacities = many mostDemand k (tokens (behindLines 2 s₃))
 
-  pub tables-take : (x : Project) (rest : List Token) → n ≤ mostJobs → tables n k s₁ s₂ s₃ ≡ good x rest → Within x
+  pub tables-take : (x : Project) (rest : List Token) → n ≤ mostJobs → tables n k s₁ s₂ s₃ ≡ good x rest → WithinLimits x
   unfolding tables
   tables-take x rest few e =
       let s = then-good relations (λ rs u. andThen requests (λ qs v. andThen capacities (λ cs w. good (made rs qs cs) []))) x rest e in
@@ -57,7 +57,7 @@ module _ (n k : ℕ) (s₁ s₂ s₃ : List ℕ) where
       let a = relations-take n (tokens (behindLines 2 s₁)) (s .1) (s .0) (s .2) in
       let b = requests-take n k (tokens (behindLines 3 s₂)) (t .1) (t .0) (t .2) in
       let d = many-takes mostDemand k (tokens (behindLines 2 s₃)) (r .1) (r .0) (r .2) in
-      subst Within (o .0) (rows-within n (r .0) (join (s .0) (t .0)) few (each-within mostDemand (r .0) (d .1))
+      subst WithinLimits (o .0) (rows-within n (r .0) (join (s .0) (t .0)) few (each-within mostDemand (r .0) (d .1))
       (join-long (s .0) (t .0) (a .0 ∙ sym (b .0)) ∙ a .0) (join-limited n (s .0) (t .0) (a .1) (b .1)))
     where
       made : List (List ℕ) → List Need → List ℕ → Project
@@ -72,18 +72,18 @@ module _ (n k : ℕ) (s₁ s₂ s₃ : List ℕ) where
 
 -- ---- the whole text
 
-sections-take : (part : ℕ → List ℕ) (x : Project) (rest : List Token) → sections part ≡ good x rest → Within x
+sections-take : (part : ℕ → List ℕ) (x : Project) (rest : List Token) → sections part ≡ good x rest → WithinLimits x
 unfolding sections
 sections-take part x rest e =
     let s = then-good (counted mostJobs (part 0)) (λ n u. andThen (counted mostResources (part 1)) (λ k v. tables n k (part 2) (part 3) (part 4))) x rest e in
     let t = then-good (counted mostResources (part 1)) (λ k v. tables (s .0) k (part 2) (part 3) (part 4)) x rest (s .3) in
     tables-take (s .0) (t .0) (part 2) (part 3) (part 4) x rest (counted-takes mostJobs (part 0) (s .0) (s .1) (s .2)) (t .3)
 
-pub psplib-takes : (s : List ℕ) (x : Project) (rest : List Token) → psplib s ≡ good x rest → Within x
+pub psplib-takes : (s : List ℕ) (x : Project) (rest : List Token) → psplib s ≡ good x rest → WithinLimits x
 unfolding psplib
 psplib-takes s x rest e = go (inOrder 0 (marks s)) e
   where
-    go : (b : Bool) → cond b (sections (λ k. section k (marks s))) (bad 35) ≡ good x rest → Within x
+    go : (b : Bool) → cond b (sections (λ k. section k (marks s))) (bad 35) ≡ good x rest → WithinLimits x
     go true q = sections-take (λ k. section k (marks s)) x rest q
     go false q = bad-not-good (bad 35) 35 x rest refl q
 

@@ -21,8 +21,8 @@ use Rattle.lists.proofs.Orders.{rank-below, rank-apart, rank-rising, rank-onto}
 use Rattle.lists.proofs.Tests.{by-contra, both-true}
 use Rattle.lists.proofs.Sets.{clash, totalOf-sub, fewest-is, fewest-le}
 use Rattle.narrowing.specs.Windows.{Win}
-use Rattle.overloads.specs.Overload.{by, window, Pair, FirstPair}
-use Rattle.theta.specs.Theta.{far, endOf, empty, Places, Holds, Ranged, Climbed, onward, descent}
+use Rattle.overloads.specs.Overload.{by, window, OverloadedPair, FirstPair}
+use Rattle.theta.specs.Theta.{far, endOf, empty, Places, HoldsSet, Ranged, Climbed, onward, descent}
 use Rattle.readhead.specs.Sweep.{tied, due}
 use Rattle.overloads.proofs.Pairs.{in-window, window-in}
 use Rattle.theta.proofs.Nodes.{in-onward, onward-in}
@@ -39,7 +39,7 @@ rank-places n m e h =
 module _ (n : ℕ) (p : List ℕ) (W : Win) (σ : ℕ → ℕ) (O : Set) (b : ℕ) (in-all : Sub n (by W b) O)
     (rising : (i j : ℕ) → i < n → j < n → σ i ≤ σ j → W .e ! i ≤ W .e ! j) where
   -- a pair's first job by place, with all jobs from its place on, exceeds b
-  pair-place : (a : ℕ) → Pair n p W a b → (i : ℕ) × (i < n) × (O i ≡ true) × (a ≤ W .e ! i) × (b < W .e ! i + totalOf n p (onward σ O (σ i)))
+  pair-place : (a : ℕ) → OverloadedPair n p W a b → (i : ℕ) × (i < n) × (O i ≡ true) × (a ≤ W .e ! i) × (b < W .e ! i + totalOf n p (onward σ O (σ i)))
   pair-place a q = go (fewest-is (window W a b) σ (σ (q .some .0)) n)
     where
       low : ℕ
@@ -58,11 +58,11 @@ module _ (n : ℕ) (p : List ℕ) (W : Win) (σ : ℕ → ℕ) (O : Set) (b : �
       go (inr (i, c, t, f)) = first i c t f
 
   -- where no job exceeds b so, b has no pair
-  short-none : ((i : ℕ) → i < n → O i ≡ true → W .e ! i + totalOf n p (onward σ O (σ i)) ≤ b) → (a : ℕ) → Pair n p W a b → ⊥
+  short-none : ((i : ℕ) → i < n → O i ≡ true → W .e ! i + totalOf n p (onward σ O (σ i)) ≤ b) → (a : ℕ) → OverloadedPair n p W a b → ⊥
   short-none f a q = let i = pair-place a q in omega (arith, f (i .0) (i .1) (i .2), i .4)
 
   -- the last job that does so gives the greatest a
-  last-pair : (x j : ℕ) → Last n (W .e) p σ O b x j → Sub n O (by W b) → (k : ℕ) → k < n → W .l ! k ≡ b → Pair n p W (W .e ! j) b
+  last-pair : (x j : ℕ) → Last n (W .e) p σ O b x j → Sub n O (by W b) → (k : ℕ) → k < n → W .l ! k ≡ b → OverloadedPair n p W (W .e ! j) b
   last-pair x j L all k c f =
       record {
         start = (j, L .below, refl);
@@ -78,7 +78,7 @@ module _ (n : ℕ) (p : List ℕ) (W : Win) (σ : ℕ → ℕ) (O : Set) (b : �
         );
       }
 
-  last-greatest : (x j : ℕ) → Last n (W .e) p σ O b x j → (a : ℕ) → Pair n p W a b → a ≤ W .e ! j
+  last-greatest : (x j : ℕ) → Last n (W .e) p σ O b x j → (a : ℕ) → OverloadedPair n p W a b → a ≤ W .e ! j
   last-greatest x j L a q =
       let i = pair-place a q in
       elim (decLe (σ (i .0)) x) [
@@ -95,8 +95,8 @@ entered n W k j = ltb (rank (W .l) n j) k
 pub record Going (n m : ℕ) (p : List ℕ) (W : Win) (k : ℕ) (sums : List ℕ) (ends : List ℤ) : Type 0 where
   pub upto : k ≤ n
   pub ranged : Ranged m sums ends
-  pub holds : Holds n m (W .e) p (rank (W .e) n) (entered n W k) sums ends
-  pub later : (a b : ℕ) → Pair n p W a b → (j : ℕ) × (j < n) × (W .l ! j ≤ b) × (k ≤ rank (W .l) n j)
+  pub holds : HoldsSet n m (W .e) p (rank (W .e) n) (entered n W k) sums ends
+  pub later : (a b : ℕ) → OverloadedPair n p W a b → (j : ℕ) × (j < n) × (W .l ! j ≤ b) × (k ≤ rank (W .l) n j)
 
 pub going-start : (n m : ℕ) (p : List ℕ) (W : Win) → Going n m p W 0 (replicate (2 * m) 0) (replicate (2 * m) empty)
 going-start n m p W =
@@ -107,14 +107,14 @@ going-start n m p W =
       later = λ a b q. (q .stop .0, q .stop .1, omega (arith, q .stop .2), omega arith);
     }
 
-pub going-end : (n m : ℕ) (p : List ℕ) (W : Win) (k : ℕ) (sums : List ℕ) (ends : List ℤ) → Going n m p W k sums ends → n ≤ k → (a b : ℕ) → Pair n p W a b → ⊥
+pub going-end : (n m : ℕ) (p : List ℕ) (W : Win) (k : ℕ) (sums : List ℕ) (ends : List ℤ) → Going n m p W k sums ends → n ≤ k → (a b : ℕ) → OverloadedPair n p W a b → ⊥
 going-end n m p W k sums ends G h a b q = let j = G .later a b q in omega (arith, j .3, rank-below (W .l) n (j .0) (j .1))
 
 -- job j, the next by latest end, is put in
 module _ (n m : ℕ) (p : List ℕ) (W : Win) (k : ℕ) (sums : List ℕ) (ends : List ℤ) (sums′ : List ℕ) (ends′ : List ℤ) (few : n ≤ m)
     (G : Going n m p W k sums ends) (j : ℕ) (b : j < n) (is : rank (W .l) n j ≡ k)
     (C : Climbed m (set sums (m + rank (W .e) n j) (p ! j)) (set ends (m + rank (W .e) n j) (pos (W .e ! j + p ! j))) sums′ ends′) where
-  pub entered-holds : Holds n m (W .e) p (rank (W .e) n) (entered n W (k + 1)) sums′ ends′
+  pub entered-holds : HoldsSet n m (W .e) p (rank (W .e) n) (entered n W (k + 1)) sums′ ends′
   entered-holds =
       holds-more n m (W .e) p (rank (W .e) n) (entered n W k) (entered n W (k + 1)) sums ends sums′ ends′ j (rank-places n m (W .e) few) (G .ranged) (G .holds) b
       (λ i c t.
@@ -138,7 +138,7 @@ module _ (n m : ℕ) (p : List ℕ) (W : Win) (k : ℕ) (sums : List ℕ) (ends 
   next-upto = omega (arith, rank-below (W .l) n j b)
 
   -- what a pair waits for, once j is in: another job that ends no later, or j's own latest end
-  waits : (a c : ℕ) → Pair n p W a c → ((i : ℕ) × (i < n) × (W .l ! i ≤ c) × (k + 1 ≤ rank (W .l) n i)) ⊎ (W .l ! j ≤ c)
+  waits : (a c : ℕ) → OverloadedPair n p W a c → ((i : ℕ) × (i < n) × (W .l ! i ≤ c) × (k + 1 ≤ rank (W .l) n i)) ⊎ (W .l ! j ≤ c)
   waits a c q =
       let i = G .later a c q in
       elim (decLe (k + 1) (rank (W .l) n (i .0))) [
@@ -183,7 +183,7 @@ module _ (n m : ℕ) (p : List ℕ) (W : Win) (k : ℕ) (sums : List ℕ) (ends 
             later = λ a c q. elim (waits a c q) [ inl w ↦ w | inr w ↦ after a c q w (ℕ-discrete c (W .l ! j)) ];
           }
         where
-          after : (a c : ℕ) → Pair n p W a c → W .l ! j ≤ c → Dec (c ≡ W .l ! j) → (i : ℕ) × (i < n) × (W .l ! i ≤ c) × (k + 1 ≤ rank (W .l) n i)
+          after : (a c : ℕ) → OverloadedPair n p W a c → W .l ! j ≤ c → Dec (c ≡ W .l ! j) → (i : ℕ) × (i < n) × (W .l ! i ≤ c) × (k + 1 ≤ rank (W .l) n i)
           after a c q w (yes g) =
               absurd (short-none n p W (rank (W .e) n) (entered n W (k + 1)) (W .l ! j) all-in (rank-rising (W .e) n)
               (root-short n m (W .e) p (rank (W .e) n) (entered n W (k + 1)) sums′ ends′ places entered-holds small (W .l ! j) d size f) a (rw g at q))

@@ -11,8 +11,8 @@ use Rattle.joblist.specs.Limits.{mostJobs}
 use Rattle.narrowing.specs.Windows.{win}
 use Rattle.lists.specs.Lists.{_!_}
 use Rattle.lists.specs.Sets.{Set, totalOf}
-use Rattle.overloads.specs.Overload.{Found, nothing, overload, foundSaid}
-use Rattle.readhead.specs.Sweep.{due, Sorted, Entered, Reached}
+use Rattle.overloads.specs.Overload.{Finding, nothing, overload, foundSaid}
+use Rattle.readhead.specs.Sweep.{due, Sorted, Entered, LeafTaken}
 use Rattle.theta.specs.Theta.{far, endOf, depth, descent}
 use Rattle.theta.proofs.Nodes.{total-most}
 use Rattle.overloads.proofs.Pairs.{overload-is}
@@ -43,7 +43,7 @@ module _ (est lct dur place starts stops : List ℕ) (S : Sorted est lct dur pla
       abbrev v : ℕ
       v = descent sums′ ends′ b depth 1 0
 
-      pub turn-reached : Reached est starts v
+      pub turn-reached : LeafTaken est starts v
       turn-reached =
           let r = going-found-at (length est) mostJobs dur (win est lct) stops k sums ends sums′ ends′ (S .good .few) (S .by-stop) T lt E (small _) depth refl starts (S .by-start) (rw (S .good .sized .1 .0) at h) in
           let q : v - mostJobs ≡ r .0 = omega (arith, r .1) in
@@ -53,7 +53,7 @@ module _ (est lct dur place starts stops : List ℕ) (S : Sorted est lct dur pla
       turn-found =
           let r = going-found-at (length est) mostJobs dur (win est lct) stops k sums ends sums′ ends′ (S .good .few) (S .by-stop) T lt E (small _) depth refl starts (S .by-start) (rw (S .good .sized .1 .0) at h) in
           let q : v - mostJobs ≡ r .0 = omega (arith, r .1) in
-          rw q (ap foundSaid (overload-is (length est) dur (win est lct) (Found.pair (est ! (starts ! r .0)) b) (r .4)))
+          rw q (ap foundSaid (overload-is (length est) dur (win est lct) (Finding.pair (est ! (starts ! r .0)) b) (r .4)))
 
   pub turn-none : (k : ℕ) (sums : List ℕ) (ends : List ℤ) → Turning est lct dur sums ends k → length est ≤ k → said Word.none [] ≡ foundSaid (overload (length est) dur (win est lct))
   turn-none k sums ends T h =

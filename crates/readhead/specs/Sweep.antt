@@ -39,7 +39,7 @@ Entered est dur j sums ends sums′ ends′ =
     Climbed mostJobs (set sums (mostJobs + rank est (length est) j) (dur ! j)) (set ends (mostJobs + rank est (length est) j) (pos (est ! j + dur ! j))) sums′ ends′
 
 -- node v is the leaf of a place that has a job
-pub record Reached (est starts : List ℕ) (v : ℕ) : Type 0 where
+pub record LeafTaken (est starts : List ℕ) (v : ℕ) : Type 0 where
   pub leaf : mostJobs ≤ v
   pub place : v - mostJobs < mostJobs
   pub job : starts ! (v - mostJobs) < length est

@@ -18,7 +18,7 @@ ghost use Rattle.lists.specs.Orders.{Ordered};
 ghost use Rattle.overloads.specs.Overload.{overload, foundSaid};
 ghost use Rattle.theta.specs.Theta.{far, AllJoin, Ranged, descent, depth};
 ghost use Rattle.placing.specs.Order.{Placed};
-ghost use Rattle.readhead.specs.Sweep.{tied, due, Sorted, Entered, Reached};
+ghost use Rattle.readhead.specs.Sweep.{tied, due, Sorted, Entered, LeafTaken};
 
 // Whether place k of the order has a job of the latest end b.
 fn tied(lct: &[u32], stops: &[usize; MOST_JOBS], k: usize, b: u32) -> bool
@@ -69,7 +69,7 @@ fn start_of(
     b: u32,
 ) -> u32
     requires { ⌜ (Ranged mostJobs (now sums) (now ends)) × (AllJoin mostJobs (now sums) (now ends)) × (length (now starts) ≡ mostJobs) ⌝ }
-    requires { ⌜ Reached (now est) (now starts) (descent (now sums) (now ends) b depth 1 0) ⌝ }
+    requires { ⌜ LeafTaken (now est) (now starts) (descent (now sums) (now ends) b depth 1 0) ⌝ }
     ensures { λ r. ⌜ r ≡ now (est .entry) ! (now (starts .entry) ! (descent (now (sums .entry)) (now (ends .entry)) b depth 1 0 - mostJobs)) ⌝ }
 {
     let leaf = descend(sums, ends, b);

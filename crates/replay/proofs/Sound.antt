@@ -20,7 +20,7 @@ use Rattle.narrowing.proofs.Steps.{step-move}
 use Rattle.journal.specs.Journal.{jobOf, timeOf, isMember}
 use Rattle.timetable.specs.Time.{Jobs, Runs, runs, load, Crowded, Applies, bound}
 use Rattle.timetable.specs.Search.{member}
-use Rattle.timetable.specs.Reason.{OwnFact, Stated, namedDrawn, Changed, Implied, Within}
+use Rattle.timetable.specs.Reason.{OwnFact, Stated, namedDrawn, Changed, Implied, StartsWithin}
 use Rattle.timetable.specs.Table.{Call, jobsOf, asks}
 use Rattle.timetable.proofs.Facts.{yes-runs, yes-member}
 use Rattle.timetable.proofs.Law.{lawful}
@@ -94,7 +94,7 @@ module _ (J : Jobs) (W : Win) (x : List ℕ) (g : Passes J W x) where
 
   -- ---- and the facts hold of all starts within the windows
 
-  pub true-there : (s : List ℕ) → Within (J .n) (J .p) W s → Stated (J .n) (J .p) s (isMember x) (jobOf x) (side x) (timeOf x)
+  pub true-there : (s : List ℕ) → StartsWithin (J .n) (J .p) W s → Stated (J .n) (J .p) s (isMember x) (jobOf x) (side x) (timeOf x)
   true-there s w =
       record {
         members = λ k b h. let q = g .stated .members k h in (omega (arith, q .to, w .from k b), omega (arith, q .from, w .to k b));

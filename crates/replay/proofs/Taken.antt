@@ -18,7 +18,7 @@ use Rattle.timetable.proofs.Facts.{crowded-at}
 use Rattle.timetable.proofs.Entries.{entry-length}
 use Rattle.timetable.proofs.Lean.{lean-member, entry-lean}
 use Rattle.codes.specs.Facts.{side, OwnTrue, Tightens, GoodRecord}
-use Rattle.verdicts.specs.Promise.{Writes}
+use Rattle.verdicts.specs.Promise.{WritesGood}
 use Rattle.replay.specs.Replay.{changed, trial}
 
 number-most : (s : Side) → number s ≤ 1
@@ -81,7 +81,7 @@ unfolding naming
 entry-job J m = refl
 
 -- what is asked of the planner's records
-pub writes : (c : Call) → Writes (trial (jobsOf c)) (asks c)
+pub writes : (c : Call) → WritesGood (trial (jobsOf c)) (asks c)
 writes c =
     let J = jobsOf c in
     record {

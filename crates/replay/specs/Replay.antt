@@ -5,7 +5,7 @@ use mathlib.Core.List.{List}
 use Rattle.narrowing.specs.Windows.{Win, moved}
 use Rattle.journal.specs.Journal.{jobOf, timeOf, isMember}
 use Rattle.timetable.specs.Time.{Jobs, bound}
-use Rattle.timetable.specs.Reason.{Stated, Implied, Within, LeanRecord}
+use Rattle.timetable.specs.Reason.{Stated, Implied, StartsWithin, LeanRecord}
 use Rattle.timetable.specs.Table.{Call, jobsOf, asks, refusalOf}
 use Rattle.codes.specs.Facts.{side, GoodRecord}
 use Rattle.codes.specs.Codes.{code, Coded}
@@ -21,7 +21,7 @@ changed W x = moved W (jobOf x) (side x) (bound (side x) (timeOf x))
 -- member that it could do without
 pub record ReasonedOn (J : Jobs) (W : Win) (x : List ℕ) : Type 0 where
   pub implies : Implied J (isMember x) (jobOf x) (side x) (timeOf x)
-  pub true-there : (s : List ℕ) → Within (J .n) (J .p) W s → Stated (J .n) (J .p) s (isMember x) (jobOf x) (side x) (timeOf x)
+  pub true-there : (s : List ℕ) → StartsWithin (J .n) (J .p) W s → Stated (J .n) (J .p) s (isMember x) (jobOf x) (side x) (timeOf x)
   pub lean : LeanRecord J x
 
 -- how a record is judged

@@ -14,7 +14,7 @@ use Rattle.projects.specs.Projects.{Project, tagged, pairsFrom}
 use Rattle.scanner.specs.Scan.{held}
 use Rattle.projects.specs.Form.{decimal, lineOf, jobLines, written}
 use Rattle.projects.specs.Made.{successorsOf, rowsFrom, made}
-use Rattle.scribe.specs.Says.{mostBytes, Put, Room}
+use Rattle.scribe.specs.Says.{mostBytes, Put, RoomFor}
 use Rattle.scribe.specs.Writing.{Ready, Ran}
 use Rattle.scribe.proofs.Decimals.{decimal-32}
 use Rattle.scribe.proofs.Back.{written-is}
@@ -104,7 +104,7 @@ module _ (cap : ℕ) {durs dems js ss : List ℕ} (g : Ready durs dems js ss) wh
       (omega (arith, heads, caps, lines, count, few, m, g .few))
 
   pub whole-room : {dry : Bool} {b : List ℕ} → cap < held → ((k : ℕ) → durs ! k < held) → ((k : ℕ) → dems ! k < held)
-      → (dry ≡ false → length (written (made cap durs dems (paired js ss))) ≤ length b) → Room dry 0 (written (made cap durs dems (paired js ss))) b
+      → (dry ≡ false → length (written (made cap durs dems (paired js ss))) ≤ length b) → RoomFor dry 0 (written (made cap durs dems (paired js ss))) b
   whole-room c x y h = record { few = omega (arith, written-short c x y); room = λ e. omega (arith, h e) }
 
 -- the whole text put from the start on

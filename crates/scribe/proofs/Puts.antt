@@ -7,7 +7,7 @@ use mathlib.Core.Bool.{Bool, true, false, cond}
 use mathlib.Core.List.{List, [], _∷_, _++_, append-assoc, append-nil}
 use lib.ListN.{length, take, drop, set, length-append, length-drop, take-append-drop}
 use lib.Seq.{set-split, take-at, drop-append-add, length-take-le, drop-drop}
-use Rattle.scribe.specs.Says.{pasted, Put, Room}
+use Rattle.scribe.specs.Says.{pasted, Put, RoomFor}
 
 -- ---- in a list
 
@@ -34,17 +34,17 @@ pasted-twice at t u b h =
 stored : (at a : ℕ) (b : List ℕ) → at < length b → set b at a ≡ pasted at (a ∷ []) b
 stored at a b h = rw add-one (set-split b at a h)
 
-pub put-byte : (dry : Bool) (at a : ℕ) (b : List ℕ) → dry ≡ false → Room dry at (a ∷ []) b → Put dry at (a ∷ []) b (set b at a) (at + 1)
+pub put-byte : (dry : Bool) (at a : ℕ) (b : List ℕ) → dry ≡ false → RoomFor dry at (a ∷ []) b → Put dry at (a ∷ []) b (set b at a) (at + 1)
 put-byte dry at a b e h = record { place = omega arith; bytes = rw e (stored at a b (omega (arith, h .room e))) }
 
 -- ---- put one after the other
 
 module _ {dry : Bool} {at : ℕ} (t u : List ℕ) {b : List ℕ} where
-  pub room-front : Room dry at (t ++ u) b → Room dry at t b
+  pub room-front : RoomFor dry at (t ++ u) b → RoomFor dry at t b
   room-front h = let l = length-append t u in record { few = omega (arith, h .few); room = λ e. omega (arith, h .room e) }
 
   module _ {b' : List ℕ} {r : ℕ} where
-    pub room-back : Room dry at (t ++ u) b → Put dry at t b b' r → Room dry r u b'
+    pub room-back : RoomFor dry at (t ++ u) b → Put dry at t b b' r → RoomFor dry r u b'
     room-back h p =
         let l = length-append t u in
         record { few = omega (arith, h .few, p .place); room = λ e. omega (arith, h .room e, p .place, same e) }
@@ -52,7 +52,7 @@ module _ {dry : Bool} {at : ℕ} (t u : List ℕ) {b : List ℕ} where
         same : dry ≡ false → length b' ≡ length b
         same e = let q : b' ≡ pasted at t b = p .bytes ∙ rw e in ap length q ∙ pasted-length at t b (omega (arith, h .room e, length-append t u))
 
-    pub put-then : {b'' : List ℕ} {r' : ℕ} → Room dry at t b → Put dry at t b b' r → Put dry r u b' b'' r' → Put dry at (t ++ u) b b'' r'
+    pub put-then : {b'' : List ℕ} {r' : ℕ} → RoomFor dry at t b → Put dry at t b b' r → Put dry r u b' b'' r' → Put dry at (t ++ u) b b'' r'
     put-then {b''} {r'} h p q = record { place = rw (length-append t u) (omega (arith, p .place, q .place)); bytes = go dry refl }
       where
         go : (d : Bool) → dry ≡ d → b'' ≡ cond d b (pasted at (t ++ u) b)
@@ -60,7 +60,7 @@ module _ {dry : Bool} {at : ℕ} (t u : List ℕ) {b : List ℕ} where
         go false e = (q .bytes ∙ rw (e, p .bytes, e, p .place)) ∙ pasted-twice at t u b (h .room e)
 
 -- room for the same bytes at the same place
-pub room-same : {dry : Bool} {at at' : ℕ} {t t' b : List ℕ} → Room dry at t b → at' ≡ at → t' ≡ t → Room dry at' t' b
+pub room-same : {dry : Bool} {at at' : ℕ} {t t' b : List ℕ} → RoomFor dry at t b → at' ≡ at → t' ≡ t → RoomFor dry at' t' b
 room-same h p q = rw (p, q) h
 
 -- nothing
@@ -82,12 +82,12 @@ pub going-start : (dry : Bool) (at : ℕ) (t b : List ℕ) → Going dry at t b 
 going-start dry at t b = record { front = []; split = refl; put = put-none dry at b }
 
 module _ {dry : Bool} {start : ℕ} {whole b b' : List ℕ} {at : ℕ} {left : List ℕ} where
-  module _ (t rest : List ℕ) (e : left ≡ t ++ rest) (h : Room dry start whole b) (g : Going dry start whole b b' at left) where
-    all-room : Room dry start (g .front ++ (t ++ rest)) b
+  module _ (t rest : List ℕ) (e : left ≡ t ++ rest) (h : RoomFor dry start whole b) (g : Going dry start whole b b' at left) where
+    all-room : RoomFor dry start (g .front ++ (t ++ rest)) b
     all-room = rw (← e, ← g .split) h
 
     -- room for what comes next
-    pub going-room : Room dry at t b'
+    pub going-room : RoomFor dry at t b'
     going-room = room-front t rest (room-back (g .front) (t ++ rest) all-room (g .put))
 
     -- and then that put
@@ -107,29 +107,29 @@ module _ {dry : Bool} {start : ℕ} {whole b b' : List ℕ} {at : ℕ} {left : L
 pub record Parts (t u v w whole : List ℕ) : Type 0 where
   pub joined : whole ≡ t ++ (u ++ (v ++ w))
 
-module _ {dry : Bool} {at : ℕ} {t u v w whole b : List ℕ} (e : Parts t u v w whole) (h : Room dry at whole b) where
-  pub first-room : Room dry at t b
+module _ {dry : Bool} {at : ℕ} {t u v w whole b : List ℕ} (e : Parts t u v w whole) (h : RoomFor dry at whole b) where
+  pub first-room : RoomFor dry at t b
   first-room = going-room t (u ++ (v ++ w)) (e .joined) h (going-start dry at whole b)
 
   module _ {b₁ : List ℕ} {r₁ : ℕ} (p₁ : Put dry at t b b₁ r₁) where
     first-going : Going dry at whole b b₁ r₁ (u ++ (v ++ w))
     first-going = going-step t (u ++ (v ++ w)) (e .joined) h (going-start dry at whole b) p₁
 
-    pub second-room : Room dry r₁ u b₁
+    pub second-room : RoomFor dry r₁ u b₁
     second-room = going-room u (v ++ w) refl h first-going
 
     module _ {b₂ : List ℕ} {r₂ : ℕ} (p₂ : Put dry r₁ u b₁ b₂ r₂) where
       second-going : Going dry at whole b b₂ r₂ (v ++ w)
       second-going = going-step u (v ++ w) refl h first-going p₂
 
-      pub third-room : Room dry r₂ v b₂
+      pub third-room : RoomFor dry r₂ v b₂
       third-room = going-room v w refl h second-going
 
       module _ {b₃ : List ℕ} {r₃ : ℕ} (p₃ : Put dry r₂ v b₂ b₃ r₃) where
         third-going : Going dry at whole b b₃ r₃ w
         third-going = going-step v w refl h second-going p₃
 
-        pub fourth-room : Room dry r₃ w b₃
+        pub fourth-room : RoomFor dry r₃ w b₃
         fourth-room = going-room w [] (sym (append-nil w)) h third-going
 
         pub all-put : {b₄ : List ℕ} {r₄ : ℕ} → Put dry r₃ w b₃ b₄ r₄ → Put dry at whole b b₄ r₄

@@ -25,7 +25,7 @@ pub record Put (dry : Bool) (at : ℕ) (t buffer after : List ℕ) (r : ℕ) : T
   pub bytes : after ≡ cond dry buffer (pasted at t buffer)
 
 -- the bytes t from the place `at` on can be counted, and have room where they are written
-pub record Room (dry : Bool) (at : ℕ) (t buffer : List ℕ) : Type 0 where
+pub record RoomFor (dry : Bool) (at : ℕ) (t buffer : List ℕ) : Type 0 where
   pub few : at + length t ≤ mostBytes
   pub room : dry ≡ false → at + length t ≤ length buffer
 

@@ -6,7 +6,7 @@ ghost use lib.ListN.{length};
 ghost use Rattle.chains.specs.Listed.{paired};
 ghost use Rattle.projects.specs.Form.{lineOf, jobLines};
 ghost use Rattle.projects.specs.Made.{rowsFrom};
-ghost use Rattle.scribe.specs.Says.{Room, Put, RunEnds, Marked, restOf, fromOne, Stretch};
+ghost use Rattle.scribe.specs.Says.{RoomFor, Put, RunEnds, Marked, restOf, fromOne, Stretch};
 ghost use Rattle.scribe.specs.Writing.{Ready};
 
 // The first place from i on whose job is not j.
@@ -43,7 +43,7 @@ fn put_successors(
     at: usize,
     buffer: &mut [u8],
 ) -> usize
-    requires { ⌜ Stretch (now successors) from to × Room dry at (restOf (fromOne (now successors) from to)) (now buffer) ⌝ }
+    requires { ⌜ Stretch (now successors) from to × RoomFor dry at (restOf (fromOne (now successors) from to)) (now buffer) ⌝ }
     ensures { λ r. ⌜ Put dry at (restOf (fromOne (now (successors .entry)) from to)) (now (buffer .entry)) (now (buffer .exit)) r ⌝ }
 {
     let mut i = from;
@@ -66,7 +66,7 @@ fn put_job(
     at: usize,
     buffer: &mut [u8],
 ) -> usize
-    requires { ⌜ Stretch (now successors) from to × Room dry at (lineOf (d ∷ q ∷ (to - from) ∷ fromOne (now successors) from to)) (now buffer) ⌝ }
+    requires { ⌜ Stretch (now successors) from to × RoomFor dry at (lineOf (d ∷ q ∷ (to - from) ∷ fromOne (now successors) from to)) (now buffer) ⌝ }
     ensures { λ r. ⌜ Put dry at (lineOf (d ∷ q ∷ (to - from) ∷ fromOne (now (successors .entry)) from to)) (now (buffer .entry)) (now (buffer .exit)) r ⌝ }
 {
     let a = put(dry, d, b' ', at, buffer);
@@ -85,7 +85,7 @@ pub fn put_jobs(
     at: usize,
     buffer: &mut [u8],
 ) -> usize
-    requires { ⌜ Ready (now dur) (now dem) (now jobs) (now successors) × Room dry at (jobLines (rowsFrom 0 (now dur) (now dem) (paired (now jobs) (now successors)))) (now buffer) ⌝ }
+    requires { ⌜ Ready (now dur) (now dem) (now jobs) (now successors) × RoomFor dry at (jobLines (rowsFrom 0 (now dur) (now dem) (paired (now jobs) (now successors)))) (now buffer) ⌝ }
     ensures { λ r. ⌜ Put dry at (jobLines (rowsFrom 0 (now (dur .entry)) (now (dem .entry)) (paired (now (jobs .entry)) (now (successors .entry))))) (now (buffer .entry)) (now (buffer .exit)) r ⌝ }
 {
     let mut j = 0;

@@ -1,11 +1,11 @@
 // Bytes and numbers put into the buffer one after the other. A dry run writes none and counts them all.
 ghost use mathlib.Core.List.{[], _∷_, _++_};
 ghost use Rattle.projects.specs.Form.{decimal};
-ghost use Rattle.scribe.specs.Says.{Room, Put};
+ghost use Rattle.scribe.specs.Says.{RoomFor, Put};
 
 // One byte.
 fn store(dry: bool, b: u8, at: usize, buffer: &mut [u8]) -> usize
-    requires { ⌜ Room dry at (b ∷ []) (now buffer) ⌝ }
+    requires { ⌜ RoomFor dry at (b ∷ []) (now buffer) ⌝ }
     ensures { λ r. ⌜ Put dry at (b ∷ []) (now (buffer .entry)) (now (buffer .exit)) r ⌝ }
 {
     if dry {
@@ -17,7 +17,7 @@ fn store(dry: bool, b: u8, at: usize, buffer: &mut [u8]) -> usize
 
 // The decimal digits of v: those of v / 10 first, and then the last one. Each call has one digit less.
 fn put_digits(dry: bool, v: u32, at: usize, buffer: &mut [u8]) -> usize
-    requires { ⌜ Room dry at (decimal v) (now buffer) ⌝ }
+    requires { ⌜ RoomFor dry at (decimal v) (now buffer) ⌝ }
     ensures { λ r. ⌜ Put dry at (decimal v) (now (buffer .entry)) (now (buffer .exit)) r ⌝ }
 {
     if v < 10 {
@@ -29,7 +29,7 @@ fn put_digits(dry: bool, v: u32, at: usize, buffer: &mut [u8]) -> usize
 
 // A number, and one byte behind it.
 pub fn put(dry: bool, v: u32, end: u8, at: usize, buffer: &mut [u8]) -> usize
-    requires { ⌜ Room dry at (decimal v ++ end ∷ []) (now buffer) ⌝ }
+    requires { ⌜ RoomFor dry at (decimal v ++ end ∷ []) (now buffer) ⌝ }
     ensures { λ r. ⌜ Put dry at (decimal v ++ end ∷ []) (now (buffer .entry)) (now (buffer .exit)) r ⌝ }
 {
     let behind = put_digits(dry, v, at, buffer);

@@ -10,7 +10,7 @@ ghost use Rattle.members.specs.Members.{has};
 ghost use Rattle.joblist.specs.Limits.{mostTime};
 ghost use Rattle.timetable.specs.Time.{sure};
 ghost use Rattle.codes.specs.Codes.{ownTrue, statedTrue};
-ghost use Rattle.exam.specs.Lent.{jobsIn, Timed, Placed};
+ghost use Rattle.exam.specs.Lent.{jobsIn, Timed, LetThrough};
 
 // The moved job's own fact: on side 0 it starts no earlier than t - p + 1, on side 1 no later than t.
 fn own_true(est: &[u32], lct: &[u32], dur: &[u32], job: usize, side: u32, t: u32) -> bool
@@ -44,7 +44,7 @@ fn member_true(est: &[u32], lct: &[u32], dur: &[u32], set: &[u32], k: usize, t: 
 
 // 25: the stated facts are true of the windows. Every bit of the set is looked at.
 pub fn stated_true(est: &[u32], lct: &[u32], dur: &[u32], words: &[u32]) -> bool
-    requires { ⌜ Timed (win (now est) (now lct)) (now dur) × Placed (length (now dur)) (now words) ⌝ }
+    requires { ⌜ Timed (win (now est) (now lct)) (now dur) × LetThrough (length (now dur)) (now words) ⌝ }
     ensures { λ r. ⌜ r ≡ statedTrue (jobsIn 0 (now (dur .entry)) [] 0) (win (now (est .entry)) (now (lct .entry))) (now (words .entry)) ⌝ }
 {
     let t = words[logbook::TIME_WORD];

@@ -18,7 +18,7 @@ use Rattle.joblist.specs.Limits.{mostJobs, mostTime}
 use Rattle.lists.specs.Lists.{_!_}
 use Rattle.lists.specs.Sets.{Set, Empty}
 use Rattle.lists.proofs.Signed.{mag-add}
-use Rattle.theta.specs.Theta.{far, endOf, empty, joined, Joins, AllJoin, Places, Holds, Ranged, Changed, Climbed}
+use Rattle.theta.specs.Theta.{far, endOf, empty, joined, Joins, AllJoin, Places, HoldsSet, Ranged, Touched, Climbed}
 
 -- a weight bounds what it weighs
 weighed : (x v m : ℕ) → 1 ≤ v → x * v ≤ m → x ≤ m
@@ -55,7 +55,7 @@ joined-near left right a b c h k = go (ltZ (left +ℤ pos b) right)
 
 -- the state of the climb at node i
 pub record Climbing (m : ℕ) (sums₀ : List ℕ) (ends₀ : List ℤ) (sums : List ℕ) (ends : List ℤ) (i : ℕ) : Type 0 where
-  pub changed : Changed m sums ends i
+  pub changed : Touched m sums ends i
   pub sums-kept : (v : ℕ) → (1 ≤ v → v < m → ⊥) → sums ! v ≡ sums₀ ! v
   pub ends-kept : (v : ℕ) → (1 ≤ v → v < m → ⊥) → endOf ends v ≡ endOf ends₀ v
 
@@ -130,7 +130,7 @@ module _ (m : ℕ) (sums₀ : List ℕ) (ends₀ : List ℤ) (sums : List ℕ) (
         ends-kept = λ u h. end-else u (λ q. h (omega arith) (omega (arith, c .changed .below))) ∙ c .ends-kept u h;
       }
 
-pub climb-start : (m : ℕ) (sums : List ℕ) (ends : List ℤ) (i : ℕ) → Changed m sums ends i → Climbing m sums ends sums ends i
+pub climb-start : (m : ℕ) (sums : List ℕ) (ends : List ℤ) (i : ℕ) → Touched m sums ends i → Climbing m sums ends sums ends i
 climb-start m sums ends i c = record { changed = c; sums-kept = λ v q. refl; ends-kept = λ v q. refl }
 
 pub climb-end : (m : ℕ) (sums₀ : List ℕ) (ends₀ : List ℤ) (sums : List ℕ) (ends : List ℤ) (i : ℕ) → Climbing m sums₀ ends₀ sums ends i → i ≤ 1 → Climbed m sums₀ ends₀ sums ends
@@ -162,7 +162,7 @@ module _ (m : ℕ) (sums : List ℕ) (ends : List ℤ) (x d : ℕ) (end : ℤ) (
       near-by u (yes e) = rw (e, getD-set-same ends (m + x) end (pos 0) (omega (arith, r .ends-long))) (omega arith)
       near-by u (no e) = rw (getD-set-other sums (m + x) u d 0 e, getD-set-other ends (m + x) u end (pos 0) e) (r .near u)
 
-  pub put-changed : Ranged m sums ends → AllJoin m sums ends → d ≤ mostTime → mag end ≤ far → Changed m (set sums (m + x) d) (set ends (m + x) end) (m + x)
+  pub put-changed : Ranged m sums ends → AllJoin m sums ends → d ≤ mostTime → mag end ≤ far → Touched m (set sums (m + x) d) (set ends (m + x) end) (m + x)
   put-changed r all h k = record { from = omega arith; below = omega arith; ranged = put-ranged r h k; joins = joins }
     where
       joins : (v : ℕ) → 1 ≤ v → v < m → (1 < m + x → v ≡ (m + x) / 2 → ⊥) → Joins (set sums (m + x) d) (set ends (m + x) end) v
@@ -175,7 +175,7 @@ module _ (m : ℕ) (sums : List ℕ) (ends : List ℤ) (x d : ℕ) (end : ℤ) (
 
 -- the tree then holds one job more
 module _ (n m : ℕ) (e p : List ℕ) (σ : ℕ → ℕ) (O O′ : Set) (sums : List ℕ) (ends : List ℤ) (sums′ : List ℕ) (ends′ : List ℤ) (j : ℕ)
-    (places : Places n m e σ) (ranged : Ranged m sums ends) (holds : Holds n m e p σ O sums ends) (b : j < n)
+    (places : Places n m e σ) (ranged : Ranged m sums ends) (holds : HoldsSet n m e p σ O sums ends) (b : j < n)
     (grown : (i : ℕ) → i < n → O′ i ≡ true → (i ≡ j) ⊎ (O i ≡ true)) (more : (i : ℕ) → i < n → O i ≡ true → O′ i ≡ true) (own : O′ j ≡ true)
     (climbed : Climbed m (set sums (m + σ j) (p ! j)) (set ends (m + σ j) (pos (e ! j + p ! j))) sums′ ends′) where
   sum-at : sums′ ! (m + σ j) ≡ p ! j
@@ -191,7 +191,7 @@ module _ (n m : ℕ) (e p : List ℕ) (σ : ℕ → ℕ) (O O′ : Set) (sums : 
   end-off : (x : ℕ) → (x ≡ σ j → ⊥) → endOf ends′ (m + x) ≡ endOf ends (m + x)
   end-off x d = climbed .ends-kept (m + x) (λ q r. omega arith) ∙ getD-set-other ends (m + σ j) (m + x) (pos (e ! j + p ! j)) (pos 0) (λ q. d (omega arith))
 
-  pub holds-more : Holds n m e p σ O′ sums′ ends′
+  pub holds-more : HoldsSet n m e p σ O′ sums′ ends′
   holds-more =
       record {
         joins = climbed .joins;
@@ -226,7 +226,7 @@ module _ (m : ℕ) where
         near = λ v. rw (zeros (2 * m) v) (omega (arith, nones (2 * m) v));
       }
 
-  pub start-holds : (n : ℕ) (e p : List ℕ) (σ : ℕ → ℕ) (O : Set) → Empty n O → Holds n m e p σ O (replicate (2 * m) 0) (replicate (2 * m) empty)
+  pub start-holds : (n : ℕ) (e p : List ℕ) (σ : ℕ → ℕ) (O : Set) → Empty n O → HoldsSet n m e p σ O (replicate (2 * m) 0) (replicate (2 * m) empty)
   start-holds n e p σ O none-in =
       record {
         joins = λ v a b. record {

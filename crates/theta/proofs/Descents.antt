@@ -19,7 +19,7 @@ use Rattle.lists.specs.Tests.{both, pick}
 use Rattle.lists.specs.Sets.{Set, Parts, totalOf, Ends, Completes, later}
 use Rattle.lists.proofs.Tests.{both-true, true-both}
 use Rattle.lists.proofs.Sets.{clash, totalOf-sub, totalOf-empty, totalOf-parts}
-use Rattle.theta.specs.Theta.{far, endOf, signed, Places, Holds, span, onward, descent}
+use Rattle.theta.specs.Theta.{far, endOf, signed, Places, HoldsSet, span, onward, descent}
 use Rattle.theta.proofs.Nodes.{empty-plus, signed-joined, span-in, in-span, onward-in, in-onward, inner, left-child, right-child, Held, node}
 
 -- a completion with a tail after it exceeds b; no job, no completion
@@ -59,7 +59,7 @@ pub record Last (n : ℕ) (e p : List ℕ) (σ : ℕ → ℕ) (O : Set) (b x j :
   pub after : (i : ℕ) → i < n → O i ≡ true → x < σ i → e ! i + totalOf n p (onward σ O (σ i)) ≤ b
 
 module _ (n m : ℕ) (e p : List ℕ) (σ : ℕ → ℕ) (O : Set) (sums : List ℕ) (ends : List ℤ)
-    (places : Places n m e σ) (holds : Holds n m e p σ O sums ends) (small : totalOf n p O < far) (b : ℕ) where
+    (places : Places n m e σ) (holds : HoldsSet n m e p σ O sums ends) (small : totalOf n p O < far) (b : ℕ) where
   -- a tail is small
   tail-small : (a : ℕ) → totalOf n p (onward σ O a) < far
   tail-small a = omega (arith, totalOf-sub n p (onward σ O a) O (λ k c u. onward-in σ O a k u .0))

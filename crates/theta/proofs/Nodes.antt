@@ -22,7 +22,7 @@ use Rattle.lists.proofs.Tests.{both-true}
 use Rattle.lists.proofs.Sets.{clash, totalOf-sub, totalOf-empty, totalOf-parts, some-at, at-some, totalOf-limit, totalOf-same}
 use Rattle.lists.proofs.Completions.{completes-parts, totalOf-one, completes-one, completes-alike}
 use Rattle.lists.proofs.Signed.{sub-lt}
-use Rattle.theta.specs.Theta.{far, endOf, empty, signed, joined, Joins, Places, Holds, span, onward}
+use Rattle.theta.specs.Theta.{far, endOf, empty, signed, joined, Joins, Places, HoldsSet, span, onward}
 
 -- ---- the empty value
 
@@ -109,7 +109,7 @@ abbrev pub Held : ℕ → List ℕ → List ℕ → Set → ℤ → Type 0
 Held n e p T z = (x : Option ℕ) × (z ≡ signed x) × Completes n e p T x
 
 module _ (n m : ℕ) (e p : List ℕ) (σ : ℕ → ℕ) (O : Set) (sums : List ℕ) (ends : List ℤ)
-    (places : Places n m e σ) (holds : Holds n m e p σ O sums ends) (small : totalOf n p O < far) where
+    (places : Places n m e σ) (holds : HoldsSet n m e p σ O sums ends) (small : totalOf n p O < far) where
   -- a leaf: its job's duration and earliest end, or nothing
   leaf : (a : ℕ) → a < m → (sums ! (m + a) ≡ totalOf n p (span σ O a 1)) × Held n e p (span σ O a 1) (endOf ends (m + a))
   leaf a b = go (some? (span σ O a 1) n) refl

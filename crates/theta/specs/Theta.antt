@@ -56,7 +56,7 @@ pub record Places (n m : ℕ) (e : List ℕ) (σ : ℕ → ℕ) : Type 0 where
   pub rising : (i j : ℕ) → i < n → j < n → σ i ≤ σ j → e ! i ≤ e ! j
 
 -- the tree holds the jobs of the set O
-pub record Holds (n m : ℕ) (e p : List ℕ) (σ : ℕ → ℕ) (O : Set) (sums : List ℕ) (ends : List ℤ) : Type 0 where
+pub record HoldsSet (n m : ℕ) (e p : List ℕ) (σ : ℕ → ℕ) (O : Set) (sums : List ℕ) (ends : List ℤ) : Type 0 where
   pub joins : AllJoin m sums ends
   pub full-sum : (j : ℕ) → j < n → O j ≡ true → sums ! (m + σ j) ≡ p ! j
   pub full-end : (j : ℕ) → j < n → O j ≡ true → endOf ends (m + σ j) ≡ pos (e ! j + p ! j)
@@ -87,7 +87,7 @@ pub record Ranged (m : ℕ) (sums : List ℕ) (ends : List ℤ) : Type 0 where
   pub near : (v : ℕ) → mag (endOf ends v) ≤ far + sums ! v
 
 -- node i has been changed: every inner node but its parent is what its children say
-pub record Changed (m : ℕ) (sums : List ℕ) (ends : List ℤ) (i : ℕ) : Type 0 where
+pub record Touched (m : ℕ) (sums : List ℕ) (ends : List ℤ) (i : ℕ) : Type 0 where
   pub from : 1 ≤ i
   pub below : i < 2 * m
   pub ranged : Ranged m sums ends

@@ -8,7 +8,7 @@ ghost use lib.Signed.{mag, ltZ};
 ghost use Rattle.joblist.specs.Limits.{mostJobs, mostTime};
 ghost use Rattle.lists.specs.Lists.{_!_};
 ghost use Rattle.lists.specs.Tests.{pick};
-ghost use Rattle.theta.specs.Theta.{far, endOf, joined, AllJoin, Ranged, Changed, Climbed, descent, depth};
+ghost use Rattle.theta.specs.Theta.{far, endOf, joined, AllJoin, Ranged, Touched, Climbed, descent, depth};
 
 // The most jobs, and so the number of the tree's leaves.
 const MOST: usize = screen::MOST_JOBS;
@@ -47,7 +47,7 @@ fn settle(sums: &mut [u32; NODES], ends: &mut [i64; NODES], v: usize)
 
 // Every node above a node that was changed is made what its children say.
 fn climb(sums: &mut [u32; NODES], ends: &mut [i64; NODES], changed: usize)
-    requires { ⌜ Changed mostJobs (now sums) (now ends) changed ⌝ }
+    requires { ⌜ Touched mostJobs (now sums) (now ends) changed ⌝ }
     ensures { λ _. ⌜ Climbed mostJobs (now (sums .entry)) (now (ends .entry)) (now (sums .exit)) (now (ends .exit)) ⌝ }
 {
     let mut i = changed;

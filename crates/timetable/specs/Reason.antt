@@ -39,7 +39,7 @@ abbrev pub Implied : Jobs → (ℕ → Bool) → ℕ → Side → ℕ → Type 0
 Implied J M j side t = (s : List ℕ) → Stated (J .n) (J .p) s M j side t → namedDrawn J s M j t ≤ J .cap → Changed (J .p) s j side t
 
 -- starts within the windows W
-pub record Within (n : ℕ) (p : List ℕ) (W : Win) (s : List ℕ) : Type 0 where
+pub record StartsWithin (n : ℕ) (p : List ℕ) (W : Win) (s : List ℕ) : Type 0 where
   pub from : (k : ℕ) → k < n → W .e ! k ≤ s ! k
   pub to : (k : ℕ) → k < n → s ! k + p ! k ≤ W .l ! k
 

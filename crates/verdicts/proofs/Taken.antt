@@ -28,7 +28,7 @@ use Rattle.promises.proofs.Calls.{call-good, whole}
 use Rattle.promises.proofs.Logs.{entries-are, entries-count}
 use Rattle.promises.proofs.Rows.{Case, cased}
 use Rattle.verdicts.specs.Replay.{Trial, holds, clashes, replay, verdictOn, Checked, finds, judged, rows, checked}
-use Rattle.verdicts.specs.Promise.{Judges, Writes, withLog, TakesLogs}
+use Rattle.verdicts.specs.Promise.{Judges, WritesGood, withLog, TakesLogs}
 
 -- ---- one record
 
@@ -54,7 +54,7 @@ unfolding Small
 small-after W j early b a h = h
 small-after W j late b a h = λ k. set-any (λ (x : ℕ). x ≤ mostTime) (W .l) j b k (λ e. omega (arith, a, h j)) (h k)
 
-module _ (T : Trial) (A : Ask) (y : Judges T A) (z : Writes T A) (x : Grounds A) (g : Good A) where
+module _ (T : Trial) (A : Ask) (y : Judges T A) (z : WritesGood T A) (x : Grounds A) (g : Good A) where
   -- what the replay of an end's records comes to, and the verdict on them
   abbrev Replays : Win → Out → Type 0
   Replays W (settled U ms) = (i : ℕ) → replay T (lasts A) W i (map (A .entry) ms) ≡ holds U
@@ -128,7 +128,7 @@ module _ (T : Trial) (A : Ask) (y : Judges T A) (z : Writes T A) (x : Grounds A)
 
 -- ---- the answer
 
-module _ (T : Trial) (A : Ask) (y : Judges T A) (z : Writes T A) (x : Grounds A) (space : A .room ≤ roomOf (A .log)) (a : After) (h : Narrows A a) (b : Checked) where
+module _ (T : Trial) (A : Ask) (y : Judges T A) (z : WritesGood T A) (x : Grounds A) (space : A .room ≤ roomOf (A .log)) (a : After) (h : Narrows A a) (b : Checked) where
   says-of : (c : After) → a ≡ c → (w : Said) → a .says ≡ w → c .says ≡ w
   says-of c e w q = sym (ap (λ (v : After). v .says) e) ∙ q
 
@@ -192,7 +192,7 @@ unfolding checked refusalOf
 same-checked T A count = same-rows T A count (refusalOf A)
 
 -- whatever stood in the log before
-pub takes-logs : (T : Trial) (A : Ask) (count : ℕ) → ((log : List ℕ) → Judges T (withLog A log)) → ((log : List ℕ) → Writes T (withLog A log))
+pub takes-logs : (T : Trial) (A : Ask) (count : ℕ) → ((log : List ℕ) → Judges T (withLog A log)) → ((log : List ℕ) → WritesGood T (withLog A log))
     → ((log : List ℕ) → Grounds (withLog A log)) → TakesLogs A count (checked T A count)
 takes-logs T A count y z x =
     record {

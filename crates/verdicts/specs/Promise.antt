@@ -105,7 +105,7 @@ pub record TakesLogs (A : Ask) (count : ℕ) (a : Checked) : Type 0 where
       → a ≡ finds (said Word.clash (count ∷ j ∷ [])) (A .win)
 
 -- what is asked of the records that the planner writes: on long windows within the limit of times each is good, stands for its move and names its job
-pub record Writes (T : Trial) (A : Ask) : Type 0 where
+pub record WritesGood (T : Trial) (A : Ask) : Type 0 where
   pub words : (m : Move) → length (A .entry m) ≡ recordWords
   pub job : (m : Move) → jobOf (A .entry m) ≡ m .job
   pub to : (W : Win) (j : ℕ) (s : Side) (c : ℕ) → T .changed W (A .entry (move W j s c)) ≡ after (A .search) W j s c

@@ -7,7 +7,7 @@ use mathlib.Core.List.{List, [], _∷_, _++_}
 use lib.ListN.{replicate}
 use Rattle.journal.specs.Journal.{recordWords}
 use Rattle.timetable.specs.Table.{After}
-use Rattle.worked.specs.Rows.{Row, Job, job, span, line, lineAt}
+use Rattle.worked.specs.Rows.{RunRow, Job, job, span, line, lineAt}
 use Rattle.worked.specs.Runs.{settles, clashes, tooShort, refuses, ragged, overloaded, fine}
 
 -- a job with a wide window beside three side by side: at its beginning, with the greatest of them first, and at its end
@@ -24,7 +24,7 @@ late = job 0 4 1 3 ∷ job 3 4 1 1 ∷ job 3 4 1 2 ∷ job 3 4 1 2 ∷ []
 abbrev pub behind : ℕ → List Job
 behind n = job 0 4 1 3 ∷ (replicate n (job 0 9 1 1) ++ (job 0 1 1 3 ∷ []))
 
-abbrev pub runs : List (Row After)
+abbrev pub runs : List (RunRow After)
 runs =
     settles 1 1 [] 8 0 [] [] ∷
     settles 2 5 (job 2 10 3 2 ∷ job 2 7 3 2 ∷ job 2 8 4 2 ∷ []) 1 1 (span 5 10 ∷ span 2 7 ∷ span 2 8 ∷ []) (line 0 0 4 2 6) ∷

@@ -7,13 +7,13 @@ use Rattle.narrowing.specs.Windows.{Win, win}
 use Rattle.members.specs.Members.{setWords}
 use Rattle.journal.specs.Journal.{recordWords}
 
-pub record Row (A : Type 0) : Type 0 where
+pub record RunRow (A : Type 0) : Type 0 where
   pub number : ℕ
   pub done : A
   pub due : A
 
 -- it comes to what is due
-abbrev pub Right : {A : Type 0} → Row A → Type 0
+abbrev pub Right : {A : Type 0} → RunRow A → Type 0
 Right x = x .done ≡ x .due
 
 -- a job as 01 writes it: e, l, p, r

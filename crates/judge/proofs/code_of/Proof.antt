@@ -11,7 +11,7 @@ use borrow.Author.Tests.{not-true, not-false}
 use Rattle.narrowing.specs.Windows.{Win, win}
 use Rattle.codes.specs.Facts.{InRange}
 use Rattle.codes.specs.Codes.{inRange, code}
-use Rattle.exam.specs.Lent.{jobsIn, Drawn, Placed}
+use Rattle.exam.specs.Lent.{jobsIn, Drawn, LetThrough}
 use Rattle.judge.proofs.Chain.{from21, from22, from23, from24, from25, from26, from27, code-is, ranged, placed, drawn, timed}
 use Rattle.judge.proofs.code_of.Statement.{statement}
 use Rattle.judge.proofs.code_of.Tie as tie
@@ -76,7 +76,7 @@ range-passed d = sym (d .before .in-range .ensures) ∙ not-false _ (d .if1 .lef
 in-range : (d : tie.Else1) → InRange (jobsIn (length (start1 d .args .dur .now)) [] [] 0) (start1 d .args .words .now)
 in-range d = ranged _ _ (range-passed d)
 
-placed-in : (d : tie.Else2) → Placed (length (start2 d .args .dur .now)) (start2 d .args .words .now)
+placed-in : (d : tie.Else2) → LetThrough (length (start2 d .args .dur .now)) (start2 d .args .words .now)
 placed-in d =
     let a = start2 d .args in
     placed (length (a .dur .now)) (a .dur .now) (a .dem .now) (a .words .now) (range-passed (d .before .before)) (sym (d .before .partners .ensures) ∙ not-false _ (d .if2 .left)) (start2 d .pre .1)

@@ -8,7 +8,7 @@ use borrow.Author.Tests.{not-true, not-false}
 use lib.ListN.{length}
 use Rattle.joblist.specs.Limits.{mostJobs}
 use Rattle.texts.proofs.Readings.{good-same}
-use Rattle.projects.specs.Projects.{Within}
+use Rattle.projects.specs.Projects.{WithinLimits}
 use Rattle.parsing.proofs.Parsing.{parsing-range, parsing-few}
 use Rattle.exchange.specs.Tests.{Fitting}
 use Rattle.layouts.proofs.Answering.{tails-low, no-resource, no-room, no-order, taken}
@@ -19,7 +19,7 @@ use Rattle.layouts.proofs.whole.read_whole.Tie as tie
 returns : tie.Need-returns
 returns c =
     let s = c .before .before .before .before .before .before .before .before .before .pre in
-    λ x p. reads-of _ (λ y rest e. subst Within (good-same x y [] rest e .0) (p .limits)) _ (no-resource _ _ _ _ (s .0) _ _ _ _ x refl p (omega (arith, c .if1 .taken)))
+    λ x p. reads-of _ (λ y rest e. subst WithinLimits (good-same x y [] rest e .0) (p .limits)) _ (no-resource _ _ _ _ (s .0) _ _ _ _ x refl p (omega (arith, c .if1 .taken)))
 
 roomy-requires : tie.Need-roomy-requires
 roomy-requires c κs = search needs
@@ -28,7 +28,7 @@ returns-2 : tie.Need-returns-2
 returns-2 c =
     let s = c .before .before .before .before .before .before .before .before .before .before .before .pre in
     let m = rw (not-true (c .before .roomy .result) (c .if2 .taken)) at (c .before .roomy .ensures) in
-    λ x p. reads-of _ (λ y rest e. subst Within (good-same x y [] rest e .0) (p .limits)) _ (no-room _ _ _ _ (s .0) _ _ _ _ x refl p (omega (arith, c .before .before .if1 .left)) m)
+    λ x p. reads-of _ (λ y rest e. subst WithinLimits (good-same x y [] rest e .0) (p .limits)) _ (no-room _ _ _ _ (s .0) _ _ _ _ x refl p (omega (arith, c .before .before .if1 .left)) m)
 
 longest-chains-requires : tie.Need-longest-chains-requires
 longest-chains-requires c κs =
@@ -39,7 +39,7 @@ returns-3 : tie.Need-returns-3
 returns-3 c =
     let s = c .before .before .before .before .before .before .before .before .before .before .before .before .before .before .before .pre in
     let m = rw (not-false (c .before .before .before .before .before .roomy .result) (c .before .before .before .before .if2 .left)) at (c .before .before .before .before .before .roomy .ensures) in
-    λ x p. reads-of _ (λ y rest e. subst Within (good-same x y [] rest e .0) (p .limits)) _
+    λ x p. reads-of _ (λ y rest e. subst WithinLimits (good-same x y [] rest e .0) (p .limits)) _
     (no-order _ _ _ _ (s .0) _ _ _ _ x refl p (omega (arith, c .before .before .before .before .before .before .if1 .left)) m _ _ _ (λ z. omega (arith, c .if3 .taken, z))
     (c .before .longest-chains .ensures .0 _ _ (p .come) (parsing-range _ _ _ _ _ _ p)))
 
@@ -114,7 +114,7 @@ returns-4 c =
     let dur-is = c .before .before .before .before .before .before .before .before .before .before .before .before .before .restore2 .ensures in
     let dem-is = c .before .before .before .before .before .before .before .before .before .restore3 .ensures in
     let pairs-are = c .before .before .before .before .write-pairs .ensures in
-    λ x p. reads-of _ (λ y rest e. subst Within (good-same x y [] rest e .0) (p .limits)) _
+    λ x p. reads-of _ (λ y rest e. subst WithinLimits (good-same x y [] rest e .0) (p .limits)) _
     (taken _ _ _ _ (started e .pre .0) _ _ _ _ x refl p (chosen e) (room e) _ _ _ _ (settled e) (o .0 _ _ (p .come) (parsing-range _ _ _ _ _ _ p)) (o .1) est-is lct-is dur-is dem-is pairs-are)
 
 pub read-whole-spec : {M : Type 1} → statement M

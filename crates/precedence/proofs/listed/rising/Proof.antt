@@ -6,13 +6,13 @@ use borrow.Author.Needs.{needs}
 use borrow.Author.Count.{below-more}
 use borrow.Author.Tests.{not-true, not-false}
 use lib.ListN.{length}
-use Rattle.chains.specs.Listed.{InRange, InOrder}
+use Rattle.chains.specs.Listed.{PairInRange, InOrder}
 use Rattle.precedence.proofs.Places.{fault-at}
 use Rattle.precedence.proofs.listed.rising.Statement.{statement}
 use Rattle.precedence.proofs.listed.rising.Tie as tie
 
 abbrev Inv-loop : tie.InvT-loop
-Inv-loop jobs successors n at₀ at = (k : ℕ) → k < at → InRange n jobs successors k × (suc k < length jobs → InOrder jobs successors k)
+Inv-loop jobs successors n at₀ at = (k : ℕ) → k < at → PairInRange n jobs successors k × (suc k < length jobs → InOrder jobs successors k)
 
 abbrev μ-loop : tie.MeasureT-loop
 μ-loop jobs successors n at₀ at = length jobs - at
