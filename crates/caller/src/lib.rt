@@ -40,7 +40,7 @@ pub fn holds(
 {
     let answer = desk::check_log(est, lct, dur, dem, cap, log, count);
     match answer {
-        CheckAnswer::ToldHolds(_) => true,
+        CheckAnswer::Holds(_) => true,
         CheckAnswer::Clash(_, _) => false,
         CheckAnswer::Rejected(_, _) => false,
         CheckAnswer::Refused(_) => false,
