@@ -18,7 +18,7 @@ use Rattle.promises.specs.Ask.{Ask, Grounds, many, columns, refusalOf}
 use Rattle.promises.specs.Table.{After, leaves, ended, ran, narrowed}
 use Rattle.promises.specs.Reasons.{Logged, Reasons}
 use Rattle.promises.specs.Promise.{Exactly}
-use Rattle.promises.proofs.Rows.{Case, cased}
+use Rattle.promises.proofs.Cased.{Case, cased}
 use Rattle.promises.proofs.Meaning.{narrows}
 
 same-after : (a b : After) → a .says ≡ b .says → a .win ≡ b .win → a .log ≡ b .log → a ≡ b

@@ -1,4 +1,5 @@
 pub mod Calls
+pub mod Cased
 pub mod Logs
 pub mod Broken
 pub mod Reasons

@@ -1,70 +1,35 @@
 -- The rows of the answer table over any rules, in facts: each is given exactly when it says so and no row before it does, and leaves what it says.
-use Prim.Native.Nat.{ℕ, zero, suc, _≤_, _<_}
+use Prim.Native.Nat.{ℕ, suc, _≤_}
 use native.Mathlib.Omega.{arith}
-use native.Mathlib.Decide.{decLe}
-use mathlib.Core.Path.{_≡_, refl, sym, ap, subst, _∙_}
+use mathlib.Core.Path.{_≡_, refl, sym, ap, _∙_}
 use mathlib.Core.List.{List, [], _∷_}
-use mathlib.Core.Logic.{_⊎_, inl, inr, _↔_}
+use mathlib.Core.Logic.{_⊎_, inl, inr}
 use lib.ListN.{length}
 use Rattle.lists.specs.Lists.{_!_}
 use Rattle.narrowing.specs.Windows.{Win}
 use Rattle.narrowing.specs.Run.{Out, settled, clash, short, count}
-use Rattle.narrowing.proofs.Room.{short-below, below-short, count-needed}
 use Rattle.answers.specs.Said.{Word, Said, said}
 use Rattle.answers.proofs.Same.{not-said}
 use Rattle.joblist.proofs.Refusals.{refusal-exactly, refusal-most}
 use Rattle.journal.specs.Journal.{cleared}
 use Rattle.promises.specs.Ask.{Ask, Grounds, many, columns, Good, refusalOf}
-use Rattle.promises.specs.Table.{After, leaves, ended, ran, tabled, narrowed}
+use Rattle.promises.specs.Table.{After, ended, ran, narrowed}
 use Rattle.promises.specs.Promise.{StableIn, NoneIn, needs, Room, RefusedRow, Exactly, Narrowest}
-use Rattle.promises.proofs.Calls.{good-call, call-good, whole}
+use Rattle.promises.proofs.Calls.{call-good}
+use Rattle.promises.proofs.Cased.{Case, cased, short-five, five-short, room-count, ended-room}
 
 -- ---- a word that was not given
 
 abbrev num : Said → ℕ
 num a = a .numbers ! 0
 
-pub settled-refused : (ns ms : List ℕ) → said Word.settled ns ≡ said Word.refused ms → ⊥
+settled-refused : (ns ms : List ℕ) → said Word.settled ns ≡ said Word.refused ms → ⊥
 settled-refused ns ms e = not-said Word.settled Word.refused (λ q. omega arith) (ap (λ (x : Said). x .word) e)
 
-pub clash-refused : (ns ms : List ℕ) → said Word.clash ns ≡ said Word.refused ms → ⊥
+clash-refused : (ns ms : List ℕ) → said Word.clash ns ≡ said Word.refused ms → ⊥
 clash-refused ns ms e = not-said Word.clash Word.refused (λ q. omega arith) (ap (λ (x : Said). x .word) e)
 
 module _ (A : Ask) where
-  -- the answer is a refusal's or the run's
-  abbrev pub Case : After → Type 0
-  Case a = ((k : ℕ) × (refusalOf A ≡ suc k) × (a ≡ leaves (said Word.refused (suc k ∷ [])) (A .win) (A .log))) ⊎ (Good A × (a ≡ ended A (ran A)))
-
-  case-of : (k : ℕ) → refusalOf A ≡ k → Case (tabled A k)
-  unfolding tabled
-  case-of zero e = inr (good-call A e, refl)
-  case-of (suc k) e = inl (k, e, refl)
-
-  pub cased : (a : After) → a ≡ narrowed A → Case a
-  unfolding narrowed
-  cased a h = subst Case (sym h) (case-of (refusalOf A) refl)
-
-  -- ---- facts of the run
-
-  module _ (x : Grounds A) (g : Good A) where
-    short-five : ran A ≡ short → A .room < needs A
-    unfolding needs
-    short-five e = short-below (A .search) (A .rules) (x .searches) (x .lawful) (A .win) (whole A g) (A .room) e
-
-    five-short : A .room < needs A → ran A ≡ short
-    unfolding needs
-    five-short b = below-short (A .search) (A .rules) (x .searches) (x .lawful) (A .win) (whole A g) (A .room) b
-
-    room-count : Room A → count (ran A) ≡ needs A
-    unfolding needs
-    room-count b = count-needed (A .search) (A .rules) (x .searches) (x .lawful) (A .win) (whole A g) (A .room) b
-
-    -- not short of room: there was room
-    ended-room : (ran A ≡ short → ⊥) → Room A
-    ended-room f = elim (decLe (needs A) (A .room)) [ yes b ↦ b | no b ↦ absurd (f (five-short (omega arith))) ]
-
-  -- ---- the rows
-
   module _ (x : Grounds A) (a : After) (h : a ≡ narrowed A) (l : Good A → Narrowest A a) where
     says-of : (b : After) → a ≡ b → (y : Said) → a .says ≡ y → b .says ≡ y
     says-of b e y q = sym (ap (λ (y : After). y .says) e) ∙ q
@@ -72,14 +37,14 @@ module _ (A : Ask) where
     -- refusal k: 1 to 3, or 5
     refused-row : (k : ℕ) → a .says ≡ said Word.refused (k ∷ []) → RefusedRow A k
     unfolding ended refusalOf
-    refused-row k e = go (cased a h)
+    refused-row k e = go (cased A a h)
       where
         by-run : Good A → (o : Out) → ran A ≡ o → ended A o .says ≡ said Word.refused (k ∷ []) → RefusedRow A k
         by-run g (settled U ms) d q = absurd (settled-refused _ _ q)
         by-run g (clash j ms) d q = absurd (clash-refused _ _ q)
-        by-run g short d q = inr (sym (ap num q), g, short-five x g d)
+        by-run g short d q = inr (sym (ap num q), g, short-five A x g d)
 
-        go : Case a → RefusedRow A k
+        go : Case A a → RefusedRow A k
         go (inl (i, d, q)) =
             let z : suc i ≡ k = ap num (says-of _ q _ e) in
             inl (omega arith, refusal-exactly (many A) (columns A) (A .alone) k .0 (d ∙ z))
@@ -87,59 +52,59 @@ module _ (A : Ask) where
 
     row-refused : (k : ℕ) → RefusedRow A k → a .says ≡ said Word.refused (k ∷ [])
     unfolding ended refusalOf
-    row-refused k r = go (cased a h) r
+    row-refused k r = go (cased A a h) r
       where
-        go : Case a → RefusedRow A k → a .says ≡ said Word.refused (k ∷ [])
+        go : Case A a → RefusedRow A k → a .says ≡ said Word.refused (k ∷ [])
         go (inl (i, d, q)) (inl (b, t)) =
             let z : suc i ≡ k = sym d ∙ refusal-exactly (many A) (columns A) (A .alone) k .1 t in
             ap (λ (y : After). y .says) q ∙ ap (λ (m : ℕ). said Word.refused (m ∷ [])) z
         go (inl (i, d, q)) (inr (e, g, b)) = absurd (omega (arith, sym d ∙ call-good A g))
         go (inr (g, q)) (inl (b, t)) = absurd (omega (arith, sym (call-good A g) ∙ refusal-exactly (many A) (columns A) (A .alone) k .1 t))
         go (inr (g, q)) (inr (e, f, b)) =
-            ap (λ (y : After). y .says) q ∙ ap (λ (o : Out). ended A o .says) (five-short x g b) ∙ ap (λ (m : ℕ). said Word.refused (m ∷ [])) (sym e)
+            ap (λ (y : After). y .says) q ∙ ap (λ (o : Out). ended A o .says) (five-short A x g b) ∙ ap (λ (m : ℕ). said Word.refused (m ∷ [])) (sym e)
 
     -- settled and clash come from a good list with room for the work, and their count is the number of records needed
     settled-row : (n : ℕ) → a .says ≡ said Word.settled (n ∷ []) → Good A × Room A × (n ≡ needs A)
     unfolding ended
-    settled-row n e = go (cased a h)
+    settled-row n e = go (cased A a h)
       where
         by-run : (g : Good A) (o : Out) → ran A ≡ o → ended A o .says ≡ said Word.settled (n ∷ []) → Good A × Room A × (n ≡ needs A)
         by-run g (settled U ms) d q =
-            let r : Room A = ended-room x g (λ z. let w : _≡_ {A = ℕ} 0 1 = cc in omega arith) in
-            (g, r, sym (ap num q) ∙ sym (ap (λ (o : Out). count o) d) ∙ room-count x g r)
+            let r : Room A = ended-room A x g (λ z. let w : _≡_ {A = ℕ} 0 1 = cc in omega arith) in
+            (g, r, sym (ap num q) ∙ sym (ap (λ (o : Out). count o) d) ∙ room-count A x g r)
         by-run g (clash j ms) d q = absurd (not-said Word.clash Word.settled (λ z. omega arith) (ap (λ (y : Said). y .word) q))
         by-run g short d q = absurd (settled-refused _ _ (sym q))
 
-        go : Case a → Good A × Room A × (n ≡ needs A)
+        go : Case A a → Good A × Room A × (n ≡ needs A)
         go (inl (i, d, q)) = absurd (settled-refused _ _ (sym (says-of _ q _ e)))
         go (inr (g, q)) = by-run g (ran A) refl (says-of _ q _ e)
 
     clash-row : (n j : ℕ) → a .says ≡ said Word.clash (n ∷ j ∷ []) → Good A × Room A × (n ≡ needs A)
     unfolding ended
-    clash-row n j e = go (cased a h)
+    clash-row n j e = go (cased A a h)
       where
         by-run : (g : Good A) (o : Out) → ran A ≡ o → ended A o .says ≡ said Word.clash (n ∷ j ∷ []) → Good A × Room A × (n ≡ needs A)
         by-run g (settled U ms) d q = absurd (not-said Word.settled Word.clash (λ z. omega arith) (ap (λ (y : Said). y .word) q))
         by-run g (clash i ms) d q =
-            let r : Room A = ended-room x g (λ z. let w : _≡_ {A = ℕ} 0 1 = cc in omega arith) in
-            (g, r, sym (ap num q) ∙ sym (ap (λ (o : Out). count o) d) ∙ room-count x g r)
+            let r : Room A = ended-room A x g (λ z. let w : _≡_ {A = ℕ} 0 1 = cc in omega arith) in
+            (g, r, sym (ap num q) ∙ sym (ap (λ (o : Out). count o) d) ∙ room-count A x g r)
         by-run g short d q = absurd (clash-refused _ _ (sym q))
 
-        go : Case a → Good A × Room A × (n ≡ needs A)
+        go : Case A a → Good A × Room A × (n ≡ needs A)
         go (inl (i, d, q)) = absurd (clash-refused _ _ (sym (says-of _ q _ e)))
         go (inr (g, q)) = by-run g (ran A) refl (says-of _ q _ e)
 
     -- a word with the numbers that it has
     numbered : Good A → Room A → ((n : ℕ) × (a .says ≡ said Word.settled (n ∷ []))) ⊎ ((n : ℕ) × (j : ℕ) × (a .says ≡ said Word.clash (n ∷ j ∷ [])))
     unfolding ended
-    numbered g r = go (cased a h)
+    numbered g r = go (cased A a h)
       where
         by-run : (o : Out) → ran A ≡ o → a ≡ ended A o → ((n : ℕ) × (a .says ≡ said Word.settled (n ∷ []))) ⊎ ((n : ℕ) × (j : ℕ) × (a .says ≡ said Word.clash (n ∷ j ∷ [])))
         by-run (settled U ms) d q = inl (length ms, ap (λ (y : After). y .says) q)
         by-run (clash j ms) d q = inr (length ms, j, ap (λ (y : After). y .says) q)
-        by-run short d q = absurd (omega (arith, short-five x g d))
+        by-run short d q = absurd (omega (arith, short-five A x g d))
 
-        go : Case a → ((n : ℕ) × (a .says ≡ said Word.settled (n ∷ []))) ⊎ ((n : ℕ) × (j : ℕ) × (a .says ≡ said Word.clash (n ∷ j ∷ [])))
+        go : Case A a → ((n : ℕ) × (a .says ≡ said Word.settled (n ∷ []))) ⊎ ((n : ℕ) × (j : ℕ) × (a .says ≡ said Word.clash (n ∷ j ∷ [])))
         go (inl (i, d, q)) = absurd (omega (arith, sym d ∙ call-good A g))
         go (inr (f, q)) = by-run (ran A) refl q
 
@@ -164,14 +129,14 @@ module _ (A : Ask) where
 
     left-windows : (a .says .word ≡ Word.settled → ⊥) → a .win ≡ A .win
     unfolding ended
-    left-windows f = go (cased a h)
+    left-windows f = go (cased A a h)
       where
         by-run : (o : Out) → a ≡ ended A o → a .win ≡ A .win
         by-run (settled U ms) q = absurd (f (ap (λ (y : After). y .says .word) q))
         by-run (clash j ms) q = ap (λ (y : After). y .win) q
         by-run short q = ap (λ (y : After). y .win) q
 
-        go : Case a → a .win ≡ A .win
+        go : Case A a → a .win ≡ A .win
         go (inl (i, d, q)) = ap (λ (y : After). y .win) q
         go (inr (g, q)) = by-run (ran A) q
 
@@ -181,14 +146,14 @@ module _ (A : Ask) where
 
     left-log : (k : ℕ) → a .says ≡ said Word.refused (k ∷ []) → LogOf k
     unfolding ended refusalOf
-    left-log k e = go (cased a h)
+    left-log k e = go (cased A a h)
       where
         by-run : (o : Out) → a ≡ ended A o → ended A o .says ≡ said Word.refused (k ∷ []) → LogOf k
         by-run (settled U ms) q z = absurd (settled-refused _ _ z)
         by-run (clash j ms) q z = absurd (clash-refused _ _ z)
         by-run short q z = inl (sym (ap num z), ap (λ (y : After). y .log) q)
 
-        go : Case a → LogOf k
+        go : Case A a → LogOf k
         go (inl (i, d, q)) =
             let z : suc i ≡ k = ap num (says-of _ q _ e) in
             inr (omega (arith, refusal-most (many A) (columns A) (A .alone)), ap (λ (y : After). y .log) q)

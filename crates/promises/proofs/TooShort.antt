@@ -21,7 +21,7 @@ use Rattle.promises.specs.Ask.{Ask, many, lasts, Good, TooShort}
 use Rattle.promises.specs.Table.{After, leaves, ended, ran}
 use Rattle.promises.specs.Promise.{Scheduled, NoneIn, needs, Narrowest, Narrows}
 use Rattle.promises.proofs.Calls.{call-good}
-use Rattle.promises.proofs.Rows.{Case, cased}
+use Rattle.promises.proofs.Cased.{Case, cased}
 
 -- ---- of the list alone, and any job whose window is too short
 

@@ -14,6 +14,7 @@ use Rattle.timetable.specs.Time.{bound}
 use Rattle.timetable.specs.Table.{Call, jobsOf, asks, Good}
 use Rattle.codes.specs.Facts.{side}
 use Rattle.verdicts.proofs.Rows as general
+use Rattle.verdicts.proofs.Firm as firm
 use Rattle.replay.specs.Replay.{changed, trial, Verdict, verdictOn, Checked, finds, judged, checked}
 use Rattle.replay.specs.Fate.{Fate}
 use Rattle.replay.specs.Promise.{Exactly, Checks}
@@ -52,7 +53,7 @@ module _ (c : Call) (count : ℕ) where
   -- `exactly` by itself determines the answer and the windows
   pub facts-answer : (a : Checked) → Exactly c count a → a ≡ checked c count
   unfolding checked
-  facts-answer a x = general.facts-answer (trial (jobsOf c)) (asks c) count (judging c) a x
+  facts-answer a x = firm.facts-answer (trial (jobsOf c)) (asks c) count (judging c) a x
 
   -- so a verdict with its facts gives its answer
   pub fate-answers : (a : Checked) → Checks c count a → (v : Verdict) → Good c → count ≤ roomOf (c .log) → Fate c count v → a ≡ judged c count v

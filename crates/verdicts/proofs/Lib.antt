@@ -1,4 +1,5 @@
 pub mod Fates
 pub mod Rows
+pub mod Firm
 pub mod Meaning
 pub mod Taken

@@ -1,11 +1,11 @@
 -- The checker's answers over any rules, in facts: each refusal, code and answer is given exactly when document 01 says so and nothing before it does, and
--- leaves what it says; and these facts alone determine the answer and the windows.
+-- leaves what it says.
 use Prim.Native.Nat.{ℕ, zero, suc, _≤_, _<_}
 use native.Mathlib.Omega.{arith}
 use mathlib.Core.Path.{_≡_, refl, sym, ap, subst, _∙_}
 use mathlib.Core.Bool.{Bool, true, false}
 use mathlib.Core.List.{[], _∷_}
-use mathlib.Core.Logic.{_⊎_, inl, inr, _↔_}
+use mathlib.Core.Logic.{inl, inr, _↔_}
 use lib.Dec.{ltb}
 use borrow.Author.Tests.{ltb-true, ltb-false, le-ltb}
 use Rattle.lists.specs.Lists.{_!_}
@@ -16,7 +16,7 @@ use Rattle.journal.specs.Journal.{roomOf, records}
 use Rattle.journal.proofs.Records.{room-short}
 use Rattle.promises.specs.Ask.{Ask, many, lasts, columns, Good, refusalOf}
 use Rattle.promises.proofs.Calls.{good-call, call-good}
-use Rattle.verdicts.specs.Replay.{Trial, Verdict, holds, clashes, rejected, verdictOn, Checked, finds, judged, refuses, orSix, rows, checked}
+use Rattle.verdicts.specs.Replay.{Trial, Verdict, holds, clashes, rejected, verdictOn, Checked, judged, refuses, orSix, rows, checked}
 use Rattle.verdicts.specs.Fate.{reached, Open, Shut, Fate}
 use Rattle.verdicts.specs.Promise.{Judges, RefusedRow, Claimed, Exactly}
 use Rattle.verdicts.proofs.Fates.{fate-exactly}
@@ -26,7 +26,7 @@ module _ (T : Trial) (A : Ask) (count : ℕ) where
   verdict = verdictOn T (many A) (lasts A) (A .win) (records (A .log) 0 count)
 
   -- the answer is a refusal's, 6, or the verdict's
-  data Case (a : Checked) : Type 0 where
+  pub data Case (a : Checked) : Type 0 where
     tested : (k : ℕ) → refusalOf A ≡ suc k → a ≡ refuses (A .win) (suc k) → Case a
     six : Good A → roomOf (A .log) < count → a ≡ refuses (A .win) 6 → Case a
     judges : Good A → count ≤ roomOf (A .log) → a ≡ judged (A .win) count verdict → Case a
@@ -40,7 +40,7 @@ module _ (T : Trial) (A : Ask) (count : ℕ) where
   case-of zero e = case-six (ltb (roomOf (A .log)) count) refl (good-call A e)
   case-of (suc k) e = tested k e refl
 
-  cased : (a : Checked) → a ≡ checked T A count → Case a
+  pub cased : (a : Checked) → a ≡ checked T A count → Case a
   unfolding checked
   cased a h = subst Case (sym h) (case-of (refusalOf A) refl)
 
@@ -169,52 +169,3 @@ module _ (T : Trial) (A : Ask) (count : ℕ) where
       where
         says-by : (v : Verdict) → Claimed A count → Fate T A count v → a .says ≡ judged (A .win) count v .says
         says-by v c f = ap (λ (z : Checked). z .says) (fate-answers v (c .0) (c .1) f)
-
-  -- ---- an answer that meets these facts is the definition's, with its windows
-
-  module _ (y : Judges T A) (a : Checked) (x : Exactly T A count a) where
-    abbrev due : Checked
-    due = checked T A count
-
-    abbrev facts : Exactly T A count due
-    facts = exactly y due refl
-
-    left : (s : Said) → due .says ≡ s → a .says ≡ s → a .win ≡ due .win
-    left s d e = go (word-holds (s .word))
-      where
-        word-holds : (w : Word) → (w ≡ Word.holds) ⊎ (w ≡ Word.holds → ⊥)
-        word-holds Word.holds = inl refl
-        word-holds Word.clash = inr (not-said Word.clash Word.holds (λ z. omega arith))
-        word-holds Word.rejected = inr (not-said Word.rejected Word.holds (λ z. omega arith))
-        word-holds Word.settled = inr (not-said Word.settled Word.holds (λ z. omega arith))
-        word-holds Word.refused = inr (not-said Word.refused Word.holds (λ z. omega arith))
-        word-holds Word.none = inr (not-said Word.none Word.holds (λ z. omega arith))
-        word-holds Word.overload = inr (not-said Word.overload Word.holds (λ z. omega arith))
-        word-holds Word.written = inr (not-said Word.written Word.holds (λ z. omega arith))
-        word-holds Word.read = inr (not-said Word.read Word.holds (λ z. omega arith))
-
-        word-of : (b : Checked) → b .says ≡ s → b .says .word ≡ s .word
-        word-of b q = ap (λ (z : Said). z .word) q
-
-        go : (s .word ≡ Word.holds) ⊎ (s .word ≡ Word.holds → ⊥) → a .win ≡ due .win
-        go (inl q) = x .reached (word-of a e ∙ q) ∙ sym (facts .reached (word-of due d ∙ q))
-        go (inr f) = x .submitted (λ z. f (sym (word-of a e) ∙ z)) ∙ sym (facts .submitted (λ z. f (sym (word-of due d) ∙ z)))
-
-    pub facts-answer : a ≡ due
-    facts-answer = go (cased due refl)
-      where
-        same : (s : Said) → due .says ≡ s → a .says ≡ s → a ≡ due
-        same s d e = ap (λ (z : Said). finds z (a .win)) (e ∙ sym d) ∙ ap (finds (due .says)) (left s d e)
-
-        by : (v : Verdict) → due .says ≡ judged (A .win) count v .says → a ≡ due
-        by (holds U) q = same _ q (x .holds count .1 (facts .holds count .0 q))
-        by (clashes j) q = same _ q (x .clash count j .1 (facts .clash count j .0 q))
-        by (rejected i k) q = same _ q (x .rejected i k .1 (facts .rejected i k .0 q))
-
-        refusal : (k : ℕ) → due ≡ refuses (A .win) k → a ≡ due
-        refusal k q = let e = ap (λ (z : Checked). z .says) q in same _ e (x .refused k .1 (facts .refused k .0 e))
-
-        go : Case due → a ≡ due
-        go (tested k d q) = refusal (suc k) q
-        go (six g b q) = refusal 6 q
-        go (judges g b q) = by verdict (ap (λ (z : Checked). z .says) q)

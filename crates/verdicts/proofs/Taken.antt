@@ -26,7 +26,7 @@ use Rattle.promises.specs.Table.{After, ended, ran}
 use Rattle.promises.specs.Promise.{Narrows}
 use Rattle.promises.proofs.Calls.{call-good, whole}
 use Rattle.promises.proofs.Logs.{entries-are, entries-count}
-use Rattle.promises.proofs.Rows.{Case, cased}
+use Rattle.promises.proofs.Cased.{Case, cased}
 use Rattle.verdicts.specs.Replay.{Trial, holds, clashes, replay, verdictOn, Checked, finds, judged, rows, checked}
 use Rattle.verdicts.specs.Promise.{Judges, WritesGood, withLog, TakesLogs}
 
