@@ -1,4 +1,4 @@
--- `judge::demands::exceeds` meets its contract: the demands named are held against the capacity.
+-- `draws::exceeds` meets its contract: the demands named are held against the capacity.
 use borrow.Author.Needs.{needs}
 use Rattle.draws.proofs.exceeds.Statement.{statement}
 use Rattle.draws.proofs.exceeds.Tie as tie

@@ -1,4 +1,4 @@
--- `judge::demands::lean` meets its contract. The loop's invariant: no member among the bits passed is spare. The measure is the number of bits left.
+-- `draws::lean` meets its contract. The loop's invariant: no member among the bits passed is spare. The measure is the number of bits left.
 use Prim.Native.Nat.{_≤_, _*_, _-_}
 use native.Mathlib.Omega.{arith}
 use mathlib.Core.Path.{_≡_, sym, ap, _∙_}

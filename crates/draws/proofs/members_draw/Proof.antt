@@ -1,4 +1,4 @@
--- `judge::demands::members_draw` meets its contract. The loop's invariant: the sum is that of the jobs passed. The measure is the number of jobs left.
+-- `draws::members_draw` meets its contract. The loop's invariant: the sum is that of the jobs passed. The measure is the number of jobs left.
 use Prim.Native.Nat.{_+_, _≤_, _-_}
 use native.Mathlib.Omega.{arith}
 use mathlib.Core.Path.{_≡_, sym, ap, _∙_}

@@ -1,4 +1,4 @@
--- `judge::demands::named` meets its contract: the sum of the demands of the members is small, so that one demand more fits the word.
+-- `draws::named` meets its contract: the sum of the demands of the members is small, so that one demand more fits the word.
 use native.Mathlib.Omega.{arith}
 use borrow.Author.Needs.{needs}
 use lib.ListN.{length}

@@ -1,4 +1,4 @@
--- `judge::demands::share` meets its contract: a member's demand, and 0 of any other job.
+-- `draws::share` meets its contract: a member's demand, and 0 of any other job.
 use mathlib.Core.Path.{sym, _∙_}
 use borrow.Author.Needs.{needs}
 use Rattle.draws.proofs.share.Statement.{statement}

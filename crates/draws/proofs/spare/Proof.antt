@@ -1,4 +1,4 @@
--- `judge::demands::spare` meets its contract: only a member is looked up, and a member is in the list, its demand among those named.
+-- `draws::spare` meets its contract: only a member is looked up, and a member is in the list, its demand among those named.
 use native.Mathlib.Omega.{arith}
 use mathlib.Core.Path.{sym, _∙_}
 use borrow.Author.Needs.{needs}

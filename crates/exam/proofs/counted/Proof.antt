@@ -1,4 +1,4 @@
--- `judge::counted` meets its contract: the set's words are few, so that their ones can be counted.
+-- `exam::counted` meets its contract: the set's words are few, so that their ones can be counted.
 use native.Mathlib.Omega.{arith}
 use lib.ListN.{length-drop}
 use borrow.Author.Needs.{needs}

@@ -1,4 +1,4 @@
--- `judge::in_range` meets its contract: its three tests are the definition's.
+-- `exam::in_range` meets its contract: its three tests are the definition's.
 use native.Mathlib.Omega.{arith}
 use borrow.Author.Needs.{needs}
 use borrow.Author.Tests.{lt-ltb, le-ltb, lt-leb, le-leb}

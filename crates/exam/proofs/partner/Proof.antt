@@ -1,4 +1,4 @@
--- `judge::partner` meets its contract: its tests are the definition's, and a bit that is not set passes.
+-- `exam::partner` meets its contract: its tests are the definition's, and a bit that is not set passes.
 use mathlib.Core.Path.{sym, _∙_}
 use borrow.Author.Needs.{needs}
 use borrow.Author.Tests.{not-true, not-false}

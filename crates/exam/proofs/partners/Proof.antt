@@ -1,4 +1,4 @@
--- `judge::partners` meets its contract. The loop's invariant: the bits passed are no bad partners. The measure is the number of bits left.
+-- `exam::partners` meets its contract. The loop's invariant: the bits passed are no bad partners. The measure is the number of bits left.
 use Prim.Native.Nat.{_≤_, _*_, _-_}
 use native.Mathlib.Omega.{arith}
 use mathlib.Core.Path.{_≡_, refl, sym, ap, _∙_}

@@ -1,4 +1,4 @@
--- `judge::takes_part` meets its contract: its three tests are the definition's, and only a listed job is looked up.
+-- `exam::takes_part` meets its contract: its three tests are the definition's, and only a listed job is looked up.
 use borrow.Author.Needs.{needs}
 use borrow.Author.Tests.{lt-ltb, le-ltb, lt-leb, le-leb}
 use Rattle.codes.specs.Codes.{takesPart}

@@ -1,4 +1,4 @@
--- `judge::tightens` meets its contract: the side's number picks the bound.
+-- `exam::tightens` meets its contract: the side's number picks the bound.
 use borrow.Author.Needs.{needs}
 use Rattle.narrowing.specs.Windows.{win}
 use Rattle.journal.specs.Journal.{jobOf, timeOf}

@@ -1,4 +1,4 @@
--- `joblist::above` meets its contract. Invariant: `top` within the limit together with the numbers from i on within it is the test of the whole list.
+-- `screen::above` meets its contract. Invariant: `top` within the limit together with the numbers from i on within it is the test of the whole list.
 -- The measure is what is left of the list.
 use Prim.Native.Nat.{_≤_, _-_}
 use native.Mathlib.Omega.{arith}

@@ -1,4 +1,4 @@
--- `joblist::larger` meets its contract: each return is the side of `pick` that the test chooses.
+-- `screen::larger` meets its contract: each return is the side of `pick` that the test chooses.
 use borrow.Author.Tests.{le-leb, lt-leb}
 use Rattle.screen.proofs.larger.Statement.{statement}
 use Rattle.screen.proofs.larger.Tie as tie

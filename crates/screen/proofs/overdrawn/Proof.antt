@@ -1,4 +1,4 @@
--- `joblist::overdrawn` meets its contract: the demands, and then the capacity.
+-- `screen::overdrawn` meets its contract: the demands, and then the capacity.
 use borrow.Author.Needs.{needs}
 use mathlib.Core.Path.{sym, _∙_}
 use borrow.Author.Tests.{not-true, not-false}

@@ -1,4 +1,4 @@
--- `joblist::refusal` meets its contract: each return is one law on the four lists, from the outcomes of the tests before it.
+-- `screen::refusal` meets its contract: each return is one law on the four lists, from the outcomes of the tests before it.
 use borrow.Author.Needs.{needs}
 use mathlib.Core.Path.{sym, _∙_}
 use borrow.Author.Tests.{not-true, not-false}

@@ -1,4 +1,4 @@
--- `joblist::refusal_of_three` meets its contract: the earliest starts are as long as themselves, so two comparisons are test 1.
+-- `screen::refusal_of_three` meets its contract: the earliest starts are as long as themselves, so two comparisons are test 1.
 use native.Mathlib.Omega.{arith}
 use mathlib.Core.Path.{_≡_, sym, _∙_}
 use mathlib.Core.List.{[]}

@@ -1,4 +1,4 @@
--- `joblist::refusal_of_two` meets its contract: each return is the first test that fails.
+-- `screen::refusal_of_two` meets its contract: each return is the first test that fails.
 use borrow.Author.Needs.{needs}
 use mathlib.Core.Path.{sym, _∙_}
 use lib.Dec.{leb}

@@ -1,4 +1,4 @@
--- `joblist::too_late` meets its contract: the three lists are tested in the order of the definition.
+-- `screen::too_late` meets its contract: the three lists are tested in the order of the definition.
 use mathlib.Core.Path.{sym, _∙_}
 use borrow.Author.Needs.{needs}
 use borrow.Author.Tests.{not-true, not-false}

@@ -1,4 +1,4 @@
--- `judge::facts::member_true` meets its contract: only a member is looked up, and a member is in the list.
+-- `stated::member_true` meets its contract: only a member is looked up, and a member is in the list.
 use mathlib.Core.Path.{sym, _∙_}
 use borrow.Author.Needs.{needs}
 use borrow.Author.Tests.{not-true, not-false}

@@ -1,4 +1,4 @@
--- `judge::facts::own_true` meets its contract: the side's number picks the fact, and the times are small enough for the sums.
+-- `stated::own_true` meets its contract: the side's number picks the fact, and the times are small enough for the sums.
 use mathlib.Core.Path.{_∙_}
 use borrow.Author.Needs.{needs}
 use Rattle.narrowing.specs.Windows.{win}

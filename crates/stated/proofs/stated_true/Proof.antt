@@ -1,4 +1,4 @@
--- `judge::facts::stated_true` meets its contract. The loop's invariant: the facts of the bits passed are true. The measure is the number of bits left.
+-- `stated::stated_true` meets its contract. The loop's invariant: the facts of the bits passed are true. The measure is the number of bits left.
 use Prim.Native.Nat.{_≤_, _*_, _-_}
 use native.Mathlib.Omega.{arith}
 use mathlib.Core.Path.{_≡_, refl, sym, ap, _∙_}

@@ -1,4 +1,4 @@
--- `joblist::closed` meets its contract.
+-- `windows::closed` meets its contract.
 use mathlib.Core.Path.{sym}
 use borrow.Author.Needs.{needs}
 use Rattle.windows.proofs.TooShort.{closes-by, closes-below}

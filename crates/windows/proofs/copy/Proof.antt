@@ -1,4 +1,4 @@
--- `joblist::copy` meets its contract. Invariant: the first i words are the source's, the rest is as it was. The measure is what is left of the source.
+-- `windows::copy` meets its contract. Invariant: the first i words are the source's, the rest is as it was. The measure is what is left of the source.
 use Prim.Native.Nat.{_≤_, _-_}
 use native.Mathlib.Omega.{arith}
 use mathlib.Core.Path.{_≡_, refl, _∙_}

@@ -1,4 +1,4 @@
--- `joblist::lowest_too_short` meets its contract. Invariant: no window before i is too short. The measure is what is left of the list.
+-- `windows::lowest_too_short` meets its contract. Invariant: no window before i is too short. The measure is what is left of the list.
 use Prim.Native.Nat.{_≤_, _-_}
 use native.Mathlib.Omega.{arith}
 use mathlib.Core.Path.{sym, _∙_}

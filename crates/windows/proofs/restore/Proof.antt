@@ -1,4 +1,4 @@
--- `joblist::restore` meets its contract: the list is at most as long as the array.
+-- `windows::restore` meets its contract: the list is at most as long as the array.
 use native.Mathlib.Omega.{arith}
 use mathlib.Core.Path.{_∙_}
 use borrow.Author.Needs.{needs}

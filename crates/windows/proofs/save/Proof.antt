@@ -1,4 +1,4 @@
--- `joblist::save` meets its contract: the array is at least as long as the list.
+-- `windows::save` meets its contract: the array is at least as long as the list.
 use native.Mathlib.Omega.{arith}
 use mathlib.Core.Path.{_∙_}
 use borrow.Author.Needs.{needs}

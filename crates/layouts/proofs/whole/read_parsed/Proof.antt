@@ -1,4 +1,4 @@
--- `layouts::read_parsed` meets its contract: the horizon, then what the text met, then what `read_whole` says.
+-- `layouts::whole::read_parsed` meets its contract: the horizon, then what the text met, then what `read_whole` says.
 use borrow.Author.Needs.{needs}
 use Rattle.parsing.proofs.Parsing.{parsed-within}
 use Rattle.exchange.proofs.Asked.{far, broken}

@@ -1,4 +1,4 @@
--- `layouts::read_whole` meets its contract: each refusal is answered with the lists as they were, and the lists are written behind the last of them.
+-- `layouts::whole::read_whole` meets its contract: each refusal is answered with the lists as they were, and the lists are written behind the last of them.
 use Prim.Native.Nat.{_≤_, _<_}
 use mathlib.Core.Path.{_≡_, refl, subst}
 use mathlib.Core.List.{[]}

@@ -1,4 +1,4 @@
--- `parsing::choose` meets its contract.
+-- `parsing::parts::choose` meets its contract.
 use borrow.Author.Tests.{eq-eqb, ne-eqb}
 use Rattle.parsing.proofs.parts.choose.Statement.{statement}
 use Rattle.parsing.proofs.parts.choose.Tie as tie

@@ -1,4 +1,4 @@
--- `parsing::open_text` meets its contract: its three readings, one after the other.
+-- `parsing::parts::open_text` meets its contract: its three readings, one after the other.
 use mathlib.Core.Path.{refl}
 use Rattle.texts.proofs.Readings.{one-takes, many-takes}
 use Rattle.parsing.proofs.Whole.{opening-bad, opening-bad₂, opening-bad₃, opening-good}

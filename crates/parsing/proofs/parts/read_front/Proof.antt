@@ -1,4 +1,4 @@
--- `parsing::read_front` meets its contract: the head of the row, by its table.
+-- `parsing::parts::read_front` meets its contract: the head of the row, by its table.
 use borrow.Author.Needs.{needs}
 use Rattle.parsing.proofs.Numbers.{head-whole, head-relations, head-requests}
 use Rattle.parsing.proofs.parts.read_front.Statement.{statement}

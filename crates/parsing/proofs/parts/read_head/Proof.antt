@@ -1,4 +1,4 @@
--- `parsing::read_head` meets its contract: its three readings, one after the other.
+-- `parsing::parts::read_head` meets its contract: its three readings, one after the other.
 use mathlib.Core.Path.{refl}
 use Rattle.parsing.proofs.Numbers.{head-bad, head-bad₂, head-bad₃, head-good}
 use borrow.Author.Needs.{needs}

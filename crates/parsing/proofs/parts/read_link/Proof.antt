@@ -1,4 +1,4 @@
--- `parsing::read_link` meets its contract.
+-- `parsing::parts::read_link` meets its contract.
 use Rattle.parsing.proofs.Numbers.{link-good, link-zero, link-bad}
 use borrow.Author.Needs.{needs}
 use Rattle.parsing.proofs.parts.read_link.Statement.{statement}

@@ -1,4 +1,4 @@
--- `parsing::read_many` meets its contract: i of the m numbers are read, and `picked` is the one at `res` among them.
+-- `parsing::parts::read_many` meets its contract: i of the m numbers are read, and `picked` is the one at `res` among them.
 use Prim.Native.Nat.{_-_}
 use borrow.Author.Needs.{needs}
 use lib.ListN.{drop}

@@ -1,4 +1,4 @@
--- `parsing::read_numbered` meets its contract: two numbers that are those that they have to be.
+-- `parsing::parts::read_numbered` meets its contract: two numbers that are those that they have to be.
 use borrow.Author.Needs.{needs}
 use Rattle.parsing.proofs.Numbers.{numbered-bad, numbered-next}
 use Rattle.parsing.proofs.parts.read_numbered.Statement.{statement}

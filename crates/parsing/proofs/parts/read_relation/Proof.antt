@@ -1,4 +1,4 @@
--- `parsing::read_relation` meets its contract: its readings, one after the other.
+-- `parsing::parts::read_relation` meets its contract: its readings, one after the other.
 use borrow.Author.Needs.{needs}
 use mathlib.Core.Path.{refl}
 use Rattle.parsing.proofs.Numbers.{relation-bad, relation-bad₂, relation-good}

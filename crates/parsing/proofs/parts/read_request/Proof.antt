@@ -1,4 +1,4 @@
--- `parsing::read_request` meets its contract: its readings, one after the other.
+-- `parsing::parts::read_request` meets its contract: its readings, one after the other.
 use borrow.Author.Needs.{needs}
 use mathlib.Core.Path.{refl}
 use Rattle.parsing.proofs.Numbers.{request-bad, request-bad₂, request-bad₃, request-good}

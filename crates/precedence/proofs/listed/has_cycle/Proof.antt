@@ -1,4 +1,4 @@
--- `precedence::has_cycle` meets its contract: the values are numbers of steps up to n, and their sum rises with each round.
+-- `precedence::listed::has_cycle` meets its contract: the values are numbers of steps up to n, and their sum rises with each round.
 use Prim.Native.Nat.{_-_, _*_}
 use borrow.Author.Needs.{needs}
 use mathlib.Core.Path.{refl}

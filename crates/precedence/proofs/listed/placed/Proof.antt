@@ -1,4 +1,4 @@
--- `precedence::placed` meets its contract, branch by branch.
+-- `precedence::listed::placed` meets its contract, branch by branch.
 use native.Mathlib.Omega.{arith}
 use mathlib.Core.Logic.{inl, inr}
 use Rattle.precedence.proofs.Places.{comes-before, not-before}

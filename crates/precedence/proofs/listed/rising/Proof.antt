@@ -1,4 +1,4 @@
--- `precedence::rising` meets its contract. Invariant: each pair passed is of the n jobs and comes before the next, where there is one. The measure is what is
+-- `precedence::listed::rising` meets its contract. Invariant: each pair passed is of the n jobs and comes before the next, where there is one. The measure is what is
 -- left of the pairs.
 use Prim.Native.Nat.{ℕ, suc, _<_, _-_}
 use native.Mathlib.Omega.{arith}

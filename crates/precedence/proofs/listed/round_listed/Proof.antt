@@ -1,4 +1,4 @@
--- `precedence::round_listed` meets its contract: the pairs passed have made the values of the first ones, and the pairs from place i on make of them what all
+-- `precedence::listed::round_listed` meets its contract: the pairs passed have made the values of the first ones, and the pairs from place i on make of them what all
 -- pairs make. The measure is what is left of the pairs.
 use Prim.Native.Nat.{_<_, _-_}
 use native.Mathlib.Omega.{arith}

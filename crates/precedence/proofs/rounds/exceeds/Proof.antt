@@ -1,4 +1,4 @@
--- `precedence::exceeds` meets its contract: none of the first j is above h.
+-- `precedence::rounds::exceeds` meets its contract: none of the first j is above h.
 use Prim.Native.Nat.{ℕ, _≤_, _<_, _+_, _-_}
 use native.Mathlib.Omega.{arith}
 use borrow.Author.Needs.{needs}

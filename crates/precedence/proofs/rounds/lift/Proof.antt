@@ -1,4 +1,4 @@
--- `precedence::lift` meets its contract, branch by branch.
+-- `precedence::rounds::lift` meets its contract, branch by branch.
 use borrow.Author.Needs.{needs}
 use Rattle.precedence.proofs.rounds.lift.Statement.{statement}
 use Rattle.precedence.proofs.rounds.lift.Tie as tie

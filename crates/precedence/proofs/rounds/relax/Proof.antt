@@ -1,4 +1,4 @@
--- `precedence::relax` meets its contract: the pairs passed have made the values of the first ones, and the rest makes of them what all pairs make; the walk fits.
+-- `precedence::rounds::relax` meets its contract: the pairs passed have made the values of the first ones, and the rest makes of them what all pairs make; the walk fits.
 use Prim.Native.Nat.{_-_, _<_}
 use native.Mathlib.Omega.{arith}
 use borrow.Author.Needs.{needs}

@@ -1,4 +1,4 @@
--- `precedence::settle` meets its contract: the values are chains' lengths below the limit, and their sum rises with each round.
+-- `precedence::rounds::settle` meets its contract: the values are chains' lengths below the limit, and their sum rises with each round.
 use Prim.Native.Nat.{_-_, _*_}
 use borrow.Author.Needs.{needs}
 use Rattle.parsing.specs.Parsed.{comes, first}

@@ -1,4 +1,4 @@
--- `scanner::next_number` meets its contract: blanks, and then a token or the end.
+-- `scanner::scan::next_number` meets its contract: blanks, and then a token or the end.
 use Prim.Native.Nat.{_<_, _-_}
 use mathlib.Core.Path.{_∙_}
 use native.Mathlib.Omega.{arith}

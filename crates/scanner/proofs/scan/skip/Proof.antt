@@ -1,4 +1,4 @@
--- `scanner::skip` meets its contract: from `at` to i there are blanks alone.
+-- `scanner::scan::skip` meets its contract: from `at` to i there are blanks alone.
 use borrow.Author.Tests.{not-true, not-false}
 use Prim.Native.Nat.{_<_, _-_}
 use mathlib.Core.Path.{_≡_, refl, sym, _∙_}

@@ -1,4 +1,4 @@
--- `scanner::token_at` meets its contract: v holds the digits from `at` up to i, and the text goes on inside that number.
+-- `scanner::scan::token_at` meets its contract: v holds the digits from `at` up to i, and the text goes on inside that number.
 use borrow.Author.Tests.{not-true, not-false}
 use Prim.Native.Nat.{ℕ, _<_, _-_}
 use mathlib.Core.Path.{_≡_, refl, sym, _∙_}

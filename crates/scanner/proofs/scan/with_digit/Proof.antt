@@ -1,4 +1,4 @@
--- `scanner::with_digit` meets its contract: nothing wraps, and what is held stays a number's.
+-- `scanner::scan::with_digit` meets its contract: nothing wraps, and what is held stays a number's.
 use native.Mathlib.Omega.{arith}
 use Rattle.scanner.proofs.Numbers.{digit-bounds, capped-digit}
 use borrow.Author.Needs.{needs}

@@ -1,4 +1,4 @@
--- `scribe::marks::put_digits` puts a number's decimal digits: those of v / 10, by a call of itself, and then the last. The measure is v.
+-- `scribe::marks::+put_digits` puts a number's decimal digits: those of v / 10, by a call of itself, and then the last. The measure is v.
 use Prim.Native.Nat.{ℕ, _<_}
 use native.Mathlib.Omega.{arith}
 use mathlib.Core.Path.{ap}

@@ -1,4 +1,4 @@
--- `seeker::behind` meets its contract: from `at` up to i there is no byte b.
+-- `seeker::lines::behind` meets its contract: from `at` up to i there is no byte b.
 use Prim.Native.Nat.{_<_, _-_}
 use native.Mathlib.Omega.{arith}
 use mathlib.Core.Path.{_≡_, refl, sym, _∙_}

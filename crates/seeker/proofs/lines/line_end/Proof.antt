@@ -1,4 +1,4 @@
--- `seeker::line_end` meets its contract: wherever the line from i on ends, the line from `at` on ends.
+-- `seeker::lines::line_end` meets its contract: wherever the line from i on ends, the line from `at` on ends.
 use Prim.Native.Nat.{ℕ, _<_, _-_}
 use native.Mathlib.Omega.{arith}
 use mathlib.Core.Path.{_≡_}

@@ -1,4 +1,4 @@
--- `seeker::next_line` meets its contract: a line ends at a line feed.
+-- `seeker::lines::next_line` meets its contract: a line ends at a line feed.
 use borrow.Author.Needs.{needs}
 use Rattle.seeker.proofs.lines.next_line.Statement.{statement}
 use Rattle.seeker.proofs.lines.next_line.Tie as tie

@@ -1,4 +1,4 @@
--- `seeker::starts_at` meets its contract: the part from `at` on starts with the bytes; a place behind the end has none.
+-- `seeker::lines::starts_at` meets its contract: the part from `at` on starts with the bytes; a place behind the end has none.
 use native.Mathlib.Omega.{arith}
 use mathlib.Core.Path.{_∙_}
 use borrow.Author.Needs.{needs}

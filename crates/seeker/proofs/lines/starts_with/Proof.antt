@@ -1,4 +1,4 @@
--- `seeker::starts_with` meets its contract: the first i bytes agree, so the rest decides.
+-- `seeker::lines::starts_with` meets its contract: the first i bytes agree, so the rest decides.
 use Prim.Native.Nat.{_-_}
 use native.Mathlib.Omega.{arith}
 use mathlib.Core.Path.{_≡_, refl}

@@ -1,4 +1,4 @@
--- `seeker::unspaced_at` meets its contract: from `at` up to i there are spaces alone.
+-- `seeker::lines::unspaced_at` meets its contract: from `at` up to i there are spaces alone.
 use Prim.Native.Nat.{_<_, _-_}
 use native.Mathlib.Omega.{arith}
 use mathlib.Core.Path.{_≡_, refl, sym, _∙_}
