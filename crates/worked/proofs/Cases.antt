@@ -6,9 +6,9 @@ use Rattle.timetable.specs.Search.{leanMember, naming}
 use Rattle.timetable.specs.Table.{narrowedBy}
 use Rattle.overloads.specs.Promise.{checked}
 use Rattle.worked.specs.Rows.{Right}
-use Rattle.worked.specs.Cases.{runs}
+use Rattle.worked.specs.Cases.{onRecord}
 
-pub cases : Every Right runs
+pub cases : Every Right onRecord
 unfolding narrowedBy naming leanMember checked onesOf
 cases = (
   refl,  -- 1

@@ -20,15 +20,15 @@ use Rattle.verdicts.specs.Fate as fate
 use Rattle.replay.specs.Replay.{changed, Checked, checked}
 use Rattle.replay.specs.Promise.{taken, Reasoned, Exactly, TakesLogs}
 use Rattle.replay.proofs.Rows.{facts-answer}
-use Rattle.worked.specs.Rows.{job, line}
+use Rattle.worked.specs.Rows.{job, noted}
 use Rattle.worked.specs.Runs.{lent}
-use Rattle.worked.specs.Checks.{pair}
+use Rattle.worked.specs.Checks.{example}
 use Rattle.worked.specs.Logs.{with}
 
 -- ---- one record that carries a whole run: it takes the first record of 004's Example 4.1 and leaves the windows of both; those left are the ones that the
 -- records reach, and a record moves one bound (`exactly`)
 
-pub leaping : (a : Checked) → Exactly (with 2 pair (line 0 0 4 1 2)) 1 a → a .says ≡ said Word.holds (1 ∷ []) → a .win .l ! 1 ≡ 5 → ⊥
+pub leaping : (a : Checked) → Exactly (with 2 example (noted 0 0 4 1 2)) 1 a → a .says ≡ said Word.holds (1 ∷ []) → a .win .l ! 1 ≡ 5 → ⊥
 unfolding recordAt fate.reached changed
 leaping a h e q = let z : a .win .l ! 1 ≡ 7 = ap (λ (W : Win). W .l ! 1) (h .reached (ap (λ (x : Said). x .word) e)) in omega arith
 
@@ -42,7 +42,7 @@ taking-all c count i k d a h e =
 -- by what a record implies too: one with no members on case 5 does not imply its change (`implied`)
 
 abbrev alone : Call
-alone = with 1 (job 0 2 2 1 ∷ job 2 4 2 1 ∷ []) (line 0 0 1 0 0)
+alone = with 1 (job 0 2 2 1 ∷ job 2 4 2 1 ∷ []) (noted 0 0 1 0 0)
 
 not-implied : Reasoned alone 0 → ⊥
 unfolding recordAt has namedDrawn runs
@@ -64,7 +64,7 @@ taking-unfounded a h e = not-implied (h 0 (rw e (omega arith)))
 -- (`implied`)
 
 abbrev turned : Call
-turned = with 2 pair (line 1 1 5 1 1 ++ line 0 0 4 1 2)
+turned = with 2 example (noted 1 1 5 1 1 ++ noted 0 0 4 1 2)
 
 not-there : Reasoned turned 0 → ⊥
 unfolding recordAt has fate.reached changed

@@ -1,5 +1,6 @@
 pub mod Cases
 pub mod Checks
+pub mod CloseChecks
 pub mod ShutOut
 pub mod CheckShutOut
 pub mod SpareShutOut

@@ -30,7 +30,7 @@ use Rattle.timetable.proofs.Facts.{crowded-yes, runs-yes}
 use Rattle.timetable.proofs.Calls.{good-call}
 use Rattle.worked.specs.Rows.{job}
 use Rattle.worked.specs.Runs.{lent}
-use Rattle.worked.specs.Checks.{pair}
+use Rattle.worked.specs.Checks.{example}
 
 -- cases 2, 5 and 6 of the runs on the record
 abbrev case2 : Call
@@ -156,7 +156,7 @@ going-on a h e = let r = h .clash 2 0 e in go (r .logs .moves) (r .logs .many) (
 -- ---- one record that carries a whole run: of run 23's two bounds one record moves one (`Settles.led`)
 
 abbrev run23 : Call
-run23 = lent 2 pair 2
+run23 = lent 2 example 2
 
 pub whole-run : (a : After) → Reasons run23 a → a .says ≡ said Word.settled (1 ∷ []) → a .win .e ! 0 ≡ 5 → a .win .l ! 1 ≡ 5 → ⊥
 whole-run a h e p q = let r = h .settled 1 e in go (r .logs .moves) (r .logs .many) (r .led .led)

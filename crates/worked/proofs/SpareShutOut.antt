@@ -16,7 +16,7 @@ use Rattle.timetable.specs.Reason.{LeanRecord}
 use Rattle.timetable.specs.Reasons.{Reasons, fullyNamed, Unmoved}
 use Rattle.replay.specs.Replay.{Checked}
 use Rattle.replay.specs.Promise.{taken, Reasoned}
-use Rattle.worked.specs.Rows.{line}
+use Rattle.worked.specs.Rows.{noted}
 use Rattle.worked.specs.Runs.{lent}
 use Rattle.worked.specs.Cases.{crowd}
 use Rattle.worked.specs.Logs.{with}
@@ -27,22 +27,22 @@ run52 = lent 5 crowd 1
 -- ---- what no lean record is
 
 -- all three members: the first is spare
-full : LeanRecord (jobsOf run52) (line 0 0 0 3 14) → ⊥
+full : LeanRecord (jobsOf run52) (noted 0 0 0 3 14) → ⊥
 unfolding totalOf has
 full h = omega (arith, h .lean 1 refl)
 
 -- one too many dropped: the demands named only reach the capacity
-too-few : LeanRecord (jobsOf run52) (line 0 0 0 1 8) → ⊥
+too-few : LeanRecord (jobsOf run52) (noted 0 0 0 1 8) → ⊥
 unfolding totalOf has
 too-few h = omega (arith, h .exceeds)
 
 -- each dropped against the first total: none is left
-none-left : LeanRecord (jobsOf run52) (line 0 0 0 0 0) → ⊥
+none-left : LeanRecord (jobsOf run52) (noted 0 0 0 0 0) → ⊥
 unfolding totalOf has
 none-left h = omega (arith, h .exceeds)
 
 -- two members, and the number of all three
-miscounted : LeanRecord (jobsOf run52) (line 0 0 0 3 12) → ⊥
+miscounted : LeanRecord (jobsOf run52) (noted 0 0 0 3 12) → ⊥
 unfolding onesOf
 miscounted h = omega (arith, h .counted)
 
@@ -51,38 +51,38 @@ miscounted h = omega (arith, h .counted)
 writes-none : (a : After) → Reasons run52 a → a .says ≡ said Word.settled (1 ∷ []) → (x : List ℕ) → recordAt (a .log) 0 ≡ x → (LeanRecord (jobsOf run52) x → ⊥) → ⊥
 writes-none a h e x q f = f (rw q at (h .settled 1 e .logs .fine 0 (omega arith)))
 
-pub naming-all : (a : After) → Reasons run52 a → a .says ≡ said Word.settled (1 ∷ []) → recordAt (a .log) 0 ≡ line 0 0 0 3 14 → ⊥
+pub naming-all : (a : After) → Reasons run52 a → a .says ≡ said Word.settled (1 ∷ []) → recordAt (a .log) 0 ≡ noted 0 0 0 3 14 → ⊥
 naming-all a h e q = writes-none a h e _ q full
 
-pub dropping-one-too-many : (a : After) → Reasons run52 a → a .says ≡ said Word.settled (1 ∷ []) → recordAt (a .log) 0 ≡ line 0 0 0 1 8 → ⊥
+pub dropping-one-too-many : (a : After) → Reasons run52 a → a .says ≡ said Word.settled (1 ∷ []) → recordAt (a .log) 0 ≡ noted 0 0 0 1 8 → ⊥
 dropping-one-too-many a h e q = writes-none a h e _ q too-few
 
-pub first-total : (a : After) → Reasons run52 a → a .says ≡ said Word.settled (1 ∷ []) → recordAt (a .log) 0 ≡ line 0 0 0 0 0 → ⊥
+pub first-total : (a : After) → Reasons run52 a → a .says ≡ said Word.settled (1 ∷ []) → recordAt (a .log) 0 ≡ noted 0 0 0 0 0 → ⊥
 first-total a h e q = writes-none a h e _ q none-left
 
-pub counting-all : (a : After) → Reasons run52 a → a .says ≡ said Word.settled (1 ∷ []) → recordAt (a .log) 0 ≡ line 0 0 0 3 12 → ⊥
+pub counting-all : (a : After) → Reasons run52 a → a .says ≡ said Word.settled (1 ∷ []) → recordAt (a .log) 0 ≡ noted 0 0 0 3 12 → ⊥
 counting-all a h e q = writes-none a h e _ q miscounted
 
 -- ---- nothing else may move
 
 -- with every member named the record has all three
-full52 : recordAt (fullyNamed run52 .log) 0 ≡ line 0 0 0 3 14
+full52 : recordAt (fullyNamed run52 .log) 0 ≡ noted 0 0 0 3 14
 unfolding narrowedBy naming member onesOf recordAt
 full52 = refl
 
 -- a job that is not one of them
-pub naming-a-stranger : (a : After) → Unmoved run52 a → recordAt (a .log) 0 ≡ line 0 0 0 2 20 → ⊥
+pub naming-a-stranger : (a : After) → Unmoved run52 a → recordAt (a .log) 0 ≡ noted 0 0 0 2 20 → ⊥
 unfolding has
-naming-a-stranger a h q = clash (isMember (line 0 0 0 3 14) 4) (rw (q, full52) at (h .records 0 .members) 4 refl) refl
+naming-a-stranger a h q = clash (isMember (noted 0 0 0 3 14) 4) (rw (q, full52) at (h .records 0 .members) 4 refl) refl
 
 -- another time
-pub moving-elsewhere : (a : After) → Unmoved run52 a → recordAt (a .log) 0 ≡ line 0 0 1 2 12 → ⊥
+pub moving-elsewhere : (a : After) → Unmoved run52 a → recordAt (a .log) 0 ≡ noted 0 0 1 2 12 → ⊥
 moving-elsewhere a h q = let z : _≡_ {A = ℕ} 1 0 = ap (λ (x : List ℕ). x ! timeWord) (rw (q, full52) at (h .records 0 .told)) in omega arith
 
 -- ---- nor may the checker take what is not lean
 
 abbrev fullLog : Call
-fullLog = with 5 crowd (line 0 0 0 3 14)
+fullLog = with 5 crowd (noted 0 0 0 3 14)
 
 not-lean : Reasoned fullLog 0 → ⊥
 unfolding recordAt

@@ -3,3 +3,4 @@ pub mod Runs
 pub mod Cases
 pub mod Logs
 pub mod Checks
+pub mod CloseChecks

@@ -8,10 +8,10 @@ use Rattle.answers.specs.Said.{Word, Said, said}
 use Rattle.timetable.specs.Table.{Call, call}
 use Rattle.replay.specs.Replay.{Checked, finds, checked}
 use Rattle.replay.specs.Promise.{Exactly}
-use Rattle.worked.specs.Rows.{Job, windows, durations, draws, Span, spans}
+use Rattle.worked.specs.Rows.{Job, windowsOf, durationsOf, demandsOf, Span, spans}
 
 abbrev pub with : ℕ → List Job → List ℕ → Call
-with cap js log = call (windows js) (durations js) (draws js) cap log
+with cap js log = call (windowsOf js) (durationsOf js) (demandsOf js) cap log
 
 -- a log: its number, the call, the claimed records, and what is due
 pub record Log : Type 0 where
@@ -21,8 +21,8 @@ pub record Log : Type 0 where
   pub due : Checked
 
 -- the definition finds what is due
-abbrev pub Right : Log → Type 0
-Right x = checked (x .given) (x .count) ≡ x .due
+abbrev pub Due : Log → Type 0
+Due x = checked (x .given) (x .count) ≡ x .due
 
 -- so does whatever meets the contract's field `exactly`
 abbrev pub Pinned : Log → Type 0
@@ -35,10 +35,10 @@ abbrev pub holding : ℕ → List Job → ℕ → List ℕ → List Span → Log
 holding cap js count log xs = logs 40 cap js count log (said Word.holds (count ∷ [])) (spans xs)
 
 abbrev pub clashing : ℕ → List Job → ℕ → List ℕ → ℕ → Log
-clashing cap js count log j = logs 41 cap js count log (said Word.clash (count ∷ j ∷ [])) (windows js)
+clashing cap js count log j = logs 41 cap js count log (said Word.clash (count ∷ j ∷ [])) (windowsOf js)
 
 abbrev pub refusing : ℕ → ℕ → List Job → ℕ → List ℕ → Log
-refusing k cap js count log = logs k cap js count log (said Word.refused (k ∷ [])) (windows js)
+refusing k cap js count log = logs k cap js count log (said Word.refused (k ∷ [])) (windowsOf js)
 
 abbrev pub rejecting : ℕ → ℕ → ℕ → List Job → ℕ → List ℕ → Log
-rejecting code place cap js count log = logs code cap js count log (said Word.rejected (place ∷ code ∷ [])) (windows js)
+rejecting code place cap js count log = logs code cap js count log (said Word.rejected (place ∷ code ∷ [])) (windowsOf js)

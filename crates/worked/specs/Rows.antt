@@ -26,14 +26,14 @@ pub record Job : Type 0 where
 abbrev pub job : ℕ → ℕ → ℕ → ℕ → Job
 job e l p r = record { e = e; l = l; p = p; r = r }
 
-abbrev pub windows : List Job → Win
-windows js = win (map (λ (x : Job). x .e) js) (map (λ (x : Job). x .l) js)
+abbrev pub windowsOf : List Job → Win
+windowsOf js = win (map (λ (x : Job). x .e) js) (map (λ (x : Job). x .l) js)
 
-abbrev pub durations : List Job → List ℕ
-durations js = map (λ (x : Job). x .p) js
+abbrev pub durationsOf : List Job → List ℕ
+durationsOf js = map (λ (x : Job). x .p) js
 
-abbrev pub draws : List Job → List ℕ
-draws js = map (λ (x : Job). x .r) js
+abbrev pub demandsOf : List Job → List ℕ
+demandsOf js = map (λ (x : Job). x .r) js
 
 -- a narrowed window
 pub record Span : Type 0 where
@@ -47,12 +47,12 @@ abbrev pub spans : List Span → Win
 spans xs = win (map (λ (x : Span). x .from) xs) (map (λ (x : Span). x .to) xs)
 
 -- a record's words: job, side, time, count, the first word of the set, and zeros
-abbrev pub line : ℕ → ℕ → ℕ → ℕ → ℕ → List ℕ
-line j s t n w = j ∷ s ∷ t ∷ n ∷ w ∷ replicate (setWords - 1) 0
+abbrev pub noted : ℕ → ℕ → ℕ → ℕ → ℕ → List ℕ
+noted j s t n w = j ∷ s ∷ t ∷ n ∷ w ∷ replicate (setWords - 1) 0
 
 -- the same where the members are all in word w of the set
-abbrev pub lineAt : ℕ → ℕ → ℕ → ℕ → ℕ → ℕ → List ℕ
-lineAt w j s t n x = j ∷ s ∷ t ∷ n ∷ (replicate w 0 ++ (x ∷ replicate (setWords - 1 - w) 0))
+abbrev pub notedAt : ℕ → ℕ → ℕ → ℕ → ℕ → ℕ → List ℕ
+notedAt w j s t n x = j ∷ s ∷ t ∷ n ∷ (replicate w 0 ++ (x ∷ replicate (setWords - 1 - w) 0))
 
 -- the words counted, and the rest of a log of nines as before
 abbrev pub upon : ℕ → List ℕ → List ℕ

@@ -7,39 +7,39 @@ use lib.ListN.{replicate}
 use Rattle.answers.specs.Said.{Word, Said, said}
 use Rattle.timetable.specs.Table.{Call, call, After, leaves, narrowed}
 use Rattle.overloads.specs.Promise.{checked}
-use Rattle.worked.specs.Rows.{RunRow, Job, windows, durations, draws, Span, spans, upon}
+use Rattle.worked.specs.Rows.{RunRow, Job, windowsOf, durationsOf, demandsOf, Span, spans, upon}
 
 abbrev pub lent : ℕ → List Job → ℕ → Call
-lent cap js room = call (windows js) (durations js) (draws js) cap (upon room [])
+lent cap js room = call (windowsOf js) (durationsOf js) (demandsOf js) cap (upon room [])
 
 abbrev pub settles : ℕ → ℕ → List Job → ℕ → ℕ → List Span → List ℕ → RunRow After
 settles number cap js room count xs ws =
     record { number = number; done = narrowed (lent cap js room); due = leaves (said Word.settled (count ∷ [])) (spans xs) (upon room ws) }
 
-abbrev pub clashes : ℕ → ℕ → List Job → ℕ → ℕ → ℕ → List ℕ → RunRow After
-clashes number cap js room count j ws =
-    record { number = number; done = narrowed (lent cap js room); due = leaves (said Word.clash (count ∷ j ∷ [])) (windows js) (upon room ws) }
+abbrev pub clashesWith : ℕ → ℕ → List Job → ℕ → ℕ → ℕ → List ℕ → RunRow After
+clashesWith number cap js room count j ws =
+    record { number = number; done = narrowed (lent cap js room); due = leaves (said Word.clash (count ∷ j ∷ [])) (windowsOf js) (upon room ws) }
 
 -- a clash without a record: job j's window is too short
 abbrev pub tooShort : ℕ → ℕ → List Job → ℕ → ℕ → RunRow After
-tooShort number cap js room j = clashes number cap js room 0 j []
+tooShort number cap js room j = clashesWith number cap js room 0 j []
 
-abbrev pub refuses : ℕ → ℕ → List Job → ℕ → ℕ → List ℕ → RunRow After
-refuses number cap js room k log =
-    record { number = number; done = narrowed (lent cap js room); due = leaves (said Word.refused (k ∷ [])) (windows js) log }
+abbrev pub refusesWith : ℕ → ℕ → List Job → ℕ → ℕ → List ℕ → RunRow After
+refusesWith number cap js room k log =
+    record { number = number; done = narrowed (lent cap js room); due = leaves (said Word.refused (k ∷ [])) (windowsOf js) log }
 
 -- a log of so many words, cleared
 abbrev pub ragged : ℕ → ℕ → List Job → ℕ → ℕ → RunRow After
 ragged number cap js words k =
     record {
       number = number;
-      done = narrowed (call (windows js) (durations js) (draws js) cap (replicate words 9));
-      due = leaves (said Word.refused (k ∷ [])) (windows js) (replicate words 0);
+      done = narrowed (call (windowsOf js) (durationsOf js) (demandsOf js) cap (replicate words 9));
+      due = leaves (said Word.refused (k ∷ [])) (windowsOf js) (replicate words 0);
     }
 
 -- the overload check leaves the windows alone, and looks at no demand
 abbrev pub heads : ℕ → List Job → Said → RunRow After
-heads number js a = record { number = number; done = leaves (checked (windows js) (durations js)) (windows js) []; due = leaves a (windows js) [] }
+heads number js a = record { number = number; done = leaves (checked (windowsOf js) (durationsOf js)) (windowsOf js) []; due = leaves a (windowsOf js) [] }
 
 abbrev pub overloaded : ℕ → List Job → ℕ → ℕ → RunRow After
 overloaded number js a b = heads number js (said Word.overload (a ∷ b ∷ []))
