@@ -41,8 +41,8 @@ pub fn read_parsed(
         return ReadAnswer::Refused(31);
     }
     match parsed {
-        Parsed::Broken(c) => ReadAnswer::Refused(c),
-        Parsed::Entire(z) => read_whole(
+        Parsed::Refused(c) => ReadAnswer::Refused(c),
+        Parsed::Read(z) => read_whole(
             text,
             resource,
             horizon,

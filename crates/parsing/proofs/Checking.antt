@@ -13,11 +13,12 @@ use Rattle.joblist.specs.Limits.{mostTime, mostJobs}
 use Rattle.chains.specs.Paths.{Pair, pair, Precedes, Below}
 use Rattle.texts.specs.Tokens.{Token, tokens}
 use Rattle.texts.specs.Readings.{Read, bad, good}
-use Rattle.parsing.specs.Walk.{Seen, seeing, addPair, addRow, see, Fit, StepSays, FoundSays}
+use Rattle.parsing.specs.Walk.{Seen, seeing, addPair, addRow, see, Fit, StepSays, WalkedSays}
 use Rattle.parsing.specs.declared.Walk.{Walk}
 use Rattle.parsing.specs.declared.Table.{Table}
-use Rattle.parsing.specs.declared.Step.the-variants.{Successor, Begun, Done, Stop}
-use Rattle.parsing.specs.declared.Found.the-variants.{All, Not}
+use Rattle.parsing.specs.declared.Step.{Step}
+use Rattle.parsing.specs.declared.Step.the-variants.{Successor, Begun, Done}
+use Rattle.parsing.specs.declared.Walked.{Walked}
 
 -- what is left, behind what was seen
 abbrev behind : List ℕ → List ℕ → List Pair → Read Seen → Read Seen
@@ -105,7 +106,7 @@ module _ (n : ℕ) (table : Table) (res : ℕ) (s : List ℕ) where
               ∙ rw (t .5, add-one (w .next), take-suc-set durs (w .next) d (rw (g .long-durs) below), take-suc-set dems (w .next) q (rw (g .long-dems) below));
         }
 
-    pub checking-done : StepSays n table res s w Done → FoundSays (seeing n table res 0 0 t₀) s n durs dems (All pairs (w .at))
+    pub checking-done : StepSays n table res s w Done → WalkedSays (seeing n table res 0 0 t₀) s n durs dems (Walked.Read pairs (w .at))
     checking-done t = (
       record { durs = take n durs; dems = take n dems; pairs = g .ps },
       g .same ∙ ap (behind (take (w .next) durs) (take (w .next) dems) (g .ps)) (t .0) ∙ rw (t .1, append-nil (take n durs), append-nil (take n dems), append-nil (g .ps)),
@@ -115,5 +116,5 @@ module _ (n : ℕ) (table : Table) (res : ℕ) (s : List ℕ) where
       g .range,
     )
 
-    pub checking-stop : (c : ℕ) → StepSays n table res s w (Stop c) → FoundSays (seeing n table res 0 0 t₀) s n durs dems (Not c)
-    checking-stop c t = g .same ∙ ap (behind (take (w .next) durs) (take (w .next) dems) (g .ps)) t
+    pub checking-refused : (c : ℕ) → StepSays n table res s w (Step.Refused c) → WalkedSays (seeing n table res 0 0 t₀) s n durs dems (Walked.Refused c)
+    checking-refused c t = g .same ∙ ap (behind (take (w .next) durs) (take (w .next) dems) (g .ps)) t

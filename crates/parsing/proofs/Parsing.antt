@@ -15,15 +15,14 @@ use Rattle.texts.proofs.Readings.{bad-not-good, good-one}
 use Rattle.projects.specs.Projects.{Row, Project, link, tagged, pairsFrom, pairsOf, durations, demandsOn, WithinLimits}
 use Rattle.projects.specs.Patterson.{row, opening, project, patterson}
 use Rattle.parsing.specs.Heads.{headIn, rowIn}
-use Rattle.parsing.specs.Walk.{Seen, seeing, OpenSays, FoundSays}
+use Rattle.parsing.specs.Walk.{Seen, seeing, OpenSays, WalkedSays}
 use Rattle.parsing.specs.Parsed.{onlyPairs, Parsing, ParsedSays}
 use Rattle.parsing.specs.declared.Table.{Table}
 use Rattle.parsing.specs.declared.Table.the-variants.{Whole}
 use Rattle.parsing.specs.declared.Shape.{Shape}
 use Rattle.parsing.specs.declared.Parsed.{Parsed}
-use Rattle.parsing.specs.declared.Parsed.the-variants.{Entire, Broken}
-use Rattle.parsing.specs.declared.parts.Opened.the-variants.{Ready}
-use Rattle.parsing.specs.declared.Found.the-variants.{All}
+use Rattle.parsing.specs.declared.parts.Opened.{Opened}
+use Rattle.parsing.specs.declared.Walked.{Walked}
 use Rattle.parsing.proofs.Takes.{some-code}
 use Rattle.parsing.proofs.Limits.{patterson-takes, patterson-codes}
 use Rattle.parsing.proofs.Whole.{rows-good, rows-bad, project-bad, project-bad₂, project-over, project-good}
@@ -65,12 +64,12 @@ module _ (s : List ℕ) (res : ℕ) where
   unfolding patterson row rowIn headIn
   parsed-closed c e = refused c (project-bad (tokens s) c e)
 
-  module _ (n k cap at : ℕ) (q : OpenSays (opening (tokens s)) s res (Ready n k cap at)) where
+  module _ (n k cap at : ℕ) (q : OpenSays (opening (tokens s)) s res (Opened.Read n k cap at)) where
     pub parsed-rows : (c : ℕ) → seeing n (Whole k) res 0 0 (tokens (drop at s)) ≡ bad c → Refused s c
     unfolding patterson row rowIn headIn
     parsed-rows c e = refused c (project-bad₂ (tokens s) (tokens (drop at s)) (q .0) (q .1) c (rw (q .2, q .3) (rows-bad n (Whole k) res (tokens (drop at s)) c e)))
 
-    module _ (durs dems : List ℕ) (pairs to : ℕ) (f : FoundSays (seeing n (Whole k) res 0 0 (tokens (drop at s))) s n durs dems (All pairs to)) where
+    module _ (durs dems : List ℕ) (pairs to : ℕ) (f : WalkedSays (seeing n (Whole k) res 0 0 (tokens (drop at s))) s n durs dems (Walked.Read pairs to)) where
       pub parsed-over : none? (tokens (drop to s)) ≡ false → Refused s 30
       unfolding patterson row rowIn headIn
       parsed-over h =
@@ -79,7 +78,7 @@ module _ (s : List ℕ) (res : ℕ) where
           refused 30 (project-over (tokens s) (tokens (drop at s)) (q .0) (q .1) (t .0) (tokens (drop to s)) (rw (q .2, q .3) (t .1)) (l .0) (l .1) (l .2))
 
       pub parsed-whole : length durs ≡ mostJobs → none? (tokens (drop to s)) ≡ true
-          → ParsedSays (patterson s) s res durs dems (Entire (record { n = n; k = k; cap = cap; pairs = pairs; table = Whole k; at = at }))
+          → ParsedSays (patterson s) s res durs dems (Parsed.Read (record { n = n; k = k; cap = cap; pairs = pairs; table = Whole k; at = at }))
       unfolding patterson row rowIn headIn
       parsed-whole l h =
           let e = none-left (tokens (drop to s)) h in
@@ -114,5 +113,5 @@ module _ (s : List ℕ) (res : ℕ) (durs dems : List ℕ) (z : Shape) (x : Proj
 
 pub parsed-within : (r : Read Project) (s : List ℕ) (res : ℕ) (durs dems : List ℕ) (p : Parsed) → ParsedSays r s res durs dems p
     → (x : Project) (rest : List Token) → r ≡ good x rest → WithinLimits x
-parsed-within r s res durs dems (Entire z) t x rest e = subst WithinLimits (good-one r (t .0) x [] rest (t .1) e .0) (t .2 .limits)
-parsed-within r s res durs dems (Broken c) t x rest e = bad-not-good r c x rest (t .0) e
+parsed-within r s res durs dems (Parsed.Read z) t x rest e = subst WithinLimits (good-one r (t .0) x [] rest (t .1) e .0) (t .2 .limits)
+parsed-within r s res durs dems (Parsed.Refused c) t x rest e = bad-not-good r c x rest (t .0) e

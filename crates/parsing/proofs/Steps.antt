@@ -13,7 +13,7 @@ use Rattle.parsing.specs.Heads.{headIn}
 use Rattle.parsing.specs.Walk.{seeing, see, Fit, StepSays}
 use Rattle.parsing.specs.declared.Table.{Table}
 use Rattle.parsing.specs.declared.Walk.{Walk}
-use Rattle.parsing.specs.declared.Step.the-variants.{Successor, Begun, Done, Stop}
+use Rattle.parsing.specs.declared.Step.the-variants.{Successor, Begun, Done, Refused}
 use Rattle.parsing.proofs.Seeing.{seeing-pair, seeing-bad, seeing-end, seeing-headless, seeing-row}
 use Rattle.parsing.proofs.Takes.{link-takes, head-in-takes}
 
@@ -31,8 +31,8 @@ module _ (n : ℕ) (table : Table) (res : ℕ) (s : List ℕ) (w : Walk) (f : Fi
         omega arith,
       )
 
-  pub step-stop : (c : ℕ) → 0 < w .left → link n (tokens (drop (w .at) s)) ≡ bad c → StepSays n table res s w (Stop c)
-  step-stop c h e =
+  pub step-refused : (c : ℕ) → 0 < w .left → link n (tokens (drop (w .at) s)) ≡ bad c → StepSays n table res s w (Refused c)
+  step-refused c h e =
       let z : w .left ≡ suc (w .left - 1) = omega arith in
       ap (λ (x : ℕ). seeing n table res (w .next) x (tokens (drop (w .at) s))) z ∙ seeing-bad n table res (w .next) (w .left - 1) (tokens (drop (w .at) s)) c e
 
@@ -43,7 +43,7 @@ module _ (n : ℕ) (table : Table) (res : ℕ) (s : List ℕ) (w : Walk) (f : Fi
     pub step-done : w .next ≡ n → StepSays n table res s w Done
     step-done e = (none-left ∙ seeing-end n table res (w .next) (tokens (drop (w .at) s)) (omega arith), e)
 
-    pub step-headless : (c : ℕ) → (w .next ≡ n → ⊥) → headIn table n (w .next) (tokens (drop (w .at) s)) ≡ bad c → StepSays n table res s w (Stop c)
+    pub step-headless : (c : ℕ) → (w .next ≡ n → ⊥) → headIn table n (w .next) (tokens (drop (w .at) s)) ≡ bad c → StepSays n table res s w (Refused c)
     step-headless c d e = none-left ∙ seeing-headless n table res (w .next) (tokens (drop (w .at) s)) c (omega (arith, d, f .begun)) e
 
     pub step-begun : (d q m to : ℕ) (x : Head) → n ≤ mostJobs → (w .next ≡ n → ⊥) → headIn table n (w .next) (tokens (drop (w .at) s)) ≡ good x (tokens (drop to s))

@@ -13,7 +13,6 @@ use Rattle.parsing.specs.declared.Table.{Table}
 use Rattle.parsing.specs.declared.Walk.{Walk}
 use Rattle.parsing.specs.declared.Shape.{Shape}
 use Rattle.parsing.specs.declared.Parsed.{Parsed}
-use Rattle.parsing.specs.declared.Parsed.the-variants.{Entire, Broken}
 
 -- of what rows say, the pairs
 abbrev pub onlyPairs : Read Seen → Read (List Pair)
@@ -42,5 +41,5 @@ pub record Parsing (s : List ℕ) (res : ℕ) (durs dems : List ℕ) (z : Shape)
 
 -- by the answer: the text says a project, or meets a refusal, which has a number
 abbrev pub ParsedSays : Read Project → List ℕ → ℕ → List ℕ → List ℕ → Parsed → Type 0
-ParsedSays r s res durs dems (Entire z) = (x : Project) × (r ≡ good x []) × Parsing s res durs dems z x
-ParsedSays r s res durs dems (Broken c) = (r ≡ bad c) × (c ≡ 0 → ⊥)
+ParsedSays r s res durs dems (Parsed.Read z) = (x : Project) × (r ≡ good x []) × Parsing s res durs dems z x
+ParsedSays r s res durs dems (Parsed.Refused c) = (r ≡ bad c) × (c ≡ 0 → ⊥)

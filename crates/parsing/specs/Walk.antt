@@ -10,36 +10,32 @@ use Rattle.chains.specs.Paths.{Pair, pair, Precedes, Below}
 use Rattle.texts.specs.Tokens.{Token, tokens}
 use Rattle.texts.specs.Readings.{Read, bad, good, andThen, one, times}
 use Rattle.scanner.specs.declared.Got.{Got}
-use Rattle.scanner.specs.declared.Got.the-variants.{Good, Bad}
 use Rattle.projects.specs.Projects.{Head, link, tagged, pairsFrom, durations, demandsOn}
 use Rattle.projects.specs.Patterson.{head, Opening}
 use Rattle.parsing.specs.declared.Table.{Table}
 use Rattle.parsing.specs.Heads.{rowIn}
-use Rattle.parsing.specs.declared.parts.HeadGot.{HeadGot}
-use Rattle.parsing.specs.declared.parts.HeadGot.the-variants.{Line, NoLine}
+use Rattle.parsing.specs.declared.parts.RowHead.{RowHead}
 use Rattle.parsing.specs.declared.parts.Opened.{Opened}
-use Rattle.parsing.specs.declared.parts.Opened.the-variants.{Ready, Closed}
 use Rattle.parsing.specs.declared.Walk.{Walk}
 use Rattle.parsing.specs.declared.Step.{Step}
-use Rattle.parsing.specs.declared.Step.the-variants.{Successor, Begun, Done, Stop}
-use Rattle.parsing.specs.declared.Found.{Found}
-use Rattle.parsing.specs.declared.Found.the-variants.{All, Not}
+use Rattle.parsing.specs.declared.Step.the-variants.{Successor, Begun, Done}
+use Rattle.parsing.specs.declared.Walked.{Walked}
 
 -- of numbers read, the one at `res`
 abbrev pub PickSays : Read (List ℕ) → List ℕ → ℕ → Got → Type 0
-PickSays r s res (Good v to) = (xs : List ℕ) × (r ≡ good xs (tokens (drop to s))) × (xs ! res ≡ v)
-PickSays r s res (Bad c) = r ≡ bad c
+PickSays r s res (Got.Read v to) = (xs : List ℕ) × (r ≡ good xs (tokens (drop to s))) × (xs ! res ≡ v)
+PickSays r s res (Got.Refused c) = r ≡ bad c
 
 -- the head of a row
-abbrev pub HeadSays : Read Head → List ℕ → ℕ → HeadGot → Type 0
-HeadSays r s res (Line d q c to) = (h : Head) × (r ≡ good h (tokens (drop to s))) × (h .duration ≡ d) × (h .demands ! res ≡ q) × (h .count ≡ c)
-HeadSays r s res (NoLine c) = r ≡ bad c
+abbrev pub HeadSays : Read Head → List ℕ → ℕ → RowHead → Type 0
+HeadSays r s res (RowHead.Read d q c to) = (h : Head) × (r ≡ good h (tokens (drop to s))) × (h .duration ≡ d) × (h .demands ! res ≡ q) × (h .count ≡ c)
+HeadSays r s res (RowHead.Refused c) = r ≡ bad c
 
 -- the counts, and one of the capacities
 abbrev pub OpenSays : Read Opening → List ℕ → ℕ → Opened → Type 0
-OpenSays r s res (Ready n k cap at) =
+OpenSays r s res (Opened.Read n k cap at) =
     (o : Opening) × (r ≡ good o (tokens (drop at s))) × (o .jobs ≡ n) × (o .resources ≡ k) × (o .capacities ! res ≡ cap) × (n ≤ mostJobs) × (length (o .capacities) ≡ k)
-OpenSays r s res (Closed c) = r ≡ bad c
+OpenSays r s res (Opened.Refused c) = r ≡ bad c
 
 -- what rows say of one resource
 pub record Seen : Type 0 where
@@ -84,10 +80,10 @@ StepSays n table res s w (Successor v u) =
 StepSays n table res s w (Begun d q u) =
     (see n table res s w ≡ addRow d q (see n table res s u)) × Fit n u × Further s w u × (d ≤ mostTime) × (w .left ≡ 0) × (u .next ≡ w .next + 1) × (u .left ≤ mostJobs)
 StepSays n table res s w Done = (see n table res s w ≡ good (record { durs = []; dems = []; pairs = [] }) (tokens (drop (w .at) s))) × (w .next ≡ n)
-StepSays n table res s w (Stop c) = see n table res s w ≡ bad c
+StepSays n table res s w (Step.Refused c) = see n table res s w ≡ bad c
 
 -- the rows checked: durations and demands stand in the first n places
-abbrev pub FoundSays : Read Seen → List ℕ → ℕ → List ℕ → List ℕ → Found → Type 0
-FoundSays r s n durs dems (All pairs to) =
+abbrev pub WalkedSays : Read Seen → List ℕ → ℕ → List ℕ → List ℕ → Walked → Type 0
+WalkedSays r s n durs dems (Walked.Read pairs to) =
     (x : Seen) × (r ≡ good x (tokens (drop to s))) × (x .durs ≡ take n durs) × (x .dems ≡ take n dems) × (length (x .pairs) ≡ pairs) × Below n (Precedes (x .pairs))
-FoundSays r s n durs dems (Not c) = r ≡ bad c
+WalkedSays r s n durs dems (Walked.Refused c) = r ≡ bad c

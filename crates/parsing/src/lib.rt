@@ -2,8 +2,8 @@
 // a table in either layout, and all of its rows checked.
 mod parts;
 
-use parts::HeadGot;
 use parts::Opened;
+use parts::RowHead;
 use parts::open_text;
 use parts::read_front;
 use parts::read_link;
@@ -16,7 +16,7 @@ ghost use Rattle.lists.specs.Lists.{_!_};
 ghost use Rattle.joblist.specs.Limits.{mostTime, mostJobs};
 ghost use Rattle.texts.specs.Tokens.{tokens};
 ghost use Rattle.projects.specs.Patterson.{patterson};
-ghost use Rattle.parsing.specs.Walk.{Fit, StepSays, FoundSays, seeing};
+ghost use Rattle.parsing.specs.Walk.{Fit, StepSays, WalkedSays, seeing};
 ghost use Rattle.parsing.specs.Parsed.{ParsedSays};
 
 // A table of rows: whole jobs on so many resources, as in Patterson's layout; or PSPLIB's precedence relations, and its requests on so many resources.
@@ -38,13 +38,13 @@ pub enum Step {
     Successor(u32, Walk),
     Begun(u32, u32, Walk),
     Done,
-    Stop(u32),
+    Refused(u32),
 }
 
 // The number of pairs and the place behind the rows, or a refusal.
-pub enum Found {
-    All(usize, usize),
-    Not(u32),
+pub enum Walked {
+    Read(usize, usize),
+    Refused(u32),
 }
 
 // Job count, resource count, the chosen capacity, the pair count, and where the rows with the pairs stand.
@@ -59,8 +59,8 @@ pub struct Shape {
 
 // A text read whole, or its refusal.
 pub enum Parsed {
-    Entire(Shape),
-    Broken(u32),
+    Read(Shape),
+    Refused(u32),
 }
 
 // One step along the rows.
@@ -73,7 +73,7 @@ pub fn advance(text: &[u8], n: u32, table: Table, res: u32, w: Walk) -> Step
     let left = w.left;
     if 0 < left {
         match read_link(text, at, n) {
-            Got::Good(v, to) => {
+            Got::Read(v, to) => {
                 return Step::Successor(
                     v,
                     Walk {
@@ -83,8 +83,8 @@ pub fn advance(text: &[u8], n: u32, table: Table, res: u32, w: Walk) -> Step
                     },
                 );
             }
-            Got::Bad(c) => {
-                return Step::Stop(c);
+            Got::Refused(c) => {
+                return Step::Refused(c);
             }
         }
     }
@@ -92,7 +92,7 @@ pub fn advance(text: &[u8], n: u32, table: Table, res: u32, w: Walk) -> Step
         return Step::Done;
     }
     match read_front(text, at, n, table, next, res) {
-        HeadGot::Line(d, q, m, to) => Step::Begun(
+        RowHead::Read(d, q, m, to) => Step::Begun(
             d,
             q,
             Walk {
@@ -101,7 +101,7 @@ pub fn advance(text: &[u8], n: u32, table: Table, res: u32, w: Walk) -> Step
                 at: to,
             },
         ),
-        HeadGot::NoLine(c) => Step::Stop(c),
+        RowHead::Refused(c) => Step::Refused(c),
     }
 }
 
@@ -114,9 +114,9 @@ pub fn validate(
     res: u32,
     dur: &mut [u32; screen::MOST_JOBS],
     dem: &mut [u32; screen::MOST_JOBS],
-) -> Found
+) -> Walked
     requires { ⌜ (n ≤ mostJobs) × (length (now dur) ≡ mostJobs) × (length (now dem) ≡ mostJobs) × ((j : ℕ) → now dur ! j ≤ mostTime) ⌝ }
-    ensures { λ r. ⌜ FoundSays (seeing n table res 0 0 (tokens (drop at (now (text .entry))))) (now (text .entry)) n (now (dur .exit)) (now (dem .exit)) r × (length (now (dur .exit)) ≡ mostJobs) × (length (now (dem .exit)) ≡ mostJobs) × ((j : ℕ) → now (dur .exit) ! j ≤ mostTime) ⌝ }
+    ensures { λ r. ⌜ WalkedSays (seeing n table res 0 0 (tokens (drop at (now (text .entry))))) (now (text .entry)) n (now (dur .exit)) (now (dem .exit)) r × (length (now (dur .exit)) ≡ mostJobs) × (length (now (dem .exit)) ≡ mostJobs) × ((j : ℕ) → now (dur .exit) ! j ≤ mostTime) ⌝ }
 {
     let mut w = Walk {
         next: 0,
@@ -138,10 +138,10 @@ pub fn validate(
             }
             Step::Done => {
                 let to = w.at;
-                return Found::All(pairs, to);
+                return Walked::Read(pairs, to);
             }
-            Step::Stop(c) => {
-                return Found::Not(c);
+            Step::Refused(c) => {
+                return Walked::Refused(c);
             }
         }
     }
@@ -158,16 +158,16 @@ pub fn parse(
     ensures { λ r. ⌜ ParsedSays (patterson (now (text .entry))) (now (text .entry)) res (now (dur .exit)) (now (dem .exit)) r × (length (now (dur .exit)) ≡ mostJobs) × (length (now (dem .exit)) ≡ mostJobs) × ((j : ℕ) → now (dur .exit) ! j ≤ mostTime) ⌝ }
 {
     match open_text(text, res) {
-        Opened::Closed(c) => Parsed::Broken(c),
-        Opened::Ready(n, k, cap, at) => {
+        Opened::Refused(c) => Parsed::Refused(c),
+        Opened::Read(n, k, cap, at) => {
             let table = Table::Whole(k);
             match validate(text, at, n, table, res, dur, dem) {
-                Found::Not(c) => Parsed::Broken(c),
-                Found::All(pairs, to) => {
+                Walked::Refused(c) => Parsed::Refused(c),
+                Walked::Read(pairs, to) => {
                     if !scanner::is_over(text, to) {
-                        return Parsed::Broken(30);
+                        return Parsed::Refused(30);
                     }
-                    Parsed::Entire(Shape {
+                    Parsed::Read(Shape {
                         n,
                         k,
                         cap,

@@ -17,15 +17,15 @@ ghost use Rattle.parsing.specs.Heads.{relationHead, requestHead, headIn}
 ghost use Rattle.parsing.specs.Walk.{PickSays, HeadSays, OpenSays};
 
 // Duration, demand of the chosen resource, successor count, and the place behind them; or a refusal.
-pub enum HeadGot {
-    Line(u32, u32, u32, usize),
-    NoLine(u32),
+pub enum RowHead {
+    Read(u32, u32, u32, usize),
+    Refused(u32),
 }
 
 // Job count, resource count, the chosen capacity (0 where there is no such resource) and the place of the rows; or a refusal.
 pub enum Opened {
-    Ready(u32, u32, u32, usize),
-    Closed(u32),
+    Read(u32, u32, u32, usize),
+    Refused(u32),
 }
 
 // A successor, from 0.
@@ -33,13 +33,13 @@ pub fn read_link(text: &[u8], at: usize, n: u32) -> Got
     ensures { λ r. ⌜ GotSays (link n (tokens (drop at (now (text .entry))))) (now (text .entry)) r ⌝ }
 {
     match scanner::next_up_to(text, at, n, 32) {
-        Got::Good(v, to) => {
+        Got::Read(v, to) => {
             if v == 0 {
-                return Got::Bad(32);
+                return Got::Refused(32);
             }
-            Got::Good(v - 1, to)
+            Got::Read(v - 1, to)
         }
-        Got::Bad(c) => Got::Bad(c),
+        Got::Refused(c) => Got::Refused(c),
     }
 }
 
@@ -62,30 +62,30 @@ pub fn read_many(text: &[u8], at: usize, m: u32, top: u32, res: u32) -> Got
     let mut i: u32 = 0;
     while i < m {
         match scanner::next_up_to(text, to, top, 31) {
-            Got::Good(v, end) => {
+            Got::Read(v, end) => {
                 picked = choose(i, res, v, picked);
                 to = end;
             }
-            Got::Bad(c) => {
-                return Got::Bad(c);
+            Got::Refused(c) => {
+                return Got::Refused(c);
             }
         }
         i += 1;
     }
-    Got::Good(picked, to)
+    Got::Read(picked, to)
 }
 
 // A row up to its successor count.
-fn read_head(text: &[u8], at: usize, n: u32, k: u32, res: u32) -> HeadGot
+fn read_head(text: &[u8], at: usize, n: u32, k: u32, res: u32) -> RowHead
     ensures { λ r. ⌜ HeadSays (head n k (tokens (drop at (now (text .entry))))) (now (text .entry)) res r ⌝ }
 {
     match scanner::next_up_to(text, at, screen::MOST_TIME, 31) {
-        Got::Bad(c) => HeadGot::NoLine(c),
-        Got::Good(d, a) => match read_many(text, a, k, screen::MOST_DEMAND, res) {
-            Got::Bad(c) => HeadGot::NoLine(c),
-            Got::Good(q, b) => match scanner::next_up_to(text, b, n, 31) {
-                Got::Bad(c) => HeadGot::NoLine(c),
-                Got::Good(m, e) => HeadGot::Line(d, q, m, e),
+        Got::Refused(c) => RowHead::Refused(c),
+        Got::Read(d, a) => match read_many(text, a, k, screen::MOST_DEMAND, res) {
+            Got::Refused(c) => RowHead::Refused(c),
+            Got::Read(q, b) => match scanner::next_up_to(text, b, n, 31) {
+                Got::Refused(c) => RowHead::Refused(c),
+                Got::Read(m, e) => RowHead::Read(d, q, m, e),
             },
         },
     }
@@ -97,44 +97,44 @@ fn read_numbered(text: &[u8], at: usize, j: u32) -> Got
     ensures { λ r. ⌜ GotSays (numbered j (tokens (drop at (now (text .entry))))) (now (text .entry)) r ⌝ }
 {
     match scanner::next_exactly(text, at, j + 1) {
-        Got::Bad(c) => Got::Bad(c),
-        Got::Good(_, mode) => scanner::next_exactly(text, mode, 1),
+        Got::Refused(c) => Got::Refused(c),
+        Got::Read(_, mode) => scanner::next_exactly(text, mode, 1),
     }
 }
 
 // The head of a row of precedence relations.
-fn read_relation(text: &[u8], at: usize, n: u32, j: u32, res: u32) -> HeadGot
+fn read_relation(text: &[u8], at: usize, n: u32, j: u32, res: u32) -> RowHead
     requires { ⌜ j < mostJobs ⌝ }
     ensures { λ r. ⌜ HeadSays (relationHead n j (tokens (drop at (now (text .entry))))) (now (text .entry)) res r ⌝ }
 {
     match read_numbered(text, at, j) {
-        Got::Bad(c) => HeadGot::NoLine(c),
-        Got::Good(_, count) => match scanner::next_up_to(text, count, n, 31) {
-            Got::Bad(c) => HeadGot::NoLine(c),
-            Got::Good(m, e) => HeadGot::Line(0, 0, m, e),
+        Got::Refused(c) => RowHead::Refused(c),
+        Got::Read(_, count) => match scanner::next_up_to(text, count, n, 31) {
+            Got::Refused(c) => RowHead::Refused(c),
+            Got::Read(m, e) => RowHead::Read(0, 0, m, e),
         },
     }
 }
 
 // The head of a row of requests.
-fn read_request(text: &[u8], at: usize, k: u32, j: u32, res: u32) -> HeadGot
+fn read_request(text: &[u8], at: usize, k: u32, j: u32, res: u32) -> RowHead
     requires { ⌜ j < mostJobs ⌝ }
     ensures { λ r. ⌜ HeadSays (requestHead k j (tokens (drop at (now (text .entry))))) (now (text .entry)) res r ⌝ }
 {
     match read_numbered(text, at, j) {
-        Got::Bad(c) => HeadGot::NoLine(c),
-        Got::Good(_, duration) => match scanner::next_up_to(text, duration, screen::MOST_TIME, 31) {
-            Got::Bad(c) => HeadGot::NoLine(c),
-            Got::Good(d, demands) => match read_many(text, demands, k, screen::MOST_DEMAND, res) {
-                Got::Bad(c) => HeadGot::NoLine(c),
-                Got::Good(q, e) => HeadGot::Line(d, q, 0, e),
+        Got::Refused(c) => RowHead::Refused(c),
+        Got::Read(_, duration) => match scanner::next_up_to(text, duration, screen::MOST_TIME, 31) {
+            Got::Refused(c) => RowHead::Refused(c),
+            Got::Read(d, demands) => match read_many(text, demands, k, screen::MOST_DEMAND, res) {
+                Got::Refused(c) => RowHead::Refused(c),
+                Got::Read(q, e) => RowHead::Read(d, q, 0, e),
             },
         },
     }
 }
 
 // What stands before the successors of row j.
-pub fn read_front(text: &[u8], at: usize, n: u32, table: Table, j: u32, res: u32) -> HeadGot
+pub fn read_front(text: &[u8], at: usize, n: u32, table: Table, j: u32, res: u32) -> RowHead
     requires { ⌜ j < mostJobs ⌝ }
     ensures { λ r. ⌜ HeadSays (headIn table n j (tokens (drop at (now (text .entry))))) (now (text .entry)) res r ⌝ }
 {
@@ -150,12 +150,12 @@ pub fn open_text(text: &[u8], res: u32) -> Opened
     ensures { λ r. ⌜ OpenSays (opening (tokens (now (text .entry)))) (now (text .entry)) res r ⌝ }
 {
     match scanner::next_up_to(text, 0, screen::MOST_JOBS as u32, 31) {
-        Got::Bad(c) => Opened::Closed(c),
-        Got::Good(n, a) => match scanner::next_up_to(text, a, screen::MOST_RESOURCES, 31) {
-            Got::Bad(c) => Opened::Closed(c),
-            Got::Good(k, b) => match read_many(text, b, k, screen::MOST_DEMAND, res) {
-                Got::Bad(c) => Opened::Closed(c),
-                Got::Good(cap, at) => Opened::Ready(n, k, cap, at),
+        Got::Refused(c) => Opened::Refused(c),
+        Got::Read(n, a) => match scanner::next_up_to(text, a, screen::MOST_RESOURCES, 31) {
+            Got::Refused(c) => Opened::Refused(c),
+            Got::Read(k, b) => match read_many(text, b, k, screen::MOST_DEMAND, res) {
+                Got::Refused(c) => Opened::Refused(c),
+                Got::Read(cap, at) => Opened::Read(n, k, cap, at),
             },
         },
     }

@@ -51,5 +51,5 @@ module _ (n : ℕ) (table : Table) (s : List ℕ) (w₀ w : Walk) (g : Pulling n
   pub pulling-done : StepSays n table 0 s w steps.Done → PullSays n table s w₀ NoMore
   pulling-done t ps end e = let q : good [] (tokens (drop (w .at) s)) ≡ good ps end = sym (ap onlyPairs (t .0)) ∙ sym (g .same) ∙ e in cc
 
-  pub pulling-stop : (c : ℕ) → StepSays n table 0 s w (steps.Stop c) → PullSays n table s w₀ NoMore
+  pub pulling-stop : (c : ℕ) → StepSays n table 0 s w (steps.Refused c) → PullSays n table s w₀ NoMore
   pulling-stop c t ps end e = bad-not-good (bad c) c ps end refl (sym (ap onlyPairs t) ∙ sym (g .same) ∙ e)

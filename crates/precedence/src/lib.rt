@@ -48,7 +48,7 @@ pub fn next_pair(text: &[u8], n: u32, table: Table, start: Walk) -> Pull
             Step::Done => {
                 return Pull::NoMore;
             }
-            Step::Stop(_) => {
+            Step::Refused(_) => {
                 return Pull::NoMore;
             }
         }

@@ -9,7 +9,6 @@ use Rattle.lists.specs.Lists.{_!_}
 use Rattle.scanner.specs.declared.scan.Next.{Next}
 use Rattle.scanner.specs.declared.scan.Next.the-variants.{Number, Other, End}
 use Rattle.scanner.specs.declared.Got.{Got}
-use Rattle.scanner.specs.declared.Got.the-variants.{Good, Bad}
 use Rattle.texts.specs.Tokens.{blank, Token, number, other, more, tokens}
 use Rattle.texts.specs.Readings.{Read, bad, good}
 
@@ -41,8 +40,8 @@ Heads ts s End = ts ≡ []
 
 -- what was read, up to the place behind it
 abbrev pub GotSays : Read ℕ → List ℕ → Got → Type 0
-GotSays r s (Good v to) = r ≡ good v (tokens (drop to s))
-GotSays r s (Bad c) = r ≡ bad c
+GotSays r s (Got.Read v to) = r ≡ good v (tokens (drop to s))
+GotSays r s (Got.Refused c) = r ≡ bad c
 
 -- whether no token is left
 abbrev pub none? : List Token → Bool

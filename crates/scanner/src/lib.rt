@@ -11,8 +11,8 @@ ghost use Rattle.scanner.specs.Scan.{GotSays, none?};
 
 // A number with the place behind it, or a refusal.
 pub enum Got {
-    Good(u32, usize),
-    Bad(u32),
+    Read(u32, usize),
+    Refused(u32),
 }
 
 // The next number from `at` on: 30 where none stands there, `code` where it is above `top`.
@@ -22,12 +22,12 @@ pub fn next_up_to(text: &[u8], at: usize, top: u32, code: u32) -> Got
     match next_number(text, at) {
         Next::Number(v, to) => {
             if v <= (top as u64) {
-                return Got::Good(v as u32, to);
+                return Got::Read(v as u32, to);
             }
-            Got::Bad(code)
+            Got::Refused(code)
         }
-        Next::Other => Got::Bad(30),
-        Next::End => Got::Bad(30),
+        Next::Other => Got::Refused(30),
+        Next::End => Got::Refused(30),
     }
 }
 
@@ -36,13 +36,13 @@ pub fn next_exactly(text: &[u8], at: usize, v: u32) -> Got
     ensures { λ r. ⌜ GotSays (exactly v (tokens (drop at (now (text .entry))))) (now (text .entry)) r ⌝ }
 {
     match next_up_to(text, at, v, 30) {
-        Got::Good(x, to) => {
+        Got::Read(x, to) => {
             if x != v {
-                return Got::Bad(30);
+                return Got::Refused(30);
             }
-            Got::Good(x, to)
+            Got::Read(x, to)
         }
-        Got::Bad(c) => Got::Bad(c),
+        Got::Refused(c) => Got::Refused(c),
     }
 }
 

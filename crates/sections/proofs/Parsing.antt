@@ -13,11 +13,11 @@ use Rattle.headings.specs.Lines.{behindLines, counted}
 use Rattle.headings.specs.Headings.{marks, inOrder, section}
 use Rattle.projects.specs.Projects.{Project, pairsFrom, durations, demandsOn}
 use Rattle.projects.specs.Tables.{relation, Need, request}
-use Rattle.parsing.specs.Walk.{Seen, seeing, FoundSays}
+use Rattle.parsing.specs.Walk.{Seen, seeing, WalkedSays}
 use Rattle.parsing.specs.Parsed.{onlyPairs, comes, first, ParsedSays}
 use Rattle.parsing.specs.declared.Table.the-variants.{Relations, Requests}
-use Rattle.parsing.specs.declared.Found.the-variants.{All}
-use Rattle.parsing.specs.declared.Parsed.the-variants.{Entire}
+use Rattle.parsing.specs.declared.Walked.{Walked}
+use Rattle.parsing.specs.declared.Parsed.{Parsed}
 use Rattle.parsing.proofs.Takes.{some-code}
 use Rattle.parsing.proofs.Tables.{linked, needed, relations-said, requests-said}
 use Rattle.parsing.proofs.Whole.{viewed, rows-good, rows-bad}
@@ -46,7 +46,7 @@ module _ (n res : ℕ) (s relations : List ℕ) (at : ℕ) (here : drop at s ≡
   no-relation : (c : ℕ) → seeing n Relations res 0 0 (tokens (drop at s)) ≡ bad c → times (relation n) 0 n (tokens (behindLines 2 relations)) ≡ bad c
   no-relation c e = said-bad (map linked) _ c (sym (relations-said n (tokens (behindLines 2 relations))) ∙ rw (← here) (rows-bad n Relations res (tokens (drop at s)) c e))
 
-  pub relations-read : (durs dems : List ℕ) (pairs to : ℕ) → FoundSays (seeing n Relations res 0 0 (tokens (drop at s))) s n durs dems (All pairs to) → Related n s relations at pairs
+  pub relations-read : (durs dems : List ℕ) (pairs to : ℕ) → WalkedSays (seeing n Relations res 0 0 (tokens (drop at s))) s n durs dems (Walked.Read pairs to) → Related n s relations at pairs
   relations-read durs dems pairs to f =
       let t = rows-good n Relations res (tokens (drop at s)) (tokens (drop to s)) (f .0) (f .1) in
       let q = said-good (map linked) (times (relation n) 0 n (tokens (drop at s))) (t .0) (tokens (drop to s)) (sym (relations-said n (tokens (drop at s))) ∙ t .1) in
@@ -63,7 +63,7 @@ module _ (n k res : ℕ) (s requests : List ℕ) (to : ℕ) (here : drop to s �
   no-request : (c : ℕ) → seeing n (Requests k) res 0 0 (tokens (drop to s)) ≡ bad c → times (request k) 0 n (tokens (behindLines 3 requests)) ≡ bad c
   no-request c e = said-bad (map needed) _ c (sym (requests-said n k (tokens (behindLines 3 requests))) ∙ rw (← here) (rows-bad n (Requests k) res (tokens (drop to s)) c e))
 
-  pub requests-read : (durs dems : List ℕ) (m end : ℕ) → FoundSays (seeing n (Requests k) res 0 0 (tokens (drop to s))) s n durs dems (All m end) → Requested n k res requests durs dems
+  pub requests-read : (durs dems : List ℕ) (m end : ℕ) → WalkedSays (seeing n (Requests k) res 0 0 (tokens (drop to s))) s n durs dems (Walked.Read m end) → Requested n k res requests durs dems
   requests-read durs dems m end f =
       let t = rows-good n (Requests k) res (tokens (drop to s)) (tokens (drop end s)) (f .0) (f .1) in
       let q = said-good (map needed) (times (request k) 0 n (tokens (drop to s))) (t .0) (tokens (drop end s)) (sym (requests-said n k (tokens (drop to s))) ∙ t .1) in
@@ -103,7 +103,7 @@ module _ (n k res : ℕ) (s relations requests capacities : List ℕ) where
           refused c (rw (r .read, q .read, p))
 
       pub tables-read : (cs : List ℕ) (rest : List Token) (cap : ℕ) → n ≤ mostJobs → many mostDemand k (tokens (drop from s)) ≡ good cs rest → cs ! res ≡ cap
-          → ParsedSays (tables n k relations requests capacities) s res durs dems (Entire (record { n = n; k = k; cap = cap; pairs = pairs; table = Relations; at = at }))
+          → ParsedSays (tables n k relations requests capacities) s res durs dems (Parsed.Read (record { n = n; k = k; cap = cap; pairs = pairs; table = Relations; at = at }))
       unfolding tables
       tables-read cs rest cap few e picked =
           let long : length (r .sss) ≡ n = relations-take n _ (r .end) (r .sss) (r .read) .0 in

@@ -1,9 +1,9 @@
 // A text of the PSPLIB layout read whole (document 01, 'Library layouts'; refusals of document 02, Items 1 and 13): its headings, the two counts, and
 // its three tables.
-use parsing::Found;
 use parsing::Parsed;
 use parsing::Shape;
 use parsing::Table;
+use parsing::Walked;
 use scanner::Got;
 use seeker::Count;
 ghost use mathlib.Core.Path.{_≡_};
@@ -38,13 +38,13 @@ pub fn parse(
 {
     let mut places = [0usize; seeker::HEADINGS];
     if !seeker::find(text, &mut places) {
-        return Parsed::Broken(35);
+        return Parsed::Refused(35);
     }
     match seeker::count_at(text, places[0], screen::MOST_JOBS as u32) {
-        Count::Not(c) => Parsed::Broken(c),
-        Count::Is(n) => match seeker::count_at(text, places[1], screen::MOST_RESOURCES) {
-            Count::Not(c) => Parsed::Broken(c),
-            Count::Is(k) => read_tables(
+        Count::Refused(c) => Parsed::Refused(c),
+        Count::Read(n) => match seeker::count_at(text, places[1], screen::MOST_RESOURCES) {
+            Count::Refused(c) => Parsed::Refused(c),
+            Count::Read(k) => read_tables(
                 text,
                 n,
                 k,
@@ -76,16 +76,16 @@ fn read_tables(
 {
     let at = seeker::behind_lines(text, from.relations, BEHIND_NAMES);
     match parsing::validate(text, at, n, Table::Relations, res, dur, dem) {
-        Found::Not(c) => Parsed::Broken(c),
-        Found::All(pairs, _) => {
+        Walked::Refused(c) => Parsed::Refused(c),
+        Walked::Read(pairs, _) => {
             let requests = seeker::behind_lines(text, from.requests, BEHIND_HYPHENS);
             match parsing::validate(text, requests, n, Table::Requests(k), res, dur, dem) {
-                Found::Not(c) => Parsed::Broken(c),
-                Found::All(_, _) => {
+                Walked::Refused(c) => Parsed::Refused(c),
+                Walked::Read(_, _) => {
                     let capacities = seeker::behind_lines(text, from.capacities, BEHIND_NAMES);
                     match parsing::read_many(text, capacities, k, screen::MOST_DEMAND, res) {
-                        Got::Bad(c) => Parsed::Broken(c),
-                        Got::Good(cap, _) => Parsed::Entire(Shape {
+                        Got::Refused(c) => Parsed::Refused(c),
+                        Got::Read(cap, _) => Parsed::Read(Shape {
                             n,
                             k,
                             cap,

@@ -13,7 +13,6 @@ use Rattle.headings.specs.Headings.{headings, markOf, marks, inOrder, section}
 use Rattle.seeker.specs.declared.Stands.{Stands}
 use Rattle.seeker.specs.declared.Stands.the-variants.{Heading, Nothing}
 use Rattle.seeker.specs.declared.Count.{Count}
-use Rattle.seeker.specs.declared.Count.the-variants.{Is, Not}
 
 -- from `at` up to `to` stands the rest of a line
 pub record LineTo (s : List ℕ) (at to : ℕ) : Type 0 where
@@ -33,5 +32,5 @@ FindSays s places false = inOrder 0 (marks s) ≡ false
 
 -- the number that was read, or the refusal
 abbrev pub CountSays : Read ℕ → Count → Type 0
-CountSays r (Is v) = (rest : List Token) × (r ≡ good v rest)
-CountSays r (Not c) = r ≡ bad c
+CountSays r (Count.Read v) = (rest : List Token) × (r ≡ good v rest)
+CountSays r (Count.Refused c) = r ≡ bad c

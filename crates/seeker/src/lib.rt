@@ -19,8 +19,8 @@ pub const HEADINGS: usize = 5;
 
 // A number, or a refusal.
 pub enum Count {
-    Is(u32),
-    Not(u32),
+    Read(u32),
+    Refused(u32),
 }
 
 // A heading by its number from 0, or none.
@@ -97,7 +97,7 @@ pub fn count_at(text: &[u8], at: usize, top: u32) -> Count
     let end = line_end(text, at);
     let line = &text[..end];
     match scanner::next_up_to(line, behind(line, at, b':'), top, 31) {
-        Got::Good(v, _) => Count::Is(v),
-        Got::Bad(c) => Count::Not(c),
+        Got::Read(v, _) => Count::Read(v),
+        Got::Refused(c) => Count::Refused(c),
     }
 }

@@ -1,5 +1,5 @@
 -- `parsing::advance` meets its contract: a successor where one is left, the end behind the last row, else the head of the next row.
-use Rattle.parsing.proofs.Steps.{step-successor, step-stop, step-done, step-headless, step-begun}
+use Rattle.parsing.proofs.Steps.{step-successor, step-refused, step-done, step-headless, step-begun}
 use native.Mathlib.Omega.{arith}
 use borrow.Author.Needs.{needs}
 use Rattle.parsing.proofs.advance.Statement.{statement}
@@ -23,7 +23,7 @@ enum-known-c : tie.Need-enum-known-c
 enum-known-c c = search needs
 
 returns-2 : tie.Need-returns-2
-returns-2 c = step-stop _ _ _ _ _ (c .before .before .before .before .before .before .pre .0) _ (omega (arith, c .before .before .before .before .if1 .taken)) (rw (c .before .c .given .1) at (c .before .before .before .read-link .ensures))
+returns-2 c = step-refused _ _ _ _ _ (c .before .before .before .before .before .before .pre .0) _ (omega (arith, c .before .before .before .before .if1 .taken)) (rw (c .before .c .given .1) at (c .before .before .before .read-link .ensures))
 
 returns-3 : tie.Need-returns-3
 returns-3 c = step-done _ _ _ _ _ (c .before .before .before .pre .0) (omega (arith, c .before .if1 .left)) (c .if2 .taken)

@@ -4,7 +4,7 @@ use native.Mathlib.Omega.{arith}
 use borrow.Author.Needs.{needs}
 use lib.ListN.{length, drop}
 use Rattle.texts.specs.Tokens.{tokens}
-use Rattle.parsing.proofs.Checking.{Checking, checking-start, checking-successor, checking-begun, checking-done, checking-stop}
+use Rattle.parsing.proofs.Checking.{Checking, checking-start, checking-successor, checking-begun, checking-done, checking-refused}
 use Rattle.parsing.proofs.validate.Statement.{statement}
 use Rattle.parsing.proofs.validate.Tie as tie
 
@@ -86,7 +86,7 @@ returns-2 : tie.Need-returns-2 Inv-loop μ-loop
 returns-2 c =
     let t = rw (c .before .c .given .1) at (c .before .before .before .advance .ensures) in
     let g = c .before .before .before .before .loop .inv in
-    (checking-stop _ _ _ _ _ _ _ _ _ g _ t, g .long-durs, g .long-dems, g .low)
+    (checking-refused _ _ _ _ _ _ _ _ _ g _ t, g .long-durs, g .long-dems, g .low)
 
 pub validate-spec : {M : Type 1} → statement M
 validate-spec =
