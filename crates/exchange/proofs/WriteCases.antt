@@ -15,7 +15,7 @@ use Rattle.chains.specs.Paths.{Precedes, Cycle}
 use Rattle.chains.specs.Listed.{paired, PairInRange, Rising}
 use Rattle.chains.proofs.Cycles.{judged-acyclic}
 use Rattle.chains.proofs.Listed.{paired-below}
-use Rattle.projects.specs.Form.{written}
+use Rattle.projects.specs.Form.{projectText}
 use Rattle.projects.specs.Made.{rowsFrom}
 use Rattle.exchange.specs.Write.{WriteCall, WriteAfter, columns, alone, PairsTested, writeLeaves, Writes}
 use Rattle.exchange.proofs.WriteTests.{write-answered-one, behind-lists, by-lists}
@@ -47,17 +47,17 @@ one-calm = judged-acyclic (paired (0 ∷ []) (1 ∷ [])) 2 (paired-below 2 (0 �
 
 -- two bytes more than are needed: they stay: `2 1\n5\n3 1 1 2\n4 2 0\n`
 pub one-written : (a : WriteAfter) → Writes (two (0 ∷ []) (1 ∷ []) (120 ∷ 120 ∷ 120 ∷ 120 ∷ 120 ∷ 120 ∷ 120 ∷ 120 ∷ 120 ∷ 120 ∷ 120 ∷ 120 ∷ 120 ∷ 120 ∷ 120 ∷ 120 ∷ 120 ∷ 120 ∷ 120 ∷ 120 ∷ 120 ∷ 120 ∷ [])) a → a ≡ record { says = said Word.written (20 ∷ []); buffer = 50 ∷ 32 ∷ 49 ∷ 10 ∷ 53 ∷ 10 ∷ 51 ∷ 32 ∷ 49 ∷ 32 ∷ 49 ∷ 32 ∷ 50 ∷ 10 ∷ 52 ∷ 32 ∷ 50 ∷ 32 ∷ 48 ∷ 10 ∷ 120 ∷ 120 ∷ [] }
-unfolding written rowsFrom
+unfolding projectText rowsFrom
 one-written = by-pairs (0 ∷ []) (1 ∷ []) _ 0 (inr (refl, inr (one-rising, inr (one-calm, inr (leb-true _ _ refl, refl)))))
 
 -- just enough bytes
 pub one-exact : (a : WriteAfter) → Writes (two (0 ∷ []) (1 ∷ []) (120 ∷ 120 ∷ 120 ∷ 120 ∷ 120 ∷ 120 ∷ 120 ∷ 120 ∷ 120 ∷ 120 ∷ 120 ∷ 120 ∷ 120 ∷ 120 ∷ 120 ∷ 120 ∷ 120 ∷ 120 ∷ 120 ∷ 120 ∷ [])) a → a ≡ record { says = said Word.written (20 ∷ []); buffer = 50 ∷ 32 ∷ 49 ∷ 10 ∷ 53 ∷ 10 ∷ 51 ∷ 32 ∷ 49 ∷ 32 ∷ 49 ∷ 32 ∷ 50 ∷ 10 ∷ 52 ∷ 32 ∷ 50 ∷ 32 ∷ 48 ∷ 10 ∷ [] }
-unfolding written rowsFrom
+unfolding projectText rowsFrom
 one-exact = by-pairs (0 ∷ []) (1 ∷ []) _ 0 (inr (refl, inr (one-rising, inr (one-calm, inr (leb-true _ _ refl, refl)))))
 
 -- one byte too few: 36, and the buffer as it was
 pub one-short : (a : WriteAfter) → Writes (two (0 ∷ []) (1 ∷ []) (120 ∷ 120 ∷ 120 ∷ 120 ∷ 120 ∷ 120 ∷ 120 ∷ 120 ∷ 120 ∷ 120 ∷ 120 ∷ 120 ∷ 120 ∷ 120 ∷ 120 ∷ 120 ∷ 120 ∷ 120 ∷ 120 ∷ [])) a → a ≡ record { says = said Word.refused (36 ∷ []); buffer = 120 ∷ 120 ∷ 120 ∷ 120 ∷ 120 ∷ 120 ∷ 120 ∷ 120 ∷ 120 ∷ 120 ∷ 120 ∷ 120 ∷ 120 ∷ 120 ∷ 120 ∷ 120 ∷ 120 ∷ 120 ∷ 120 ∷ [] }
-unfolding written rowsFrom
+unfolding projectText rowsFrom
 one-short = by-pairs (0 ∷ []) (1 ∷ []) _ 36 (inr (refl, inr (one-rising, inr (one-calm, inl (leb-true _ _ refl, refl)))))
 
 -- a pair twice is out of order: 32, before the buffer is looked at

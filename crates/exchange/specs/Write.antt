@@ -12,7 +12,7 @@ use Rattle.chains.specs.Listed.{paired, Rising, NotRising}
 use Rattle.texts.specs.Readings.{good}
 use Rattle.projects.specs.Projects.{Project, pairsOf, durations, demandsOn}
 use Rattle.projects.specs.Patterson.{patterson}
-use Rattle.projects.specs.Form.{written}
+use Rattle.projects.specs.Form.{projectText}
 use Rattle.projects.specs.Made.{made}
 use Rattle.exchange.specs.Calls.{Lent, TextCall, TextAfter}
 use Rattle.exchange.specs.Tests.{Fitting, Unless, None}
@@ -38,7 +38,7 @@ pairsIn c = paired (c .jobs) (c .successors)
 
 -- the bytes to be written: the project that the lists say, in the form of document 01
 abbrev pub textOf : WriteCall → List ℕ
-textOf c = written (made (c .cap) (c .dur) (c .dem) (pairsIn c))
+textOf c = projectText (made (c .cap) (c .dur) (c .dem) (pairsIn c))
 
 -- the lists, and the number that stands beside them
 abbrev pub columns : WriteCall → List Column

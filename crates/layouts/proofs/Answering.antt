@@ -13,7 +13,7 @@ use Rattle.chains.specs.Paths.{Pair, Below, Longest, Longer, Back, weight}
 use Rattle.chains.proofs.Chains.{chain-map}
 use Rattle.texts.specs.Readings.{Read, good}
 use Rattle.projects.specs.Projects.{Project, pairsOf}
-use Rattle.parsing.specs.Parsed.{comes, first, Parsing}
+use Rattle.parsing.specs.Parsed.{comes, rowsAt, Parsing}
 use Rattle.parsing.specs.declared.Shape.{Shape}
 use Rattle.parsing.proofs.Parsing.{parsing-range, parsing-few}
 use Rattle.precedence.specs.Chains.{OrderSays}
@@ -95,7 +95,7 @@ module _ (t : Read Project) (res h : ℕ) (L : Lent) (near : h ≤ mostTime) (s 
           → Lessened tails h (L .lct) (K .lct)
           → K .dur ≡ take (length (L .dur)) durs
           → K .dem ≡ take (length (L .dem)) dems
-          → Wrote (comes (z .n) (z .table) s (first (z .at))) (L .jobs) (L .successors) (K .jobs) (K .successors)
+          → Wrote (comes (z .n) (z .table) s (rowsAt (z .at))) (L .jobs) (L .successors) (K .jobs) (K .successors)
           → Answered (asked t res h L) (record { says = said Word.read (z .cap ∷ z .pairs ∷ []); lent = K })
       taken K c c₀ oc long ke kl kd kq w =
           let o = rw c₀ at oc in

@@ -14,7 +14,7 @@ use Rattle.texts.specs.Readings.{Read, good}
 use Rattle.parsing.specs.declared.Table.{Table}
 use Rattle.parsing.specs.declared.Walk.{Walk}
 use Rattle.parsing.specs.Walk.{Fit}
-use Rattle.parsing.specs.Parsed.{comes, first}
+use Rattle.parsing.specs.Parsed.{comes, rowsAt}
 use Rattle.precedence.specs.Pairs.{PullSays}
 use Rattle.precedence.specs.declared.Pull.the-variants.{Next, NoMore}
 use Rattle.lent.specs.Parts.{Wrote}
@@ -44,10 +44,10 @@ pub record Writing (n : ℕ) (table : Table) (s : List ℕ) (at : ℕ) (js₀ ss
   pub fit : Fit n w
   pub long-js : length js ≡ length js₀
   pub long-ss : length ss ≡ length ss₀
-  pub mid : (ps : List Pair) (end : List Token) → comes n table s (first at) ≡ good ps end → Midway js₀ ss₀ js ss (comes n table s w) i ps end
+  pub mid : (ps : List Pair) (end : List Token) → comes n table s (rowsAt at) ≡ good ps end → Midway js₀ ss₀ js ss (comes n table s w) i ps end
 
 module _ (n : ℕ) (table : Table) (s : List ℕ) (at : ℕ) (js₀ ss₀ : List ℕ) where
-  pub writing-start : Writing n table s at js₀ ss₀ js₀ ss₀ (first at) 0
+  pub writing-start : Writing n table s at js₀ ss₀ js₀ ss₀ (rowsAt at) 0
   writing-start = record {
     fit = record { begun = omega arith; owned = omega arith };
     long-js = refl;
@@ -56,7 +56,7 @@ module _ (n : ℕ) (table : Table) (s : List ℕ) (at : ℕ) (js₀ ss₀ : List
   }
 
   module _ (js ss : List ℕ) (w : Walk) (i : ℕ) (g : Writing n table s at js₀ ss₀ js ss w i) where
-    pub writing-end : PullSays n table s w NoMore → Wrote (comes n table s (first at)) js₀ ss₀ js ss
+    pub writing-end : PullSays n table s w NoMore → Wrote (comes n table s (rowsAt at)) js₀ ss₀ js ss
     writing-end t = record {
       are = λ ps end e.
           let m = g .mid ps end e in
@@ -86,7 +86,7 @@ module _ (n : ℕ) (table : Table) (s : List ℕ) (at : ℕ) (js₀ ss₀ : List
       }
 
       -- there are more pairs than have been written
-      pub more-left : (ps : List Pair) (end : List Token) → comes n table s (first at) ≡ good ps end → i < length ps
+      pub more-left : (ps : List Pair) (end : List Token) → comes n table s (rowsAt at) ≡ good ps end → i < length ps
       more-left ps end e =
           let m = g .mid ps end e in
           let d = t .0 (m .rest) end (m .ahead) in

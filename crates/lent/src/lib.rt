@@ -7,7 +7,7 @@ ghost use Prim.Native.Nat.{ℕ, _≤_};
 ghost use lib.ListN.{length};
 ghost use Rattle.lists.specs.Lists.{_!_};
 ghost use Rattle.joblist.specs.Limits.{mostJobs};
-ghost use Rattle.parsing.specs.Parsed.{comes, first};
+ghost use Rattle.parsing.specs.Parsed.{comes, rowsAt};
 ghost use Rattle.lent.specs.Parts.{RoomSays, Lessened, Roomy, Wrote};
 
 // Whether the lengths of the six lists are those wanted for n jobs and m pairs.
@@ -50,8 +50,8 @@ pub fn latest(tails: &[u32; screen::MOST_JOBS], h: u32, to: &mut [u32])
 
 // The pairs of the text, in its order, where there is room for them. Each turn takes a token.
 pub fn write_pairs(text: &[u8], n: u32, table: Table, at: usize, js: &mut [u32], ss: &mut [u32])
-    requires { ⌜ (n ≤ mostJobs) × Roomy (comes n table (now text) (first at)) (now js) (now ss) ⌝ }
-    ensures { λ _. ⌜ Wrote (comes n table (now (text .entry)) (first at)) (now (js .entry)) (now (ss .entry)) (now (js .exit)) (now (ss .exit)) ⌝ }
+    requires { ⌜ (n ≤ mostJobs) × Roomy (comes n table (now text) (rowsAt at)) (now js) (now ss) ⌝ }
+    ensures { λ _. ⌜ Wrote (comes n table (now (text .entry)) (rowsAt at)) (now (js .entry)) (now (ss .entry)) (now (js .exit)) (now (ss .exit)) ⌝ }
 {
     let mut w = Walk {
         next: 0,

@@ -9,8 +9,8 @@ use Rattle.lists.specs.Lists.{_!_, Every}
 use Rattle.joblist.specs.Limits.{mostTime, mostDemand, mostJobs, mostResources}
 use Rattle.chains.specs.Paths.{Pair, Precedes, Below}
 use Rattle.texts.specs.Tokens.{Token, tokens}
-use Rattle.texts.specs.Readings.{bad, good, andThen, one, times, many, nothingMore}
-use Rattle.texts.proofs.Readings.{bad-not-good, good-same, then-good, one-takes, one-codes, many-takes, many-codes, times-takes, times-codes, each-within}
+use Rattle.texts.specs.Readings.{bad, good, andThen, one, inTurn, numbersUpTo, nothingMore}
+use Rattle.texts.proofs.Readings.{bad-not-good, good-same, then-good, one-takes, one-codes, numbers-takes, numbers-codes, in-turn-takes, in-turn-codes, each-within}
 use Rattle.projects.specs.Projects.{Row, Project, tagged, pairsFrom, durations, demandsOn, WithinLimits}
 use Rattle.projects.specs.Patterson.{row, Opening, opening, project, patterson}
 use Rattle.parsing.specs.Heads.{headIn, rowIn}
@@ -58,11 +58,11 @@ pub record Opens (o : Opening) : Type 0 where
 pub opening-takes : (ts rest : List Token) (o : Opening) → opening ts ≡ good o rest → Opens o
 unfolding opening
 opening-takes ts rest o e =
-    let s = then-good (one mostJobs 31 ts) (λ n u. andThen (one mostResources 31 u) (λ k v. andThen (many mostDemand k v) (λ cs w. good (made n k cs) w))) o rest e in
-    let t = then-good (one mostResources 31 (s .1)) (λ k v. andThen (many mostDemand k v) (λ cs w. good (made (s .0) k cs) w)) o rest (s .3) in
-    let r = then-good (many mostDemand (t .0) (t .1)) (λ cs w. good (made (s .0) (t .0) cs) w) o rest (t .3) in
+    let s = then-good (one mostJobs 31 ts) (λ n u. andThen (one mostResources 31 u) (λ k v. andThen (numbersUpTo mostDemand k v) (λ cs w. good (made n k cs) w))) o rest e in
+    let t = then-good (one mostResources 31 (s .1)) (λ k v. andThen (numbersUpTo mostDemand k v) (λ cs w. good (made (s .0) k cs) w)) o rest (s .3) in
+    let r = then-good (numbersUpTo mostDemand (t .0) (t .1)) (λ cs w. good (made (s .0) (t .0) cs) w) o rest (t .3) in
     let y = good-same (made (s .0) (t .0) (r .0)) o (r .1) rest (r .3) in
-    let q = many-takes mostDemand (t .0) (t .1) (r .1) (r .0) (r .2) in
+    let q = numbers-takes mostDemand (t .0) (t .1) (r .1) (r .0) (r .2) in
     subst Opens (y .0) (record { few = one-takes mostJobs 31 (s .0) ts (s .1) (s .2) .1; resources = q .0; capacities = each-within mostDemand (r .0) (q .1) })
   where
     made : ℕ → ℕ → List ℕ → Opening
@@ -84,10 +84,10 @@ pub record Takes (x : Project) (rest : List Token) : Type 0 where
 project-takes : (ts rest : List Token) (x : Project) → project ts ≡ good x rest → Takes x rest
 unfolding project row rowIn headIn
 project-takes ts rest x e =
-    let s = then-good (opening ts) (λ o u. andThen (times (row (o .jobs) (o .resources)) 0 (o .jobs) u) (λ rs v. nothingMore (made o rs) v)) x rest e in
-    let t = then-good (times (row (s .0 .jobs) (s .0 .resources)) 0 (s .0 .jobs) (s .1)) (λ rs v. nothingMore (made (s .0) rs) v) x rest (s .3) in
+    let s = then-good (opening ts) (λ o u. andThen (inTurn (row (o .jobs) (o .resources)) 0 (o .jobs) u) (λ rs v. nothingMore (made o rs) v)) x rest e in
+    let t = then-good (inTurn (row (s .0 .jobs) (s .0 .resources)) 0 (s .0 .jobs) (s .1)) (λ rs v. nothingMore (made (s .0) rs) v) x rest (s .3) in
     let o = opening-takes ts (s .1) (s .0) (s .2) in
-    let q = times-takes (row (s .0 .jobs) (s .0 .resources)) (Limited (s .0 .jobs)) (λ j u v r p. row-takes (Whole (s .0 .resources)) (s .0 .jobs) j u v r p) 0 (s .0 .jobs) (s .1) (t .1) (t .0) (t .2) in
+    let q = in-turn-takes (row (s .0 .jobs) (s .0 .resources)) (Limited (s .0 .jobs)) (λ j u v r p. row-takes (Whole (s .0 .resources)) (s .0 .jobs) j u v r p) 0 (s .0 .jobs) (s .1) (t .1) (t .0) (t .2) in
     let y = over-good (made (s .0) (t .0)) x (t .1) rest (t .3) in
     record {
       within = subst WithinLimits (y .0) (rows-within (s .0 .jobs) (s .0 .capacities) (t .0) (o .few) (o .capacities) (q .0) (q .1));
@@ -106,14 +106,14 @@ unfolding opening
 opening-codes c ts =
     then-codes (one mostJobs 31 ts) _ c (λ q. low-code (one-codes mostJobs 31 c ts q)) (λ n u p.
     then-codes (one mostResources 31 u) _ c (λ q. low-code (one-codes mostResources 31 c u q)) (λ k v p'.
-    then-codes (many mostDemand k v) _ c (λ q. low-code (many-codes mostDemand k c v q)) (λ cs w p'' q. bad-not-good _ c _ w q refl)))
+    then-codes (numbersUpTo mostDemand k v) _ c (λ q. low-code (numbers-codes mostDemand k c v q)) (λ cs w p'' q. bad-not-good _ c _ w q refl)))
 
 pub patterson-codes : (s : List ℕ) (c : ℕ) → patterson s ≡ bad c → OfText c
 unfolding patterson project row rowIn headIn
 patterson-codes s c =
     then-codes (opening (tokens s)) _ c (opening-codes c (tokens s)) (λ o u p.
-    then-codes (times (row (o .jobs) (o .resources)) 0 (o .jobs) u) _ c
-    (times-codes (row (o .jobs) (o .resources)) OfText (λ j d v q. row-codes (Whole (o .resources)) (o .jobs) j d v q) 0 (o .jobs) c u)
+    then-codes (inTurn (row (o .jobs) (o .resources)) 0 (o .jobs) u) _ c
+    (in-turn-codes (row (o .jobs) (o .resources)) OfText (λ j d v q. row-codes (Whole (o .resources)) (o .jobs) j d v q) 0 (o .jobs) c u)
     (λ rs v p' q. low-code (inl (over-codes (record { capacities = o .capacities; rows = rs }) v c q))))
 
 -- none beyond 32

@@ -10,8 +10,8 @@ use Rattle.lists.specs.Lists.{_!_}
 use Rattle.lists.specs.Tests.{pick}
 use Rattle.joblist.specs.Limits.{mostTime, mostDemand}
 use Rattle.texts.specs.Tokens.{Token, tokens}
-use Rattle.texts.specs.Readings.{bad, good, one, exactly, times, many}
-use Rattle.texts.proofs.Readings.{ahead, ahead-nil, times-step, times-bad, times-done}
+use Rattle.texts.specs.Readings.{bad, good, one, exactly, inTurn, numbersUpTo}
+use Rattle.texts.proofs.Readings.{ahead, ahead-nil, in-turn-step, in-turn-bad, in-turn-done}
 use Rattle.projects.specs.Projects.{link}
 use Rattle.projects.specs.Patterson.{head}
 use Rattle.projects.specs.Tables.{numbered}
@@ -31,14 +31,14 @@ pub record Picking (top m res : ℕ) (t₀ : List Token) (s : List ℕ) (picked 
   pub long : length ys ≡ i
   pub chosen : ys ! res ≡ picked
   pub some : i ≤ m
-  pub same : many top m t₀ ≡ ahead ys (times (λ k. one top 31) 0 (m - i) (tokens (drop to s)))
+  pub same : numbersUpTo top m t₀ ≡ ahead ys (inTurn (λ k. one top 31) 0 (m - i) (tokens (drop to s)))
 
 module _ (top m res : ℕ) (s : List ℕ) where
   pub picking-start : (at : ℕ) → Picking top m res (tokens (drop at s)) s 0 at 0
-  unfolding many
+  unfolding numbersUpTo
   picking-start at =
       let z : m - 0 ≡ m = omega arith in
-      record { ys = []; long = refl; chosen = refl; some = omega arith; same = rw z (sym (ahead-nil (times (λ k. one top 31) 0 m (tokens (drop at s))))) }
+      record { ys = []; long = refl; chosen = refl; some = omega arith; same = rw z (sym (ahead-nil (inTurn (λ k. one top 31) 0 m (tokens (drop at s))))) }
 
   module _ (t₀ : List Token) (picked to i : ℕ) (p : Picking top m res t₀ s picked to i) where
     pub picking-step : (v end new : ℕ) → i < m → one top 31 (tokens (drop to s)) ≡ good v (tokens (drop end s)) → new ≡ pick (eqb i res) v picked
@@ -50,18 +50,18 @@ module _ (top m res : ℕ) (s : List ℕ) where
           long = omega (arith, p .long, length-append (p .ys) (v ∷ []));
           chosen = pick-step (p .ys) v res ∙ rw (p .long, p .chosen, q);
           some = omega arith;
-          same = p .same ∙ rw d (times-step (one top 31) (p .ys) (m - (i + 1)) (tokens (drop to s)) v (tokens (drop end s)) e);
+          same = p .same ∙ rw d (in-turn-step (one top 31) (p .ys) (m - (i + 1)) (tokens (drop to s)) v (tokens (drop end s)) e);
         }
 
-    pub picking-bad : (c : ℕ) → i < m → one top 31 (tokens (drop to s)) ≡ bad c → many top m t₀ ≡ bad c
+    pub picking-bad : (c : ℕ) → i < m → one top 31 (tokens (drop to s)) ≡ bad c → numbersUpTo top m t₀ ≡ bad c
     picking-bad c h e =
         let d : m - i ≡ suc (m - (i + 1)) = omega arith in
-        p .same ∙ rw d (times-bad (one top 31) (p .ys) (m - (i + 1)) (tokens (drop to s)) c e)
+        p .same ∙ rw d (in-turn-bad (one top 31) (p .ys) (m - (i + 1)) (tokens (drop to s)) c e)
 
-    pub picking-end : m ≤ i → (xs : List ℕ) × (many top m t₀ ≡ good xs (tokens (drop to s))) × (xs ! res ≡ picked)
+    pub picking-end : m ≤ i → (xs : List ℕ) × (numbersUpTo top m t₀ ≡ good xs (tokens (drop to s))) × (xs ! res ≡ picked)
     picking-end h =
         let d : m - i ≡ 0 = omega arith in
-        (p .ys, p .same ∙ rw d (times-done (one top 31) (p .ys) 0 (tokens (drop to s))), p .chosen)
+        (p .ys, p .same ∙ rw d (in-turn-done (one top 31) (p .ys) 0 (tokens (drop to s))), p .chosen)
 
 -- ---- a successor
 
@@ -86,11 +86,11 @@ module _ (n k : ℕ) (ts : List Token) where
   head-bad c e = rw e
 
   module _ (d : ℕ) (t₁ : List Token) (e₁ : one mostTime 31 ts ≡ good d t₁) where
-    pub head-bad₂ : (c : ℕ) → many mostDemand k t₁ ≡ bad c → head n k ts ≡ bad c
+    pub head-bad₂ : (c : ℕ) → numbersUpTo mostDemand k t₁ ≡ bad c → head n k ts ≡ bad c
     unfolding head
     head-bad₂ c e = rw (e₁, e)
 
-    module _ (qs : List ℕ) (t₂ : List Token) (e₂ : many mostDemand k t₁ ≡ good qs t₂) where
+    module _ (qs : List ℕ) (t₂ : List Token) (e₂ : numbersUpTo mostDemand k t₁ ≡ good qs t₂) where
       pub head-bad₃ : (c : ℕ) → one n 31 t₂ ≡ bad c → head n k ts ≡ bad c
       unfolding head
       head-bad₃ c e = rw (e₁, e₂, e)
@@ -133,11 +133,11 @@ module _ (j : ℕ) (ts : List Token) where
       request-bad₂ c e = rw (e₁, e)
 
       module _ (d : ℕ) (t₂ : List Token) (e₂ : one mostTime 31 t₁ ≡ good d t₂) where
-        pub request-bad₃ : (c : ℕ) → many mostDemand k t₂ ≡ bad c → requestHead k j ts ≡ bad c
+        pub request-bad₃ : (c : ℕ) → numbersUpTo mostDemand k t₂ ≡ bad c → requestHead k j ts ≡ bad c
         unfolding requestHead
         request-bad₃ c e = rw (e₁, e₂, e)
 
-        pub request-good : (qs : List ℕ) (t₃ : List Token) → many mostDemand k t₂ ≡ good qs t₃ → requestHead k j ts ≡ good (record { duration = d; demands = qs; count = 0 }) t₃
+        pub request-good : (qs : List ℕ) (t₃ : List Token) → numbersUpTo mostDemand k t₂ ≡ good qs t₃ → requestHead k j ts ≡ good (record { duration = d; demands = qs; count = 0 }) t₃
         unfolding requestHead
         request-good qs t₃ e = rw (e₁, e₂, e)
 

@@ -9,7 +9,7 @@ use lib.Seq.{length-take-le}
 use Rattle.joblist.specs.Limits.{mostJobs}
 use Rattle.chains.specs.Paths.{Precedes, Below}
 use Rattle.texts.specs.Tokens.{Token, tokens}
-use Rattle.texts.specs.Readings.{Read, bad, good, andThen, times}
+use Rattle.texts.specs.Readings.{Read, bad, good, andThen, inTurn}
 use Rattle.scanner.specs.Scan.{none?}
 use Rattle.texts.proofs.Readings.{bad-not-good, good-one}
 use Rattle.projects.specs.Projects.{Row, Project, link, tagged, pairsFrom, pairsOf, durations, demandsOn, WithinLimits}
@@ -29,7 +29,7 @@ use Rattle.parsing.proofs.Whole.{rows-good, rows-bad, project-bad, proj
 
 pub pairs-any : (n : ℕ) (table : Table) (a b next left : ℕ) (ts : List Token) → onlyPairs (seeing n table a next left ts) ≡ onlyPairs (seeing n table b next left ts)
 unfolding seeing
-pairs-any n table a b next left ts = go (times (λ i. link n) 0 left ts)
+pairs-any n table a b next left ts = go (inTurn (λ i. link n) 0 left ts)
   where
     rest : (ss : List ℕ) (r : Read (List Row))
         → onlyPairs (andThen r (λ rs t₂. good (record { durs = durations rs; dems = demandsOn a rs; pairs = tagged (next - 1) ss ++ pairsFrom next rs }) t₂))
@@ -38,10 +38,10 @@ pairs-any n table a b next left ts = go (times (λ i. link n) 0 left ts)
     rest ss (good rs t₂) = refl
 
     go : (r : Read (List ℕ))
-        → onlyPairs (andThen r (λ ss t₁. andThen (times (rowIn table n) next (n - next) t₁) (λ rs t₂. good (record { durs = durations rs; dems = demandsOn a rs; pairs = tagged (next - 1) ss ++ pairsFrom next rs }) t₂)))
-        ≡ onlyPairs (andThen r (λ ss t₁. andThen (times (rowIn table n) next (n - next) t₁) (λ rs t₂. good (record { durs = durations rs; dems = demandsOn b rs; pairs = tagged (next - 1) ss ++ pairsFrom next rs }) t₂)))
+        → onlyPairs (andThen r (λ ss t₁. andThen (inTurn (rowIn table n) next (n - next) t₁) (λ rs t₂. good (record { durs = durations rs; dems = demandsOn a rs; pairs = tagged (next - 1) ss ++ pairsFrom next rs }) t₂)))
+        ≡ onlyPairs (andThen r (λ ss t₁. andThen (inTurn (rowIn table n) next (n - next) t₁) (λ rs t₂. good (record { durs = durations rs; dems = demandsOn b rs; pairs = tagged (next - 1) ss ++ pairsFrom next rs }) t₂)))
     go (bad c) = refl
-    go (good ss t₁) = rest ss (times (rowIn table n) next (n - next) t₁)
+    go (good ss t₁) = rest ss (inTurn (rowIn table n) next (n - next) t₁)
 
 -- whether tokens are left
 some-left : (ts : List Token) → none? ts ≡ false → (t : Token) × (rest : List Token) × (ts ≡ t ∷ rest)

@@ -6,8 +6,8 @@ use mathlib.Core.List.{List, [], map}
 use lib.ListN.{length}
 use Rattle.joblist.specs.Limits.{mostTime, mostDemand}
 use Rattle.texts.specs.Tokens.{Token}
-use Rattle.texts.specs.Readings.{Read, bad, good, andThen, one, times, many}
-use Rattle.texts.proofs.Readings.{said, times-said}
+use Rattle.texts.specs.Readings.{Read, bad, good, andThen, one, inTurn, numbersUpTo}
+use Rattle.texts.proofs.Readings.{said, in-turn-said}
 use Rattle.projects.specs.Projects.{Row, Head, headed, link}
 use Rattle.projects.specs.Tables.{numbered, relation, Need, request}
 use Rattle.parsing.specs.Heads.{relationHead, requestHead, headIn, rowIn}
@@ -30,46 +30,46 @@ relation-row n j ts = go (numbered j ts)
     last (good ss end) = refl
 
     counts : (r : Read ℕ)
-        → andThen (andThen r (λ c t. good (record { duration = 0; demands = []; count = c }) t)) (λ (h : Head) rest. andThen (times (λ i. link n) 0 (h .count) rest) (λ ss end. good (record { duration = h .duration; demands = h .demands; successors = ss }) end))
-        ≡ said linked (andThen r (λ c t. times (λ i. link n) 0 c t))
+        → andThen (andThen r (λ c t. good (record { duration = 0; demands = []; count = c }) t)) (λ (h : Head) rest. andThen (inTurn (λ i. link n) 0 (h .count) rest) (λ ss end. good (record { duration = h .duration; demands = h .demands; successors = ss }) end))
+        ≡ said linked (andThen r (λ c t. inTurn (λ i. link n) 0 c t))
     counts (bad c) = refl
-    counts (good c t) = last (times (λ i. link n) 0 c t)
+    counts (good c t) = last (inTurn (λ i. link n) 0 c t)
 
     go : (r : Read ℕ)
-        → andThen (andThen r (λ a t₁. andThen (one n 31 t₁) (λ c t₂. good (record { duration = 0; demands = []; count = c }) t₂))) (λ (h : Head) rest. andThen (times (λ i. link n) 0 (h .count) rest) (λ ss end. good (record { duration = h .duration; demands = h .demands; successors = ss }) end))
-        ≡ said linked (andThen r (λ a t₁. andThen (one n 31 t₁) (λ c t₂. times (λ i. link n) 0 c t₂)))
+        → andThen (andThen r (λ a t₁. andThen (one n 31 t₁) (λ c t₂. good (record { duration = 0; demands = []; count = c }) t₂))) (λ (h : Head) rest. andThen (inTurn (λ i. link n) 0 (h .count) rest) (λ ss end. good (record { duration = h .duration; demands = h .demands; successors = ss }) end))
+        ≡ said linked (andThen r (λ a t₁. andThen (one n 31 t₁) (λ c t₂. inTurn (λ i. link n) 0 c t₂)))
     go (bad c) = refl
     go (good a t₁) = counts (one n 31 t₁)
 
 request-row : (n k j : ℕ) (ts : List Token) → rowIn (Requests k) n j ts ≡ said needed (request k j ts)
-unfolding rowIn headIn headed requestHead request times
+unfolding rowIn headIn headed requestHead request inTurn
 request-row n k j ts = go (numbered j ts)
   where
     demands : (d : ℕ) (r : Read (List ℕ))
-        → andThen (andThen r (λ qs t. good (record { duration = d; demands = qs; count = 0 }) t)) (λ (h : Head) rest. andThen (times (λ i. link n) 0 (h .count) rest) (λ ss end. good (record { duration = h .duration; demands = h .demands; successors = ss }) end))
+        → andThen (andThen r (λ qs t. good (record { duration = d; demands = qs; count = 0 }) t)) (λ (h : Head) rest. andThen (inTurn (λ i. link n) 0 (h .count) rest) (λ ss end. good (record { duration = h .duration; demands = h .demands; successors = ss }) end))
         ≡ said needed (andThen r (λ qs t. good (record { duration = d; demands = qs }) t))
     demands d (bad c) = refl
     demands d (good qs t) = refl
 
     durations : (r : Read ℕ)
-        → andThen (andThen r (λ d t₂. andThen (many mostDemand k t₂) (λ qs t₃. good (record { duration = d; demands = qs; count = 0 }) t₃))) (λ (h : Head) rest. andThen (times (λ i. link n) 0 (h .count) rest) (λ ss end. good (record { duration = h .duration; demands = h .demands; successors = ss }) end))
-        ≡ said needed (andThen r (λ d t₂. andThen (many mostDemand k t₂) (λ qs t₃. good (record { duration = d; demands = qs }) t₃)))
+        → andThen (andThen r (λ d t₂. andThen (numbersUpTo mostDemand k t₂) (λ qs t₃. good (record { duration = d; demands = qs; count = 0 }) t₃))) (λ (h : Head) rest. andThen (inTurn (λ i. link n) 0 (h .count) rest) (λ ss end. good (record { duration = h .duration; demands = h .demands; successors = ss }) end))
+        ≡ said needed (andThen r (λ d t₂. andThen (numbersUpTo mostDemand k t₂) (λ qs t₃. good (record { duration = d; demands = qs }) t₃)))
     durations (bad c) = refl
-    durations (good d t) = demands d (many mostDemand k t)
+    durations (good d t) = demands d (numbersUpTo mostDemand k t)
 
     go : (r : Read ℕ)
-        → andThen (andThen r (λ a t₁. andThen (one mostTime 31 t₁) (λ d t₂. andThen (many mostDemand k t₂) (λ qs t₃. good (record { duration = d; demands = qs; count = 0 }) t₃)))) (λ (h : Head) rest. andThen (times (λ i. link n) 0 (h .count) rest) (λ ss end. good (record { duration = h .duration; demands = h .demands; successors = ss }) end))
-        ≡ said needed (andThen r (λ a t₁. andThen (one mostTime 31 t₁) (λ d t₂. andThen (many mostDemand k t₂) (λ qs t₃. good (record { duration = d; demands = qs }) t₃))))
+        → andThen (andThen r (λ a t₁. andThen (one mostTime 31 t₁) (λ d t₂. andThen (numbersUpTo mostDemand k t₂) (λ qs t₃. good (record { duration = d; demands = qs; count = 0 }) t₃)))) (λ (h : Head) rest. andThen (inTurn (λ i. link n) 0 (h .count) rest) (λ ss end. good (record { duration = h .duration; demands = h .demands; successors = ss }) end))
+        ≡ said needed (andThen r (λ a t₁. andThen (one mostTime 31 t₁) (λ d t₂. andThen (numbersUpTo mostDemand k t₂) (λ qs t₃. good (record { duration = d; demands = qs }) t₃))))
     go (bad c) = refl
     go (good a t₁) = durations (one mostTime 31 t₁)
 
 -- ---- whole tables
 
-pub relations-said : (n : ℕ) (ts : List Token) → times (rowIn Relations n) 0 n ts ≡ said (map linked) (times (relation n) 0 n ts)
-relations-said n ts = times-said linked (relation n) (rowIn Relations n) (relation-row n) 0 n ts
+pub relations-said : (n : ℕ) (ts : List Token) → inTurn (rowIn Relations n) 0 n ts ≡ said (map linked) (inTurn (relation n) 0 n ts)
+relations-said n ts = in-turn-said linked (relation n) (rowIn Relations n) (relation-row n) 0 n ts
 
-pub requests-said : (n k : ℕ) (ts : List Token) → times (rowIn (Requests k) n) 0 n ts ≡ said (map needed) (times (request k) 0 n ts)
-requests-said n k ts = times-said needed (request k) (rowIn (Requests k) n) (request-row n k) 0 n ts
+pub requests-said : (n k : ℕ) (ts : List Token) → inTurn (rowIn (Requests k) n) 0 n ts ≡ said (map needed) (inTurn (request k) 0 n ts)
+requests-said n k ts = in-turn-said needed (request k) (rowIn (Requests k) n) (request-row n k) 0 n ts
 
 -- ---- what a row takes, and its refusals
 

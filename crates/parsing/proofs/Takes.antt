@@ -11,8 +11,8 @@ use borrow.Author.Tests.{eqb-false}
 use Rattle.lists.specs.Lists.{Every}
 use Rattle.joblist.specs.Limits.{mostTime, mostDemand}
 use Rattle.texts.specs.Tokens.{Token}
-use Rattle.texts.specs.Readings.{Read, bad, good, andThen, one, exactly, times, many}
-use Rattle.texts.proofs.Readings.{bad-not-good, good-same, then-good, then-bad, one-takes, one-codes, many-takes, many-codes, times-takes, times-codes}
+use Rattle.texts.specs.Readings.{Read, bad, good, andThen, one, exactly, inTurn, numbersUpTo}
+use Rattle.texts.proofs.Readings.{bad-not-good, good-same, then-good, then-bad, one-takes, one-codes, numbers-takes, numbers-codes, in-turn-takes, in-turn-codes}
 use Rattle.texts.proofs.Given.{exactly-takes, exactly-refused}
 use Rattle.projects.specs.Projects.{Row, Head, headed, link}
 use Rattle.projects.specs.Patterson.{head}
@@ -55,12 +55,12 @@ pub record HeadTakes (n : ℕ) (ts rest : List Token) (h : Head) : Type 0 where
 head-takes : (n k : ℕ) (ts rest : List Token) (h : Head) → head n k ts ≡ good h rest → HeadTakes n ts rest h
 unfolding head
 head-takes n k ts rest h e =
-    let s = then-good (one mostTime 31 ts) (λ d u. andThen (many mostDemand k u) (λ qs v. andThen (one n 31 v) (λ c w. good (made d qs c) w))) h rest e in
-    let t = then-good (many mostDemand k (s .1)) (λ qs v. andThen (one n 31 v) (λ c w. good (made (s .0) qs c) w)) h rest (s .3) in
+    let s = then-good (one mostTime 31 ts) (λ d u. andThen (numbersUpTo mostDemand k u) (λ qs v. andThen (one n 31 v) (λ c w. good (made d qs c) w))) h rest e in
+    let t = then-good (numbersUpTo mostDemand k (s .1)) (λ qs v. andThen (one n 31 v) (λ c w. good (made (s .0) qs c) w)) h rest (s .3) in
     let r = then-good (one n 31 (t .1)) (λ c w. good (made (s .0) (t .0) c) w) h rest (t .3) in
     let o = good-same (made (s .0) (t .0) (r .0)) h (r .1) rest (r .3) in
     let a = one-takes mostTime 31 (s .0) ts (s .1) (s .2) in
-    let b = many-takes mostDemand k (s .1) (t .1) (t .0) (t .2) in
+    let b = numbers-takes mostDemand k (s .1) (t .1) (t .0) (t .2) in
     let d = one-takes n 31 (r .0) (t .1) (r .1) (r .2) in
     subst (HeadTakes n ts rest) (o .0) (record { fewer = omega (arith, a .0, b .2, d .0, ap length (o .1)); count = d .1; duration = a .1; demands = b .1 })
   where
@@ -88,12 +88,12 @@ relation-takes n j ts rest h e =
 request-takes : (n k j : ℕ) (ts rest : List Token) (h : Head) → requestHead k j ts ≡ good h rest → HeadTakes n ts rest h
 unfolding requestHead
 request-takes n k j ts rest h e =
-    let s = then-good (numbered j ts) (λ a u. andThen (one mostTime 31 u) (λ d v. andThen (many mostDemand k v) (λ qs w. good (made d qs) w))) h rest e in
-    let t = then-good (one mostTime 31 (s .1)) (λ d v. andThen (many mostDemand k v) (λ qs w. good (made d qs) w)) h rest (s .3) in
-    let r = then-good (many mostDemand k (t .1)) (λ qs w. good (made (t .0) qs) w) h rest (t .3) in
+    let s = then-good (numbered j ts) (λ a u. andThen (one mostTime 31 u) (λ d v. andThen (numbersUpTo mostDemand k v) (λ qs w. good (made d qs) w))) h rest e in
+    let t = then-good (one mostTime 31 (s .1)) (λ d v. andThen (numbersUpTo mostDemand k v) (λ qs w. good (made d qs) w)) h rest (s .3) in
+    let r = then-good (numbersUpTo mostDemand k (t .1)) (λ qs w. good (made (t .0) qs) w) h rest (t .3) in
     let o = good-same (made (t .0) (r .0)) h (r .1) rest (r .3) in
     let d = one-takes mostTime 31 (t .0) (s .1) (t .1) (t .2) in
-    let q = many-takes mostDemand k (t .1) (r .1) (r .0) (r .2) in
+    let q = numbers-takes mostDemand k (t .1) (r .1) (r .0) (r .2) in
     subst (HeadTakes n ts rest) (o .0) (record { fewer = omega (arith, numbered-takes j (s .0) ts (s .1) (s .2), d .0, q .2, ap length (o .1)); count = omega arith; duration = d .1; demands = q .1 })
   where
     made : ℕ → List ℕ → Head
@@ -132,7 +132,7 @@ head-codes : (n k c : ℕ) (ts : List Token) → head n k ts ≡ bad c → OfTex
 unfolding head
 head-codes n k c ts =
     then-codes (one mostTime 31 ts) _ c (λ q. low-code (one-codes mostTime 31 c ts q)) (λ d u p.
-    then-codes (many mostDemand k u) _ c (λ q. low-code (many-codes mostDemand k c u q)) (λ qs v p'.
+    then-codes (numbersUpTo mostDemand k u) _ c (λ q. low-code (numbers-codes mostDemand k c u q)) (λ qs v p'.
     then-codes (one n 31 v) _ c (λ q. low-code (one-codes n 31 c v q)) (λ m w p'' q. bad-not-good _ c _ w q refl)))
 
 numbered-codes : (j c : ℕ) (ts : List Token) → numbered j ts ≡ bad c → OfText c
@@ -150,7 +150,7 @@ unfolding requestHead
 request-codes k j c ts =
     then-codes (numbered j ts) _ c (numbered-codes j c ts) (λ a u p.
     then-codes (one mostTime 31 u) _ c (λ q. low-code (one-codes mostTime 31 c u q)) (λ d v p'.
-    then-codes (many mostDemand k v) _ c (λ q. low-code (many-codes mostDemand k c v q)) (λ qs w p'' q. bad-not-good _ c _ w q refl)))
+    then-codes (numbersUpTo mostDemand k v) _ c (λ q. low-code (numbers-codes mostDemand k c v q)) (λ qs w p'' q. bad-not-good _ c _ w q refl)))
 
 head-in-codes : (table : Table) (n j c : ℕ) (ts : List Token) → headIn table n j ts ≡ bad c → OfText c
 unfolding headIn
@@ -162,7 +162,7 @@ pub row-codes : (table : Table) (n j c : ℕ) (ts : List Token) → rowIn table 
 unfolding rowIn headed
 row-codes table n j c ts =
     then-codes (headIn table n j ts) _ c (head-in-codes table n j c ts) (λ h u p.
-    then-codes (times (λ i. link n) 0 (h .count) u) _ c (times-codes (λ i. link n) OfText (λ i d v q. high-code (link-codes n d v q)) 0 (h .count) c u) (λ ss w p' q. bad-not-good _ c _ w q refl))
+    then-codes (inTurn (λ i. link n) 0 (h .count) u) _ c (in-turn-codes (λ i. link n) OfText (λ i d v q. high-code (link-codes n d v q)) 0 (h .count) c u) (λ ss w p' q. bad-not-good _ c _ w q refl))
 
 -- a row whose numbers are within their limits, for n jobs
 pub record Limited (n : ℕ) (r : Row) : Type 0 where
@@ -173,11 +173,11 @@ pub record Limited (n : ℕ) (r : Row) : Type 0 where
 pub row-takes : (table : Table) (n j : ℕ) (ts rest : List Token) (r : Row) → rowIn table n j ts ≡ good r rest → Limited n r × (length rest ≤ length ts)
 unfolding rowIn headed
 row-takes table n j ts rest r e =
-    let s = then-good (headIn table n j ts) (λ h u. andThen (times (λ i. link n) 0 (h .count) u) (λ ss v. good (made h ss) v)) r rest e in
-    let t = then-good (times (λ i. link n) 0 (s .0 .count) (s .1)) (λ ss v. good (made (s .0) ss) v) r rest (s .3) in
+    let s = then-good (headIn table n j ts) (λ h u. andThen (inTurn (λ i. link n) 0 (h .count) u) (λ ss v. good (made h ss) v)) r rest e in
+    let t = then-good (inTurn (λ i. link n) 0 (s .0 .count) (s .1)) (λ ss v. good (made (s .0) ss) v) r rest (s .3) in
     let o = good-same (made (s .0) (t .0)) r (t .1) rest (t .3) in
     let h = head-in-takes table n j ts (s .1) (s .0) (s .2) in
-    let q = times-takes (λ i. link n) (λ v. v < n) (λ i u w a p. let y = link-takes n a u w p in (y .1, omega (arith, y .0))) 0 (s .0 .count) (s .1) (t .1) (t .0) (t .2) in
+    let q = in-turn-takes (λ i. link n) (λ v. v < n) (λ i u w a p. let y = link-takes n a u w p in (y .1, omega (arith, y .0))) 0 (s .0 .count) (s .1) (t .1) (t .0) (t .2) in
     (subst (Limited n) (o .0) (record { duration = h .duration; demands = h .demands; successors = q .1 }), omega (arith, h .fewer, q .2, ap length (o .1)))
   where
     made : Head → List ℕ → Row

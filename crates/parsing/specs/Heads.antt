@@ -3,7 +3,7 @@ use Prim.Native.Nat.{ℕ}
 use mathlib.Core.List.{List, []}
 use Rattle.joblist.specs.Limits.{mostTime, mostDemand}
 use Rattle.texts.specs.Tokens.{Token}
-use Rattle.texts.specs.Readings.{Read, good, andThen, one, many}
+use Rattle.texts.specs.Readings.{Read, good, andThen, one, numbersUpTo}
 use Rattle.projects.specs.Projects.{Row, Head, headed}
 use Rattle.projects.specs.Patterson.{head}
 use Rattle.projects.specs.Tables.{numbered}
@@ -19,11 +19,11 @@ relationHead n j ts =
     good (record { duration = 0; demands = []; count = c }) t₂))
 
 unfoldable pub requestHead : ℕ → ℕ → List Token → Read Head
-unfolding numbered one many
+unfolding numbered one numbersUpTo
 requestHead k j ts =
     andThen (numbered j ts) (λ a t₁.
     andThen (one mostTime 31 t₁) (λ d t₂.
-    andThen (many mostDemand k t₂) (λ qs t₃.
+    andThen (numbersUpTo mostDemand k t₂) (λ qs t₃.
     good (record { duration = d; demands = qs; count = 0 }) t₃)))
 
 -- the head of row j of a table for n jobs: whole rows on k resources, precedence relations, or requests on k resources

@@ -24,8 +24,8 @@ abbrev pub comes : ℕ → Table → List ℕ → Walk → Read (List Pair)
 comes n table s w = onlyPairs (see n table 0 s w)
 
 -- the start of the rows
-abbrev pub first : ℕ → Walk
-first at = record { next = 0; left = 0; at = at }
+abbrev pub rowsAt : ℕ → Walk
+rowsAt at = record { next = 0; left = 0; at = at }
 
 -- a text that says x, and where things stand
 pub record Parsing (s : List ℕ) (res : ℕ) (durs dems : List ℕ) (z : Shape) (x : Project) : Type 0 where
@@ -36,7 +36,7 @@ pub record Parsing (s : List ℕ) (res : ℕ) (durs dems : List ℕ) (z : Shape)
   pub dems-are : demandsOn res (x .rows) ≡ take (z .n) dems
   pub count : length (pairsOf x) ≡ z .pairs
   pub end : List Token
-  pub come : comes (z .n) (z .table) s (first (z .at)) ≡ good (pairsOf x) end
+  pub come : comes (z .n) (z .table) s (rowsAt (z .at)) ≡ good (pairsOf x) end
   pub limits : WithinLimits x
 
 -- by the answer: the text says a project, or meets a refusal, which has a number

@@ -8,7 +8,7 @@ use Rattle.lists.specs.Lists.{_!_}
 use Rattle.joblist.specs.Limits.{mostTime, mostJobs}
 use Rattle.chains.specs.Paths.{Pair, pair, Precedes, Below}
 use Rattle.texts.specs.Tokens.{Token, tokens}
-use Rattle.texts.specs.Readings.{Read, bad, good, andThen, one, times}
+use Rattle.texts.specs.Readings.{Read, bad, good, andThen, one, inTurn}
 use Rattle.scanner.specs.declared.Got.{Got}
 use Rattle.projects.specs.Projects.{Head, link, tagged, pairsFrom, durations, demandsOn}
 use Rattle.projects.specs.Patterson.{head, Opening}
@@ -45,10 +45,10 @@ pub record Seen : Type 0 where
 
 -- what is left: `left` successors of job next - 1, then the rows from `next` on
 unfoldable pub seeing : ℕ → Table → ℕ → ℕ → ℕ → List Token → Read Seen
-unfolding times link rowIn pairsFrom
+unfolding inTurn link rowIn pairsFrom
 seeing n table res next left ts =
-    andThen (times (λ i. link n) 0 left ts) (λ ss t₁.
-    andThen (times (rowIn table n) next (n - next) t₁) (λ rs t₂.
+    andThen (inTurn (λ i. link n) 0 left ts) (λ ss t₁.
+    andThen (inTurn (rowIn table n) next (n - next) t₁) (λ rs t₂.
     good (record { durs = durations rs; dems = demandsOn res rs; pairs = tagged (next - 1) ss ++ pairsFrom next rs }) t₂))
 
 -- the same with a pair more, and with a row more, in front

@@ -7,7 +7,7 @@ use parts::RowHead;
 use parts::open_text;
 use parts::read_front;
 use parts::read_link;
-pub use parts::read_many;
+pub use parts::read_numbers;
 use scanner::Got;
 ghost use mathlib.Core.Path.{_≡_};
 ghost use Prim.Native.Nat.{ℕ, _≤_};

@@ -8,7 +8,7 @@ ghost use lib.ListN.{drop};
 ghost use Rattle.lists.specs.Tests.{pick};
 ghost use Rattle.joblist.specs.Limits.{mostJobs};
 ghost use Rattle.texts.specs.Tokens.{tokens};
-ghost use Rattle.texts.specs.Readings.{many};
+ghost use Rattle.texts.specs.Readings.{numbersUpTo};
 ghost use Rattle.scanner.specs.Scan.{GotSays};
 ghost use Rattle.projects.specs.Projects.{link};
 ghost use Rattle.projects.specs.Patterson.{head, opening};
@@ -54,8 +54,8 @@ fn choose(i: u32, res: u32, v: u32, old: u32) -> u32
 }
 
 // m numbers up to `top`; the answer is the one at `res`, 0 where there is none.
-pub fn read_many(text: &[u8], at: usize, m: u32, top: u32, res: u32) -> Got
-    ensures { λ r. ⌜ PickSays (many top m (tokens (drop at (now (text .entry))))) (now (text .entry)) res r ⌝ }
+pub fn read_numbers(text: &[u8], at: usize, m: u32, top: u32, res: u32) -> Got
+    ensures { λ r. ⌜ PickSays (numbersUpTo top m (tokens (drop at (now (text .entry))))) (now (text .entry)) res r ⌝ }
 {
     let mut picked: u32 = 0;
     let mut to = at;
@@ -81,7 +81,7 @@ fn read_head(text: &[u8], at: usize, n: u32, k: u32, res: u32) -> RowHead
 {
     match scanner::next_up_to(text, at, screen::MOST_TIME, 31) {
         Got::Refused(c) => RowHead::Refused(c),
-        Got::Read(d, a) => match read_many(text, a, k, screen::MOST_DEMAND, res) {
+        Got::Read(d, a) => match read_numbers(text, a, k, screen::MOST_DEMAND, res) {
             Got::Refused(c) => RowHead::Refused(c),
             Got::Read(q, b) => match scanner::next_up_to(text, b, n, 31) {
                 Got::Refused(c) => RowHead::Refused(c),
@@ -125,7 +125,13 @@ fn read_request(text: &[u8], at: usize, k: u32, j: u32, res: u32) -> RowHead
         Got::Refused(c) => RowHead::Refused(c),
         Got::Read(_, duration) => match scanner::next_up_to(text, duration, screen::MOST_TIME, 31) {
             Got::Refused(c) => RowHead::Refused(c),
-            Got::Read(d, demands) => match read_many(text, demands, k, screen::MOST_DEMAND, res) {
+            Got::Read(d, demands) => match read_numbers(
+                text,
+                demands,
+                k,
+                screen::MOST_DEMAND,
+                res,
+            ) {
                 Got::Refused(c) => RowHead::Refused(c),
                 Got::Read(q, e) => RowHead::Read(d, q, 0, e),
             },
@@ -153,7 +159,7 @@ pub fn open_text(text: &[u8], res: u32) -> Opened
         Got::Refused(c) => Opened::Refused(c),
         Got::Read(n, a) => match scanner::next_up_to(text, a, screen::MOST_RESOURCES, 31) {
             Got::Refused(c) => Opened::Refused(c),
-            Got::Read(k, b) => match read_many(text, b, k, screen::MOST_DEMAND, res) {
+            Got::Read(k, b) => match read_numbers(text, b, k, screen::MOST_DEMAND, res) {
                 Got::Refused(c) => Opened::Refused(c),
                 Got::Read(cap, at) => Opened::Read(n, k, cap, at),
             },

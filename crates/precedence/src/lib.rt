@@ -20,7 +20,7 @@ ghost use Rattle.chains.specs.Paths.{Pair, Precedes, Below};
 ghost use Rattle.texts.specs.Tokens.{Token};
 ghost use Rattle.texts.specs.Readings.{good};
 ghost use Rattle.parsing.specs.Walk.{Fit};
-ghost use Rattle.parsing.specs.Parsed.{comes, first};
+ghost use Rattle.parsing.specs.Parsed.{comes, rowsAt};
 ghost use Rattle.precedence.specs.Pairs.{PullSays};
 ghost use Rattle.precedence.specs.Chains.{OrderSays};
 
@@ -69,7 +69,7 @@ pub fn longest_chains(
 ) -> u32
     requires { ⌜ (n ≤ mostJobs) × (length (now dur) ≡ mostJobs) × (now heads ≡ replicate mostJobs 0) × (now tails ≡ replicate mostJobs 0) × (h ≤ mostTime) ⌝ }
     requires { ⌜ ((j : ℕ) → now dur ! j ≤ mostTime) ⌝ }
-    ensures { λ r. ⌜ ((ps : List Pair) (end : List Token) → comes n table (now (text .entry)) (first at) ≡ good ps end → Below n (Precedes ps) → OrderSays ps n (now (dur .entry)) h (now (heads .exit)) (now (tails .exit)) r) × (length (now (heads .exit)) ≡ mostJobs) × (length (now (tails .exit)) ≡ mostJobs) ⌝ }
+    ensures { λ r. ⌜ ((ps : List Pair) (end : List Token) → comes n table (now (text .entry)) (rowsAt at) ≡ good ps end → Below n (Precedes ps) → OrderSays ps n (now (dur .entry)) h (now (heads .exit)) (now (tails .exit)) r) × (length (now (heads .exit)) ≡ mostJobs) × (length (now (tails .exit)) ≡ mostJobs) ⌝ }
 {
     let ones = [1u32; screen::MOST_JOBS];
     let mut levels = [0u32; screen::MOST_JOBS];

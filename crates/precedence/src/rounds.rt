@@ -10,7 +10,7 @@ ghost use lib.ListN.{length, replicate};
 ghost use Rattle.lists.specs.Lists.{_!_};
 ghost use mathlib.Core.Bool.{cond};
 ghost use Rattle.joblist.specs.Limits.{mostTime, mostJobs};
-ghost use Rattle.parsing.specs.Parsed.{comes, first};
+ghost use Rattle.parsing.specs.Parsed.{comes, rowsAt};
 ghost use Rattle.precedence.specs.Rounds.{RiseSays, RoundSays, SettleSays, ExceedsSays};
 
 // A value stays; it is raised; it would rise above the limit.
@@ -68,7 +68,7 @@ fn relax(
 ) -> Round
     requires { ⌜ (n ≤ mostJobs) × (length (now p) ≡ mostJobs) × (length (now v) ≡ mostJobs) × (top ≤ mostTime) ⌝ }
     requires { ⌜ ((j : ℕ) → now p ! j ≤ mostTime) × ((j : ℕ) → now v ! j ≤ top) ⌝ }
-    ensures { λ r. ⌜ RoundSays (comes n table (now (text .entry)) (first at)) (now (p .entry)) back top (now (v .entry)) (now (v .exit)) r × (length (now (v .exit)) ≡ mostJobs) ⌝ }
+    ensures { λ r. ⌜ RoundSays (comes n table (now (text .entry)) (rowsAt at)) (now (p .entry)) back top (now (v .entry)) (now (v .exit)) r × (length (now (v .exit)) ≡ mostJobs) ⌝ }
 {
     let mut w = Walk {
         next: 0,
@@ -118,7 +118,7 @@ pub fn settle(
 ) -> bool
     requires { ⌜ (n ≤ mostJobs) × (length (now p) ≡ mostJobs) × (now v ≡ replicate mostJobs 0) × (top ≤ mostTime) ⌝ }
     requires { ⌜ ((j : ℕ) → now p ! j ≤ mostTime) ⌝ }
-    ensures { λ r. ⌜ SettleSays (comes n table (now (text .entry)) (first at)) n (now (p .entry)) back top (now (v .exit)) r × (length (now (v .exit)) ≡ mostJobs) ⌝ }
+    ensures { λ r. ⌜ SettleSays (comes n table (now (text .entry)) (rowsAt at)) n (now (p .entry)) back top (now (v .exit)) r × (length (now (v .exit)) ≡ mostJobs) ⌝ }
 {
     loop {
         match relax(text, n, table, at, p, back, top, v) {

@@ -10,9 +10,9 @@ use lib.Dec.{eqb}
 use borrow.Author.Tests.{eqb-true, eq-eqb}
 use Rattle.joblist.specs.Limits.{mostTime, mostDemand, mostJobs, mostResources}
 use Rattle.texts.specs.Tokens.{Token, tokens}
-use Rattle.texts.specs.Readings.{bad, good, one, exactly, times, many}
+use Rattle.texts.specs.Readings.{bad, good, one, exactly, inTurn, numbersUpTo}
 use Rattle.texts.proofs.Readings.{bad-not-good}
-use Rattle.texts.proofs.Exactly.{NoNumber, NumberThat, OneRefused, one-refused, one-read, then-refused, First, first-refused, first-within, last-refused, over-refused, Behind, times-refused, ManyRefused, many-refused}
+use Rattle.texts.proofs.Exactly.{NoNumber, NumberThat, OneRefused, one-refused, one-read, then-refused, First, first-refused, first-within, last-refused, over-refused, Behind, in-turn-refused, NumbersRefused, numbers-refused}
 use Rattle.texts.proofs.Given.{ExactlyRefused, exactly-refused}
 use Rattle.projects.specs.Tables.{numbered, relation, request}
 use Rattle.projects.specs.Projects.{link}
@@ -59,8 +59,8 @@ module _ (n c : ℕ) (ts : List Token) where
 abbrev pub LinksRefused : ℕ → ℕ → ℕ → List Token → Type 0
 LinksRefused n m c ts = Behind (λ i. link n) (λ i. LinkRefused n c) 0 m ts
 
-pub links-refused : (n m c : ℕ) (ts : List Token) → (times (λ i. link n) 0 m ts ≡ bad c) ↔ LinksRefused n m c ts
-links-refused n m c ts = times-refused (λ i. link n) (λ i. LinkRefused n c) c (λ i u. link-refused n c u) 0 m ts
+pub links-refused : (n m c : ℕ) (ts : List Token) → (inTurn (λ i. link n) 0 m ts ≡ bad c) ↔ LinksRefused n m c ts
+links-refused n m c ts = in-turn-refused (λ i. link n) (λ i. LinkRefused n c) c (λ i u. link-refused n c u) 0 m ts
 
 -- ---- the rows of PSPLIB's tables
 
@@ -80,7 +80,7 @@ abbrev pub RequestRefused : ℕ → ℕ → ℕ → List Token → Type 0
 RequestRefused k c j ts =
     First (NumberedRefused j c ts) (numbered j ts) (λ a t₁.
     First (OneRefused mostTime 31 c t₁) (one mostTime 31 t₁) (λ d t₂.
-    ManyRefused mostDemand k c t₂))
+    NumbersRefused mostDemand k c t₂))
 
 module _ (c : ℕ) where
   pub numbered-refused : (j : ℕ) (ts : List Token) → (numbered j ts ≡ bad c) ↔ NumberedRefused j c ts
@@ -99,7 +99,7 @@ module _ (c : ℕ) where
   request-refused k j ts =
       first-refused (numbered j ts) _ _ _ c (numbered-refused j ts) (λ a t₁.
       first-refused (one mostTime 31 t₁) _ _ _ c (one-refused mostTime 31 c t₁) (λ d t₂.
-      last-refused (many mostDemand k t₂) _ (λ qs t₃. record { duration = d; demands = qs }) (λ qs t₃. t₃) c (many-refused mostDemand k c t₂)))
+      last-refused (numbersUpTo mostDemand k t₂) _ (λ qs t₃. record { duration = d; demands = qs }) (λ qs t₃. t₃) c (numbers-refused mostDemand k c t₂)))
 
 -- ---- the Patterson layout
 
@@ -108,14 +108,14 @@ abbrev pub OpeningRefused : ℕ → List Token → Type 0
 OpeningRefused c ts =
     First (OneRefused mostJobs 31 c ts) (one mostJobs 31 ts) (λ n t₁.
     First (OneRefused mostResources 31 c t₁) (one mostResources 31 t₁) (λ k t₂.
-    ManyRefused mostDemand k c t₂))
+    NumbersRefused mostDemand k c t₂))
 
 -- duration, one of the demands on k resources, successor count: 30 where it is no number, 31 where it is above its limit, which is n for the count; then
 -- one of the successors
 abbrev pub RowRefused : ℕ → ℕ → ℕ → List Token → Type 0
 RowRefused n k c ts =
     First (OneRefused mostTime 31 c ts) (one mostTime 31 ts) (λ d t₁.
-    First (ManyRefused mostDemand k c t₁) (many mostDemand k t₁) (λ qs t₂.
+    First (NumbersRefused mostDemand k c t₁) (numbersUpTo mostDemand k t₁) (λ qs t₂.
     First (OneRefused n 31 c t₂) (one n 31 t₂) (λ m t₃.
     LinksRefused n m c t₃)))
 
@@ -123,7 +123,7 @@ RowRefused n k c ts =
 abbrev pub PattersonRefused : ℕ → List Token → Type 0
 PattersonRefused c ts =
     First (OpeningRefused c ts) (opening ts) (λ o t₁.
-    First (Behind (row (o .jobs) (o .resources)) (λ j. RowRefused (o .jobs) (o .resources) c) 0 (o .jobs) t₁) (times (row (o .jobs) (o .resources)) 0 (o .jobs) t₁) (λ rs t₂.
+    First (Behind (row (o .jobs) (o .resources)) (λ j. RowRefused (o .jobs) (o .resources) c) 0 (o .jobs) t₁) (inTurn (row (o .jobs) (o .resources)) 0 (o .jobs) t₁) (λ rs t₂.
     (c ≡ 30) × ((t : Token) × (rest : List Token) × (t₂ ≡ t ∷ rest))))
 
 module _ (c : ℕ) where
@@ -132,19 +132,19 @@ module _ (c : ℕ) where
   opening-refused ts =
       first-refused (one mostJobs 31 ts) _ _ _ c (one-refused mostJobs 31 c ts) (λ n t₁.
       first-refused (one mostResources 31 t₁) _ _ _ c (one-refused mostResources 31 c t₁) (λ k t₂.
-      last-refused (many mostDemand k t₂) _ (λ cs t₃. record { jobs = n; resources = k; capacities = cs }) (λ cs t₃. t₃) c (many-refused mostDemand k c t₂)))
+      last-refused (numbersUpTo mostDemand k t₂) _ (λ cs t₃. record { jobs = n; resources = k; capacities = cs }) (λ cs t₃. t₃) c (numbers-refused mostDemand k c t₂)))
 
   pub row-refused : (n k j : ℕ) (ts : List Token) → (row n k j ts ≡ bad c) ↔ RowRefused n k c ts
   unfolding row
   row-refused n k j ts =
       first-within (one mostTime 31 ts) _ _ _ _ c (one-refused mostTime 31 c ts) (λ d t₁.
-      first-within (many mostDemand k t₁) _ _ _ _ c (many-refused mostDemand k c t₁) (λ qs t₂.
+      first-within (numbersUpTo mostDemand k t₁) _ _ _ _ c (numbers-refused mostDemand k c t₁) (λ qs t₂.
       first-within (one n 31 t₂) _ _ _ _ c (one-refused n 31 c t₂) (λ m t₃.
-      last-refused (times (λ i. link n) 0 m t₃) _ (λ ss end. record { duration = d; demands = qs; successors = ss }) (λ ss end. end) c (links-refused n m c t₃))))
+      last-refused (inTurn (λ i. link n) 0 m t₃) _ (λ ss end. record { duration = d; demands = qs; successors = ss }) (λ ss end. end) c (links-refused n m c t₃))))
 
   pub patterson-refused : (s : List ℕ) → (patterson s ≡ bad c) ↔ PattersonRefused c (tokens s)
   unfolding patterson
   patterson-refused s =
       first-refused (opening (tokens s)) _ _ _ c (opening-refused (tokens s)) (λ o t₁.
-      first-refused (times (row (o .jobs) (o .resources)) 0 (o .jobs) t₁) _ _ _ c (times-refused (row (o .jobs) (o .resources)) _ c (row-refused (o .jobs) (o .resources)) 0 (o .jobs) t₁) (λ rs t₂.
+      first-refused (inTurn (row (o .jobs) (o .resources)) 0 (o .jobs) t₁) _ _ _ c (in-turn-refused (row (o .jobs) (o .resources)) _ c (row-refused (o .jobs) (o .resources)) 0 (o .jobs) t₁) (λ rs t₂.
       over-refused (record { capacities = o .capacities; rows = rs }) t₂ c))

@@ -35,6 +35,6 @@ jobLines [] = []
 jobLines (r ∷ rs) = lineOf (numbers r) ++ jobLines rs
 
 -- the two counts, the capacities, the jobs
-unfoldable pub written : Project → List ℕ
+unfoldable pub projectText : Project → List ℕ
 unfolding lineOf jobLines
-written x = lineOf (length (x .rows) ∷ length (x .capacities) ∷ []) ++ lineOf (x .capacities) ++ jobLines (x .rows)
+projectText x = lineOf (length (x .rows) ∷ length (x .capacities) ∷ []) ++ lineOf (x .capacities) ++ jobLines (x .rows)

@@ -4,15 +4,15 @@ use Prim.Native.Nat.{ℕ}
 use mathlib.Core.List.{List}
 use Rattle.joblist.specs.Limits.{mostTime, mostDemand, mostJobs, mostResources}
 use Rattle.texts.specs.Tokens.{Token, tokens}
-use Rattle.texts.specs.Readings.{Read, good, andThen, one, times, many, nothingMore}
+use Rattle.texts.specs.Readings.{Read, good, andThen, one, inTurn, numbersUpTo, nothingMore}
 use Rattle.projects.specs.Projects.{Row, Project, Head, headed}
 
 -- a job's row up to its successors: duration, a demand for each of k resources, how many successors (no more than the n jobs)
 unfoldable pub head : ℕ → ℕ → List Token → Read Head
-unfolding one many
+unfolding one numbersUpTo
 head n k ts =
     andThen (one mostTime 31 ts) (λ d t₁.
-    andThen (many mostDemand k t₁) (λ qs t₂.
+    andThen (numbersUpTo mostDemand k t₁) (λ qs t₂.
     andThen (one n 31 t₂) (λ c t₃.
     good (record { duration = d; demands = qs; count = c }) t₃)))
 
@@ -28,19 +28,19 @@ pub record Opening : Type 0 where
   pub capacities : List ℕ
 
 unfoldable pub opening : List Token → Read Opening
-unfolding one many
+unfolding one numbersUpTo
 opening ts =
     andThen (one mostJobs 31 ts) (λ n t₁.
     andThen (one mostResources 31 t₁) (λ k t₂.
-    andThen (many mostDemand k t₂) (λ cs t₃.
+    andThen (numbersUpTo mostDemand k t₂) (λ cs t₃.
     good (record { jobs = n; resources = k; capacities = cs }) t₃)))
 
 -- job count, resource count, capacities, a row for each job, and nothing more
 unfoldable pub project : List Token → Read Project
-unfolding opening row times
+unfolding opening row inTurn
 project ts =
     andThen (opening ts) (λ o t₁.
-    andThen (times (row (o .jobs) (o .resources)) 0 (o .jobs) t₁) (λ rs t₂.
+    andThen (inTurn (row (o .jobs) (o .resources)) 0 (o .jobs) t₁) (λ rs t₂.
     nothingMore (record { capacities = o .capacities; rows = rs }) t₂))
 
 -- a text of this layout

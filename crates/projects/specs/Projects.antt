@@ -9,7 +9,7 @@ use Rattle.lists.specs.Lists.{_!_}
 use Rattle.joblist.specs.Limits.{mostTime, mostDemand, mostJobs}
 use Rattle.chains.specs.Paths.{Pair, pair, Precedes, Below}
 use Rattle.texts.specs.Tokens.{Token}
-use Rattle.texts.specs.Readings.{Read, bad, good, andThen, one, times}
+use Rattle.texts.specs.Readings.{Read, bad, good, andThen, one, inTurn}
 
 -- a job: a demand for each resource, its successors numbered from 0
 pub record Row : Type 0 where
@@ -35,10 +35,10 @@ pub record Head : Type 0 where
 
 -- a whole row: its head, however that is laid out, then so many successors
 unfoldable pub headed : ℕ → Read Head → Read Row
-unfolding times link
+unfolding inTurn link
 headed n r =
     andThen r (λ h rest.
-    andThen (times (λ i. link n) 0 (h .count) rest) (λ ss end.
+    andThen (inTurn (λ i. link n) 0 (h .count) rest) (λ ss end.
     good (record { duration = h .duration; demands = h .demands; successors = ss }) end))
 
 -- job j with each of its successors

@@ -4,7 +4,7 @@ use Prim.Native.Nat.{ℕ, _+_}
 use mathlib.Core.List.{List}
 use Rattle.joblist.specs.Limits.{mostTime, mostDemand}
 use Rattle.texts.specs.Tokens.{Token}
-use Rattle.texts.specs.Readings.{Read, good, andThen, one, exactly, times, many}
+use Rattle.texts.specs.Readings.{Read, good, andThen, one, exactly, inTurn, numbersUpTo}
 use Rattle.projects.specs.Projects.{link}
 
 -- the number of job j, then a mode or a mode count
@@ -14,11 +14,11 @@ numbered j ts = andThen (exactly (j + 1) ts) (λ a rest. exactly 1 rest)
 
 -- job j's successors among n jobs
 unfoldable pub relation : ℕ → ℕ → List Token → Read (List ℕ)
-unfolding numbered one times link
+unfolding numbered one inTurn link
 relation n j ts =
     andThen (numbered j ts) (λ a t₁.
     andThen (one n 31 t₁) (λ c t₂.
-    times (λ i. link n) 0 c t₂))
+    inTurn (λ i. link n) 0 c t₂))
 
 -- job j's duration, and its demand on each of k resources
 pub record Need : Type 0 where
@@ -26,9 +26,9 @@ pub record Need : Type 0 where
   pub demands : List ℕ
 
 unfoldable pub request : ℕ → ℕ → List Token → Read Need
-unfolding numbered one many
+unfolding numbered one numbersUpTo
 request k j ts =
     andThen (numbered j ts) (λ a t₁.
     andThen (one mostTime 31 t₁) (λ d t₂.
-    andThen (many mostDemand k t₂) (λ qs t₃.
+    andThen (numbersUpTo mostDemand k t₂) (λ qs t₃.
     good (record { duration = d; demands = qs }) t₃)))

@@ -9,8 +9,8 @@ use mathlib.Core.Logic.{_⊎_, inl, inr, _↔_}
 use Rattle.lists.proofs.Sets.{clash}
 use Rattle.joblist.specs.Limits.{mostDemand, mostJobs, mostResources}
 use Rattle.texts.specs.Tokens.{Token, tokens}
-use Rattle.texts.specs.Readings.{Read, bad, times, many}
-use Rattle.texts.proofs.Exactly.{OneRefused, First, first-refused, last-refused, Behind, times-refused, ManyRefused, many-refused}
+use Rattle.texts.specs.Readings.{Read, bad, inTurn, numbersUpTo}
+use Rattle.texts.proofs.Exactly.{OneRefused, First, first-refused, last-refused, Behind, in-turn-refused, NumbersRefused, numbers-refused}
 use Rattle.headings.specs.Lines.{line, behind, behindLines, counted}
 use Rattle.headings.specs.Headings.{Mark, marks, inOrder, section}
 use Rattle.headings.proofs.Facts.{in-order-which, counted-refused}
@@ -32,9 +32,9 @@ CountRefused top c s = OneRefused top 31 c (tokens (behind 58 (line s)))
 -- a row of relations, a row of requests, a capacity
 abbrev pub TablesRefused : ℕ → ℕ → List ℕ → List ℕ → List ℕ → ℕ → Type 0
 TablesRefused n k relations requests capacities c =
-    First (Behind (relation n) (RelationRefused n c) 0 n (tokens (behindLines 2 relations))) (times (relation n) 0 n (tokens (behindLines 2 relations))) (λ sss t₁.
-    First (Behind (request k) (RequestRefused k c) 0 n (tokens (behindLines 3 requests))) (times (request k) 0 n (tokens (behindLines 3 requests))) (λ qs t₂.
-    ManyRefused mostDemand k c (tokens (behindLines 2 capacities))))
+    First (Behind (relation n) (RelationRefused n c) 0 n (tokens (behindLines 2 relations))) (inTurn (relation n) 0 n (tokens (behindLines 2 relations))) (λ sss t₁.
+    First (Behind (request k) (RequestRefused k c) 0 n (tokens (behindLines 3 requests))) (inTurn (request k) 0 n (tokens (behindLines 3 requests))) (λ qs t₂.
+    NumbersRefused mostDemand k c (tokens (behindLines 2 capacities))))
 
 -- a count, or a table behind both
 abbrev pub SectionsRefused : (ℕ → List ℕ) → ℕ → Type 0
@@ -51,9 +51,9 @@ module _ (c : ℕ) where
   tables-refused : (n k : ℕ) (relations requests capacities : List ℕ) → (tables n k relations requests capacities ≡ bad c) ↔ TablesRefused n k relations requests capacities c
   unfolding tables
   tables-refused n k relations requests capacities =
-      first-refused (times (relation n) 0 n (tokens (behindLines 2 relations))) _ _ _ c (times-refused (relation n) (RelationRefused n c) c (relation-refused c n) 0 n _) (λ sss t₁.
-      first-refused (times (request k) 0 n (tokens (behindLines 3 requests))) _ _ _ c (times-refused (request k) (RequestRefused k c) c (request-refused c k) 0 n _) (λ qs t₂.
-      last-refused (many mostDemand k (tokens (behindLines 2 capacities))) _ (λ cs t₃. record { capacities = cs; rows = join sss qs }) (λ cs t₃. []) c (many-refused mostDemand k c _)))
+      first-refused (inTurn (relation n) 0 n (tokens (behindLines 2 relations))) _ _ _ c (in-turn-refused (relation n) (RelationRefused n c) c (relation-refused c n) 0 n _) (λ sss t₁.
+      first-refused (inTurn (request k) 0 n (tokens (behindLines 3 requests))) _ _ _ c (in-turn-refused (request k) (RequestRefused k c) c (request-refused c k) 0 n _) (λ qs t₂.
+      last-refused (numbersUpTo mostDemand k (tokens (behindLines 2 capacities))) _ (λ cs t₃. record { capacities = cs; rows = join sss qs }) (λ cs t₃. []) c (numbers-refused mostDemand k c _)))
 
   sections-refused : (part : ℕ → List ℕ) → (sections part ≡ bad c) ↔ SectionsRefused part c
   unfolding sections

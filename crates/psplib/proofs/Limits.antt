@@ -9,8 +9,8 @@ use lib.ListN.{length}
 use Rattle.lists.specs.Lists.{Every}
 use Rattle.joblist.specs.Limits.{mostDemand, mostJobs, mostResources}
 use Rattle.texts.specs.Tokens.{Token, tokens}
-use Rattle.texts.specs.Readings.{Read, bad, good, andThen, times, many}
-use Rattle.texts.proofs.Readings.{bad-not-good, good-same, then-good, many-takes, many-codes, times-takes, times-codes, each-within}
+use Rattle.texts.specs.Readings.{Read, bad, good, andThen, inTurn, numbersUpTo}
+use Rattle.texts.proofs.Readings.{bad-not-good, good-same, then-good, numbers-takes, numbers-codes, in-turn-takes, in-turn-codes, each-within}
 use Rattle.headings.specs.Lines.{behindLines, counted}
 use Rattle.headings.specs.Headings.{marks, inOrder, section}
 use Rattle.headings.proofs.Facts.{counted-codes, counted-takes}
@@ -23,29 +23,29 @@ use Rattle.psplib.specs.Psplib.{join, tables, sections, psplib}
 use Rattle.psplib.proofs.Joined.{join-long, join-limited}
 
 -- tables that were read: so many rows, each within its limits
-pub relations-take : (n : ℕ) (ts rest : List Token) (sss : List (List ℕ)) → times (relation n) 0 n ts ≡ good sss rest → (length sss ≡ n) × Every (λ ss. Limited n (linked ss)) sss × (length rest ≤ length ts)
-relations-take n ts rest sss e = times-takes (relation n) (λ ss. Limited n (linked ss)) (λ j u v ss p. relation-within n j u v ss p) 0 n ts rest sss e
+pub relations-take : (n : ℕ) (ts rest : List Token) (sss : List (List ℕ)) → inTurn (relation n) 0 n ts ≡ good sss rest → (length sss ≡ n) × Every (λ ss. Limited n (linked ss)) sss × (length rest ≤ length ts)
+relations-take n ts rest sss e = in-turn-takes (relation n) (λ ss. Limited n (linked ss)) (λ j u v ss p. relation-within n j u v ss p) 0 n ts rest sss e
 
-pub requests-take : (n k : ℕ) (ts rest : List Token) (qs : List Need) → times (request k) 0 n ts ≡ good qs rest → (length qs ≡ n) × Every (λ q. Limited n (needed q)) qs × (length rest ≤ length ts)
-requests-take n k ts rest qs e = times-takes (request k) (λ q. Limited n (needed q)) (λ j u v q p. request-within n k j u v q p) 0 n ts rest qs e
+pub requests-take : (n k : ℕ) (ts rest : List Token) (qs : List Need) → inTurn (request k) 0 n ts ≡ good qs rest → (length qs ≡ n) × Every (λ q. Limited n (needed q)) qs × (length rest ≤ length ts)
+requests-take n k ts rest qs e = in-turn-takes (request k) (λ q. Limited n (needed q)) (λ j u v q p. request-within n k j u v q p) 0 n ts rest qs e
 
-relations-codes : (n c : ℕ) (ts : List Token) → times (relation n) 0 n ts ≡ bad c → OfText c
-relations-codes n c ts e = times-codes (relation n) OfText (λ j d v q. relation-code n j d v q) 0 n c ts e
+relations-codes : (n c : ℕ) (ts : List Token) → inTurn (relation n) 0 n ts ≡ bad c → OfText c
+relations-codes n c ts e = in-turn-codes (relation n) OfText (λ j d v q. relation-code n j d v q) 0 n c ts e
 
-requests-codes : (n k c : ℕ) (ts : List Token) → times (request k) 0 n ts ≡ bad c → OfText c
-requests-codes n k c ts e = times-codes (request k) OfText (λ j d v q. request-code k j d v q) 0 n c ts e
+requests-codes : (n k c : ℕ) (ts : List Token) → inTurn (request k) 0 n ts ≡ bad c → OfText c
+requests-codes n k c ts e = in-turn-codes (request k) OfText (λ j d v q. request-code k j d v q) 0 n c ts e
 
 -- ---- the tables
 
 module _ (n k : ℕ) (s₁ s₂ s₃ : List ℕ) where
   abbrev relations : Read (List (List ℕ))
-  relations = times (relation n) 0 n (tokens (behindLines 2 s₁))
+  relations = inTurn (relation n) 0 n (tokens (behindLines 2 s₁))
 
   abbrev requests : Read (List Need)
-  requests = times (request k) 0 n (tokens (behindLines 3 s₂))
+  requests = inTurn (request k) 0 n (tokens (behindLines 3 s₂))
 
   abbrev capacities : Read (List ℕ)
-  capacities = many mostDemand k (tokens (behindLines 2 s₃))
+  capacities = numbersUpTo mostDemand k (tokens (behindLines 2 s₃))
 
   pub tables-take : (x : Project) (rest : List Token) → n ≤ mostJobs → tables n k s₁ s₂ s₃ ≡ good x rest → WithinLimits x
   unfolding tables
@@ -56,7 +56,7 @@ module _ (n k : ℕ) (s₁ s₂ s₃ : List ℕ) where
       let o = good-same (made (s .0) (t .0) (r .0)) x [] rest (r .3) in
       let a = relations-take n (tokens (behindLines 2 s₁)) (s .1) (s .0) (s .2) in
       let b = requests-take n k (tokens (behindLines 3 s₂)) (t .1) (t .0) (t .2) in
-      let d = many-takes mostDemand k (tokens (behindLines 2 s₃)) (r .1) (r .0) (r .2) in
+      let d = numbers-takes mostDemand k (tokens (behindLines 2 s₃)) (r .1) (r .0) (r .2) in
       subst WithinLimits (o .0) (rows-within n (r .0) (join (s .0) (t .0)) few (each-within mostDemand (r .0) (d .1))
       (join-long (s .0) (t .0) (a .0 ∙ sym (b .0)) ∙ a .0) (join-limited n (s .0) (t .0) (a .1) (b .1)))
     where
@@ -68,7 +68,7 @@ module _ (n k : ℕ) (s₁ s₂ s₃ : List ℕ) where
   tables-codes c =
       then-codes relations _ c (relations-codes n c (tokens (behindLines 2 s₁))) (λ rs u p.
       then-codes requests _ c (requests-codes n k c (tokens (behindLines 3 s₂))) (λ qs v p'.
-      then-codes capacities _ c (λ q. low-code (many-codes mostDemand k c (tokens (behindLines 2 s₃)) q)) (λ cs w p'' q. bad-not-good _ c _ [] q refl)))
+      then-codes capacities _ c (λ q. low-code (numbers-codes mostDemand k c (tokens (behindLines 2 s₃)) q)) (λ cs w p'' q. bad-not-good _ c _ [] q refl)))
 
 -- ---- the whole text
 

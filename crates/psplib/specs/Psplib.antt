@@ -5,7 +5,7 @@ use mathlib.Core.Bool.{cond}
 use mathlib.Core.List.{List, [], _∷_}
 use Rattle.joblist.specs.Limits.{mostDemand, mostJobs, mostResources}
 use Rattle.texts.specs.Tokens.{tokens}
-use Rattle.texts.specs.Readings.{Read, bad, good, andThen, times, many}
+use Rattle.texts.specs.Readings.{Read, bad, good, andThen, inTurn, numbersUpTo}
 use Rattle.headings.specs.Lines.{behindLines, counted}
 use Rattle.headings.specs.Headings.{marks, inOrder, section}
 use Rattle.projects.specs.Projects.{Row, Project}
@@ -20,11 +20,11 @@ join (ss ∷ sss) (q ∷ qs) = record { duration = q .duration; demands = q .dem
 -- the three tables of n jobs on k resources, each from its heading on: its rows stand behind the heading's line and a line of column names, those of
 -- the requests behind a line of hyphens too
 unfoldable pub tables : ℕ → ℕ → List ℕ → List ℕ → List ℕ → Read Project
-unfolding times relation request many tokens behindLines join
+unfolding inTurn relation request numbersUpTo tokens behindLines join
 tables n k relations requests capacities =
-    andThen (times (relation n) 0 n (tokens (behindLines 2 relations))) (λ sss t₁.
-    andThen (times (request k) 0 n (tokens (behindLines 3 requests))) (λ qs t₂.
-    andThen (many mostDemand k (tokens (behindLines 2 capacities))) (λ cs t₃.
+    andThen (inTurn (relation n) 0 n (tokens (behindLines 2 relations))) (λ sss t₁.
+    andThen (inTurn (request k) 0 n (tokens (behindLines 3 requests))) (λ qs t₂.
+    andThen (numbersUpTo mostDemand k (tokens (behindLines 2 capacities))) (λ cs t₃.
     good (record { capacities = cs; rows = join sss qs }) [])))
 
 -- the two counts on the lines of their headings, then the tables; `part i` is the text from heading i on

@@ -1,4 +1,4 @@
--- The tokens left at a place of a text, by the byte that stands there: `within` says them of a text that goes on inside a token.
+-- The tokens left at a place of a text, by the byte that stands there: `tokensInside` says them of a text that goes on inside a token.
 use Prim.Native.Nat.{ℕ, suc, _+_, _-_, _*_, _≤_, _<_}
 use native.Mathlib.Numerals.{add-one}
 use mathlib.Core.Path.{_≡_, refl, sym, _∙_}
@@ -7,8 +7,8 @@ use mathlib.Core.List.{List, [], _∷_, map}
 use lib.ListN.{length, drop, drop-of-length-le}
 use lib.Seq.{drop-cons}
 use Rattle.lists.specs.Lists.{_!_}
-use Rattle.texts.specs.Tokens.{blank, digit, goesOn, onto, runs, Token, number, other, more, tokenFrom, token, tokens}
-use Rattle.scanner.specs.Scan.{within, Skipped, Heads}
+use Rattle.texts.specs.Tokens.{blank, digit, goesOn, onto, solidRuns, Token, number, other, more, tokenFrom, token, tokens}
+use Rattle.scanner.specs.Scan.{tokensInside, Skipped, Heads}
 use Rattle.scanner.specs.declared.scan.Next.{Next}
 use Rattle.scanner.specs.declared.scan.Next.the-variants.{Number, Other, End}
 
@@ -24,22 +24,22 @@ unfolding tokenFrom
 front-onto w b [] = refl
 front-onto w b (t ∷ ts) = refl
 
-within-is : (w : Token) (s : List ℕ) → within w s ≡ cond (goesOn s) (front w (runs s)) (w ∷ tokens s)
-unfolding within runs tokens tokenFrom
-within-is w [] = refl
-within-is w (b ∷ s) = go (blank b) (goesOn s) (within-is (more w b) s)
+inside-is : (w : Token) (s : List ℕ) → tokensInside w s ≡ cond (goesOn s) (front w (solidRuns s)) (w ∷ tokens s)
+unfolding tokensInside solidRuns tokens tokenFrom
+inside-is w [] = refl
+inside-is w (b ∷ s) = go (blank b) (goesOn s) (inside-is (more w b) s)
   where
-    go : (t u : Bool) → within (more w b) s ≡ cond u (front (more w b) (runs s)) (more w b ∷ tokens s)
-        → cond t (w ∷ tokens s) (within (more w b) s)
-        ≡ cond (not t) (front w (cond t (runs s) (cond u (onto b (runs s)) ((b ∷ []) ∷ runs s)))) (w ∷ map token (cond t (runs s) (cond u (onto b (runs s)) ((b ∷ []) ∷ runs s))))
+    go : (t u : Bool) → tokensInside (more w b) s ≡ cond u (front (more w b) (solidRuns s)) (more w b ∷ tokens s)
+        → cond t (w ∷ tokens s) (tokensInside (more w b) s)
+        ≡ cond (not t) (front w (cond t (solidRuns s) (cond u (onto b (solidRuns s)) ((b ∷ []) ∷ solidRuns s)))) (w ∷ map token (cond t (solidRuns s) (cond u (onto b (solidRuns s)) ((b ∷ []) ∷ solidRuns s))))
     go true u e = refl
-    go false true e = e ∙ sym (front-onto w b (runs s))
+    go false true e = e ∙ sym (front-onto w b (solidRuns s))
     go false false e = e
 
 -- where no blank stands, the tokens are those of a text that goes on inside the number of no digits
-tokens-within : (b : ℕ) (s : List ℕ) → blank b ≡ false → tokens (b ∷ s) ≡ within (number 0) (b ∷ s)
-unfolding tokens runs within
-tokens-within b s e = rw e (go (goesOn s) (runs s) ∙ sym (within-is (more (number 0) b) s))
+tokens-inside : (b : ℕ) (s : List ℕ) → blank b ≡ false → tokens (b ∷ s) ≡ tokensInside (number 0) (b ∷ s)
+unfolding tokens solidRuns tokensInside
+tokens-inside b s e = rw e (go (goesOn s) (solidRuns s) ∙ sym (inside-is (more (number 0) b) s))
   where
     go : (u : Bool) (ts : List (List ℕ)) → map token (cond u (onto b ts) ((b ∷ []) ∷ ts)) ≡ cond u (front (more (number 0) b) ts) (more (number 0) b ∷ map token ts)
     go true [] = refl
@@ -48,12 +48,12 @@ tokens-within b s e = rw e (go (goesOn s) (runs s) ∙ sym (within-is (more (num
     go false (t ∷ ts) = refl
 
 -- no byte makes a number of what is none
-other-other : (s : List ℕ) → (ts : List Token) × (within other s ≡ other ∷ ts)
-unfolding within
+other-other : (s : List ℕ) → (ts : List Token) × (tokensInside other s ≡ other ∷ ts)
+unfolding tokensInside
 other-other [] = ([], refl)
 other-other (b ∷ s) = go (blank b) (other-other s)
   where
-    go : (t : Bool) → (ts : List Token) × (within other s ≡ other ∷ ts) → (ts : List Token) × (cond t (other ∷ tokens s) (within other s) ≡ other ∷ ts)
+    go : (t : Bool) → (ts : List Token) × (tokensInside other s ≡ other ∷ ts) → (ts : List Token) × (cond t (other ∷ tokens s) (tokensInside other s) ≡ other ∷ ts)
     go true q = (tokens s, refl)
     go false q = q
 
@@ -61,35 +61,35 @@ other-other (b ∷ s) = go (blank b) (other-other s)
 
 module _ (s : List ℕ) (i : ℕ) where
   pub tokens-none : length s ≤ i → tokens (drop i s) ≡ []
-  unfolding tokens runs
+  unfolding tokens solidRuns
   tokens-none h = rw (drop-of-length-le s h)
 
-  pub within-end : (w : Token) → length s ≤ i → within w (drop i s) ≡ w ∷ tokens (drop i s)
-  unfolding within tokens runs
-  within-end w h = rw (drop-of-length-le s h)
+  pub inside-end : (w : Token) → length s ≤ i → tokensInside w (drop i s) ≡ w ∷ tokens (drop i s)
+  unfolding tokensInside tokens solidRuns
+  inside-end w h = rw (drop-of-length-le s h)
 
   module _ (h : i < length s) where
     pub tokens-blank : blank (s ! i) ≡ true → tokens (drop i s) ≡ tokens (drop (i + 1) s)
-    unfolding tokens runs
+    unfolding tokens solidRuns
     tokens-blank e = rw (add-one, drop-cons s i 0 h, e)
 
-    pub tokens-start : blank (s ! i) ≡ false → tokens (drop i s) ≡ within (number 0) (drop i s)
-    tokens-start e = rw (drop-cons s i 0 h) (tokens-within (s ! i) (drop (suc i) s) e)
+    pub tokens-start : blank (s ! i) ≡ false → tokens (drop i s) ≡ tokensInside (number 0) (drop i s)
+    tokens-start e = rw (drop-cons s i 0 h) (tokens-inside (s ! i) (drop (suc i) s) e)
 
-    pub within-blank : (w : Token) → blank (s ! i) ≡ true → within w (drop i s) ≡ w ∷ tokens (drop i s)
-    unfolding within tokens runs
-    within-blank w e = rw (drop-cons s i 0 h, e)
+    pub inside-blank : (w : Token) → blank (s ! i) ≡ true → tokensInside w (drop i s) ≡ w ∷ tokens (drop i s)
+    unfolding tokensInside tokens solidRuns
+    inside-blank w e = rw (drop-cons s i 0 h, e)
 
-    pub within-digit : (x : ℕ) → blank (s ! i) ≡ false → digit (s ! i) ≡ true → within (number x) (drop i s) ≡ within (number (x * 10 + (s ! i - 48))) (drop (i + 1) s)
-    unfolding within
-    within-digit x e d = rw (add-one, drop-cons s i 0 h, e, d)
+    pub inside-digit : (x : ℕ) → blank (s ! i) ≡ false → digit (s ! i) ≡ true → tokensInside (number x) (drop i s) ≡ tokensInside (number (x * 10 + (s ! i - 48))) (drop (i + 1) s)
+    unfolding tokensInside
+    inside-digit x e d = rw (add-one, drop-cons s i 0 h, e, d)
 
-    pub within-other : (x : ℕ) → blank (s ! i) ≡ false → digit (s ! i) ≡ false → (ts : List Token) × (within (number x) (drop i s) ≡ other ∷ ts)
-    unfolding within
-    within-other x e d = rw (drop-cons s i 0 h, e, d) (other-other (drop (suc i) s))
+    pub inside-other : (x : ℕ) → blank (s ! i) ≡ false → digit (s ! i) ≡ false → (ts : List Token) × (tokensInside (number x) (drop i s) ≡ other ∷ ts)
+    unfolding tokensInside
+    inside-other x e d = rw (drop-cons s i 0 h, e, d) (other-other (drop (suc i) s))
 
 -- from the token that starts at `to`, blanks before it, to the first one from `at` on
-pub token-next : (s : List ℕ) (at to : ℕ) (r : Next) → Skipped s at to → to < length s → Heads (within (number 0) (drop to s)) s r → Heads (tokens (drop at s)) s r
+pub token-next : (s : List ℕ) (at to : ℕ) (r : Next) → Skipped s at to → to < length s → Heads (tokensInside (number 0) (drop to s)) s r → Heads (tokens (drop at s)) s r
 token-next s at to (Number v end) k h t = (t .0, t .1, k .same ∙ tokens-start s to h (k .stops h) ∙ t .2)
 token-next s at to Other k h t = (t .0, k .same ∙ tokens-start s to h (k .stops h) ∙ t .1)
 token-next s at to End k h t = k .same ∙ tokens-start s to h (k .stops h) ∙ t

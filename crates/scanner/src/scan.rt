@@ -4,7 +4,7 @@ ghost use mathlib.Core.Bool.{true};
 ghost use Prim.Native.Nat.{ℕ, _+_, _-_, _*_, _≤_};
 ghost use lib.ListN.{drop};
 ghost use Rattle.texts.specs.Tokens.{blank, digit, number, tokens};
-ghost use Rattle.scanner.specs.Scan.{Skipped, held, Capped, Heads, within};
+ghost use Rattle.scanner.specs.Scan.{Skipped, held, Capped, Heads, tokensInside};
 
 // What is held of a number at most; `held` in specs/ says why.
 const HELD: u64 = 4294967296;
@@ -70,7 +70,7 @@ fn with_digit(v: u64, b: u8) -> u64
 
 // The token that starts at `at`.
 fn token_at(text: &[u8], at: usize) -> Next
-    ensures { λ r. ⌜ Heads (within (number 0) (drop at (now (text .entry)))) (now (text .entry)) r ⌝ }
+    ensures { λ r. ⌜ Heads (tokensInside (number 0) (drop at (now (text .entry)))) (now (text .entry)) r ⌝ }
 {
     let mut v: u64 = 0;
     let mut i = at;

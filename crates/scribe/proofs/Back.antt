@@ -8,13 +8,13 @@ use lib.ListN.{length}
 use borrow.Author.Tests.{le-leb, ne-eqb}
 use Rattle.lists.specs.Lists.{Every}
 use Rattle.joblist.specs.Limits.{mostTime, mostDemand, mostJobs, mostResources}
-use Rattle.texts.specs.Tokens.{blank, Token, number, tokens, runs}
-use Rattle.texts.specs.Readings.{Read, good, andThen, one, times, many}
+use Rattle.texts.specs.Tokens.{blank, Token, number, tokens, solidRuns}
+use Rattle.texts.specs.Readings.{Read, good, andThen, one, inTurn, numbersUpTo}
 use Rattle.scanner.proofs.Runs.{tokens-run, tokens-over}
 use Rattle.projects.specs.Projects.{Row, Project, link}
 use Rattle.projects.specs.Patterson.{head, row, project, patterson}
 use Rattle.parsing.proofs.Whole.{opening-good, project-good}
-use Rattle.projects.specs.Form.{decimal, lineOf, numbers, jobLines, written}
+use Rattle.projects.specs.Form.{decimal, lineOf, numbers, jobLines, projectText}
 use Rattle.scribe.proofs.Writable.{WritableRow, Writable}
 use Rattle.scribe.proofs.Decimals.{decimal-token, decimal-solid, decimal-some}
 
@@ -41,7 +41,7 @@ abbrev rowTokens : Row → List Token
 rowTokens r = map number (numbers r)
 
 jobs-tokens : (rs : List Row) → tokens (jobLines rs) ≡ flat rowTokens rs
-unfolding jobLines tokens runs
+unfolding jobLines tokens solidRuns
 jobs-tokens [] = refl
 jobs-tokens (r ∷ rs) = line-tokens (numbers r) (jobLines rs) ∙ rw (jobs-tokens rs)
 
@@ -52,23 +52,23 @@ unfolding one
 one-back top code v ts h = rw (le-leb v top h)
 
 -- several readings, where each gives back its element
-times-back : {A : Type 0} (f : ℕ → List Token → Read A) (put : A → List Token) (P : A → Type 0)
+in-turn-back : {A : Type 0} (f : ℕ → List Token → Read A) (put : A → List Token) (P : A → Type 0)
     → ((j : ℕ) (a : A) (ts : List Token) → P a → f j (put a ++ ts) ≡ good a ts)
-    → (j : ℕ) (xs : List A) (ts : List Token) → Every P xs → times f j (length xs) (flat put xs ++ ts) ≡ good xs ts
-unfolding times
-times-back f put P each j [] ts h = refl
-times-back f put P each j (x ∷ xs) ts h =
-    rw (append-assoc (put x) (flat put xs) ts, each j x (flat put xs ++ ts) (h .0), times-back f put P each (suc j) xs ts (h .1))
+    → (j : ℕ) (xs : List A) (ts : List Token) → Every P xs → inTurn f j (length xs) (flat put xs ++ ts) ≡ good xs ts
+unfolding inTurn
+in-turn-back f put P each j [] ts h = refl
+in-turn-back f put P each j (x ∷ xs) ts h =
+    rw (append-assoc (put x) (flat put xs) ts, each j x (flat put xs ++ ts) (h .0), in-turn-back f put P each (suc j) xs ts (h .1))
 
 -- a token for each
 flat-map : {A : Type 0} (f : A → Token) (xs : List A) → flat (λ x. f x ∷ []) xs ≡ map f xs
 flat-map f [] = refl
 flat-map f (x ∷ xs) = rw (flat-map f xs)
 
-many-back : (top : ℕ) (vs : List ℕ) (ts : List Token) → Every (λ x. x ≤ top) vs → many top (length vs) (map number vs ++ ts) ≡ good vs ts
-unfolding many
-many-back top vs ts h =
-    rw (← flat-map number vs) (times-back (λ j. one top 31) (λ v. number v ∷ []) (λ x. x ≤ top) (λ j a u p. one-back top 31 a u p) 0 vs ts h)
+numbers-back : (top : ℕ) (vs : List ℕ) (ts : List Token) → Every (λ x. x ≤ top) vs → numbersUpTo top (length vs) (map number vs ++ ts) ≡ good vs ts
+unfolding numbersUpTo
+numbers-back top vs ts h =
+    rw (← flat-map number vs) (in-turn-back (λ j. one top 31) (λ v. number v ∷ []) (λ x. x ≤ top) (λ j a u p. one-back top 31 a u p) 0 vs ts h)
 
 link-back : (n s : ℕ) (ts : List Token) → s < n → link n (number (suc s) ∷ ts) ≡ good s ts
 unfolding link
@@ -77,7 +77,7 @@ link-back n s ts h = let p : suc s - 1 ≡ s = omega arith in rw (one-back n 32 
 head-back : (n d c : ℕ) (qs : List ℕ) (ts : List Token) → d ≤ mostTime → Every (λ x. x ≤ mostDemand) qs → c ≤ n
     → head n (length qs) (number d ∷ (map number qs ++ number c ∷ ts)) ≡ good (record { duration = d; demands = qs; count = c }) ts
 unfolding head
-head-back n d c qs ts hd hq hc = rw (one-back mostTime 31 d (map number qs ++ number c ∷ ts) hd, many-back mostDemand qs (number c ∷ ts) hq, one-back n 31 c ts hc)
+head-back n d c qs ts hd hq hc = rw (one-back mostTime 31 d (map number qs ++ number c ∷ ts) hd, numbers-back mostDemand qs (number c ∷ ts) hq, one-back n 31 c ts hc)
 
 -- the tokens of a job, part by part
 row-parts : (r : Row) (ts : List Token)
@@ -88,8 +88,8 @@ row-parts r ts =
 
 row-is : (n k j : ℕ) (ts : List Token)
     → row n k j ts
-    ≡ andThen (head n k ts) (λ h rest. andThen (times (λ i. link n) 0 (h .count) rest) (λ ss end. good (record { duration = h .duration; demands = h .demands; successors = ss }) end))
-unfolding row head times link
+    ≡ andThen (head n k ts) (λ h rest. andThen (inTurn (λ i. link n) 0 (h .count) rest) (λ ss end. good (record { duration = h .duration; demands = h .demands; successors = ss }) end))
+unfolding row head inTurn link
 row-is n k j ts = refl
 
 row-back : (n k j : ℕ) (r : Row) (ts : List Token) → WritableRow n k r → row n k j (rowTokens r ++ ts) ≡ good r ts
@@ -99,23 +99,23 @@ row-back n k j r ts w =
       row-parts r ts,
       ← w .demand-each,
       head-back n (r .duration) (length (r .successors)) (r .demands) (flat (λ s. number (suc s) ∷ []) (r .successors) ++ ts) (w .duration) (w .demands) (w .few),
-      times-back (λ i. link n) (λ s. number (suc s) ∷ []) (λ s. s < n) (λ i s u h. link-back n s u h) 0 (r .successors) ts (w .successors),
+      in-turn-back (λ i. link n) (λ s. number (suc s) ∷ []) (λ s. s < n) (λ i s u h. link-back n s u h) 0 (r .successors) ts (w .successors),
     )
 
 -- ---- the whole text
 
 -- its parts
-pub written-is : (x : Project) → written x ≡ lineOf (length (x .rows) ∷ length (x .capacities) ∷ []) ++ (lineOf (x .capacities) ++ jobLines (x .rows))
-unfolding written lineOf jobLines
+pub written-is : (x : Project) → projectText x ≡ lineOf (length (x .rows) ∷ length (x .capacities) ∷ []) ++ (lineOf (x .capacities) ++ jobLines (x .rows))
+unfolding projectText lineOf jobLines
 written-is x = append-assoc (lineOf (length (x .rows) ∷ length (x .capacities) ∷ [])) (lineOf (x .capacities)) (jobLines (x .rows))
 
-written-tokens : (x : Project) → tokens (written x) ≡ number (length (x .rows)) ∷ number (length (x .capacities)) ∷ (map number (x .capacities) ++ flat rowTokens (x .rows))
+written-tokens : (x : Project) → tokens (projectText x) ≡ number (length (x .rows)) ∷ number (length (x .capacities)) ∷ (map number (x .capacities) ++ flat rowTokens (x .rows))
 written-tokens x =
     ap tokens (written-is x)
     ∙ line-tokens (length (x .rows) ∷ length (x .capacities) ∷ []) (lineOf (x .capacities) ++ jobLines (x .rows))
     ∙ rw (line-tokens (x .capacities) (jobLines (x .rows)), jobs-tokens (x .rows))
 
-pub read-back : (x : Project) → Writable x → patterson (written x) ≡ good x []
+pub read-back : (x : Project) → Writable x → patterson (projectText x) ≡ good x []
 unfolding patterson
 read-back x w =
     let n = length (x .rows) in
@@ -123,8 +123,8 @@ read-back x w =
     let ts = flat rowTokens (x .rows) in
     let t₁ = number k ∷ (map number (x .capacities) ++ ts) in
     let o = opening-good (number n ∷ t₁) n t₁ (one-back mostJobs 31 n t₁ (w .jobs)) k (map number (x .capacities) ++ ts)
-    (one-back mostResources 31 k (map number (x .capacities) ++ ts) (w .resources)) (x .capacities) ts (many-back mostDemand (x .capacities) ts (w .capacities)) in
-    let rs = times-back (row n k) rowTokens (WritableRow n k) (λ j r u h. row-back n k j r u h) 0 (x .rows) [] (w .rows) in
+    (one-back mostResources 31 k (map number (x .capacities) ++ ts) (w .resources)) (x .capacities) ts (numbers-back mostDemand (x .capacities) ts (w .capacities)) in
+    let rs = in-turn-back (row n k) rowTokens (WritableRow n k) (λ j r u h. row-back n k j r u h) 0 (x .rows) [] (w .rows) in
     ap project (written-tokens x)
     ∙ project-good (number n ∷ t₁) ts (record { jobs = n; resources = k; capacities = x .capacities }) o (x .rows) []
-    (ap (times (row n k) 0 n) (sym (append-nil ts)) ∙ rs) refl
+    (ap (inTurn (row n k) 0 n) (sym (append-nil ts)) ∙ rs) refl

@@ -12,7 +12,7 @@ use Rattle.chains.specs.Paths.{Pair}
 use Rattle.chains.specs.Listed.{paired}
 use Rattle.projects.specs.Projects.{Project, tagged, pairsFrom}
 use Rattle.scanner.specs.Scan.{held}
-use Rattle.projects.specs.Form.{decimal, lineOf, jobLines, written}
+use Rattle.projects.specs.Form.{decimal, lineOf, jobLines, projectText}
 use Rattle.projects.specs.Made.{successorsOf, rowsFrom, made}
 use Rattle.scribe.specs.Says.{mostBytes, Put, RoomFor}
 use Rattle.scribe.specs.Writing.{Ready, Ran}
@@ -78,7 +78,7 @@ module _ (cap : ℕ) {durs dems js ss : List ℕ} (g : Ready durs dems js ss) wh
   same-lists : length durs ≡ length dems
   same-lists = sym (g .demands)
 
-  pub write-parts : Parts (decimal (length durs) ++ 32 ∷ []) (decimal 1 ++ 10 ∷ []) (decimal cap ++ 10 ∷ []) (jobLines (rowsFrom 0 durs dems (paired js ss))) (written (made cap durs dems (paired js ss)))
+  pub write-parts : Parts (decimal (length durs) ++ 32 ∷ []) (decimal 1 ++ 10 ∷ []) (decimal cap ++ 10 ∷ []) (jobLines (rowsFrom 0 durs dems (paired js ss))) (projectText (made cap durs dems (paired js ss)))
   write-parts =
       let rs = rowsFrom 0 durs dems (paired js ss) in
       record {
@@ -87,7 +87,7 @@ module _ (cap : ℕ) {durs dems js ss : List ℕ} (g : Ready durs dems js ss) wh
             ∙ rw (rows-length 0 durs dems (paired js ss) same-lists, one-line cap) (two-line (length durs) 1 ((decimal cap ++ 10 ∷ []) ++ jobLines rs));
       }
 
-  written-short : cap < held → ((k : ℕ) → durs ! k < held) → ((k : ℕ) → dems ! k < held) → length (written (made cap durs dems (paired js ss))) ≤ mostBytes
+  written-short : cap < held → ((k : ℕ) → durs ! k < held) → ((k : ℕ) → dems ! k < held) → length (projectText (made cap durs dems (paired js ss))) ≤ mostBytes
   written-short c a b =
       let n = length durs in
       let ps = paired js ss in
@@ -104,9 +104,9 @@ module _ (cap : ℕ) {durs dems js ss : List ℕ} (g : Ready durs dems js ss) wh
       (omega (arith, heads, caps, lines, count, few, m, g .few))
 
   pub whole-room : {dry : Bool} {b : List ℕ} → cap < held → ((k : ℕ) → durs ! k < held) → ((k : ℕ) → dems ! k < held)
-      → (dry ≡ false → length (written (made cap durs dems (paired js ss))) ≤ length b) → RoomFor dry 0 (written (made cap durs dems (paired js ss))) b
+      → (dry ≡ false → length (projectText (made cap durs dems (paired js ss))) ≤ length b) → RoomFor dry 0 (projectText (made cap durs dems (paired js ss))) b
   whole-room c x y h = record { few = omega (arith, written-short c x y); room = λ e. omega (arith, h e) }
 
 -- the whole text put from the start on
-pub put-whole : {dry : Bool} {x : Project} {b b' : List ℕ} {r : ℕ} → Put dry 0 (written x) b b' r → Ran dry x b b' r
-put-whole {x = x} p = let z : 0 + length (written x) ≡ length (written x) = omega arith in record { count = p .place ∙ z; bytes = p .bytes ∙ rw z }
+pub put-whole : {dry : Bool} {x : Project} {b b' : List ℕ} {r : ℕ} → Put dry 0 (projectText x) b b' r → Ran dry x b b' r
+put-whole {x = x} p = let z : 0 + length (projectText x) ≡ length (projectText x) = omega arith in record { count = p .place ∙ z; bytes = p .bytes ∙ rw z }

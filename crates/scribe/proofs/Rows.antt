@@ -15,7 +15,7 @@ use Rattle.chains.specs.Listed.{paired, Rising}
 use Rattle.projects.specs.Projects.{tagged, pairsFrom, pairsOf, durations, demandsOn}
 use Rattle.projects.specs.Patterson.{patterson}
 use Rattle.texts.specs.Readings.{good}
-use Rattle.projects.specs.Form.{written}
+use Rattle.projects.specs.Form.{projectText}
 use Rattle.projects.specs.Made.{successorsOf, rowsFrom, made}
 use Rattle.scribe.proofs.Writable.{WritableRow, Writable}
 use Rattle.scribe.proofs.Back.{read-back}
@@ -156,5 +156,5 @@ module _ (n cap : ℕ) (durs dems js ss : List ℕ) (h : Rising n js ss) (e : le
 
   -- what the reader gives back of it
   pub made-back : n ≤ mostJobs → cap ≤ mostDemand → Every (λ x. x ≤ mostTime) durs → Every (λ x. x ≤ mostDemand) dems
-      → patterson (written (made cap durs dems (paired js ss))) ≡ good (made cap durs dems (paired js ss)) []
+      → patterson (projectText (made cap durs dems (paired js ss))) ≡ good (made cap durs dems (paired js ss)) []
   made-back few c p q = read-back (made cap durs dems (paired js ss)) (made-writable few c p q)

@@ -8,7 +8,7 @@ use lib.ListN.{length, drop}
 use Rattle.joblist.specs.Limits.{mostJobs}
 use Rattle.chains.specs.Listed.{Rising}
 use Rattle.projects.specs.Projects.{Project}
-use Rattle.projects.specs.Form.{written}
+use Rattle.projects.specs.Form.{projectText}
 use Rattle.scribe.specs.declared.Outcome.{Outcome}
 use Rattle.scribe.specs.declared.Outcome.the-variants.{Wrote, Short}
 
@@ -21,10 +21,10 @@ pub record Ready (durs dems js ss : List ℕ) : Type 0 where
 
 -- the whole text stands at the front of the buffer, the bytes beyond stay, and r is how many they are
 pub record Ran (dry : Bool) (x : Project) (buffer after : List ℕ) (r : ℕ) : Type 0 where
-  pub count : r ≡ length (written x)
-  pub bytes : after ≡ cond dry buffer (written x ++ drop (length (written x)) buffer)
+  pub count : r ≡ length (projectText x)
+  pub bytes : after ≡ cond dry buffer (projectText x ++ drop (length (projectText x)) buffer)
 
 -- the text written where there is room for it; else the buffer is too short, and is as it was
 abbrev pub OutcomeSays : Project → List ℕ → List ℕ → Outcome → Type 0
-OutcomeSays x buffer after (Wrote n) = (length (written x) ≤ length buffer) × (n ≡ length (written x)) × (after ≡ written x ++ drop (length (written x)) buffer)
-OutcomeSays x buffer after Short = (length buffer < length (written x)) × (after ≡ buffer)
+OutcomeSays x buffer after (Wrote n) = (length (projectText x) ≤ length buffer) × (n ≡ length (projectText x)) × (after ≡ projectText x ++ drop (length (projectText x)) buffer)
+OutcomeSays x buffer after Short = (length buffer < length (projectText x)) × (after ≡ buffer)

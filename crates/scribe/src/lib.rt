@@ -9,7 +9,7 @@ ghost use mathlib.Core.Bool.{false};
 ghost use Prim.Native.Nat.{_≤_};
 ghost use lib.ListN.{length};
 ghost use Rattle.chains.specs.Listed.{paired};
-ghost use Rattle.projects.specs.Form.{written};
+ghost use Rattle.projects.specs.Form.{projectText};
 ghost use Rattle.projects.specs.Made.{made};
 ghost use Rattle.scribe.specs.Writing.{Ready, Ran, OutcomeSays};
 
@@ -50,7 +50,7 @@ fn put_project(
     buffer: &mut [u8],
 ) -> usize
     requires { ⌜ Ready (now dur) (now dem) (now jobs) (now successors) ⌝ }
-    requires { ⌜ (dry ≡ false → length (written (made cap (now dur) (now dem) (paired (now jobs) (now successors)))) ≤ length (now buffer)) ⌝ }
+    requires { ⌜ (dry ≡ false → length (projectText (made cap (now dur) (now dem) (paired (now jobs) (now successors)))) ≤ length (now buffer)) ⌝ }
     ensures { λ r. ⌜ Ran dry (made cap (now (dur .entry)) (now (dem .entry)) (paired (now (jobs .entry)) (now (successors .entry)))) (now (buffer .entry)) (now (buffer .exit)) r ⌝ }
 {
     let a = put(dry, dur.len() as u32, b' ', 0, buffer);

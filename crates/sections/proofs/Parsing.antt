@@ -7,14 +7,14 @@ use lib.ListN.{length, drop, take}
 use Rattle.lists.specs.Lists.{_!_}
 use Rattle.joblist.specs.Limits.{mostDemand, mostJobs, mostResources}
 use Rattle.texts.specs.Tokens.{Token, tokens}
-use Rattle.texts.specs.Readings.{bad, good, times, many}
-use Rattle.texts.proofs.Readings.{said-good, said-bad, many-takes}
+use Rattle.texts.specs.Readings.{bad, good, inTurn, numbersUpTo}
+use Rattle.texts.proofs.Readings.{said-good, said-bad, numbers-takes}
 use Rattle.headings.specs.Lines.{behindLines, counted}
 use Rattle.headings.specs.Headings.{marks, inOrder, section}
 use Rattle.projects.specs.Projects.{Project, pairsFrom, durations, demandsOn}
 use Rattle.projects.specs.Tables.{relation, Need, request}
 use Rattle.parsing.specs.Walk.{Seen, seeing, WalkedSays}
-use Rattle.parsing.specs.Parsed.{onlyPairs, comes, first, ParsedSays}
+use Rattle.parsing.specs.Parsed.{onlyPairs, comes, rowsAt, ParsedSays}
 use Rattle.parsing.specs.declared.Table.the-variants.{Relations, Requests}
 use Rattle.parsing.specs.declared.Walked.{Walked}
 use Rattle.parsing.specs.declared.Parsed.{Parsed}
@@ -30,26 +30,26 @@ use Rattle.psplib.proofs.Limits.{relations-take, requests-take, tables-take, ta
 pub record Related (n : ℕ) (s relations : List ℕ) (at pairs : ℕ) : Type 0 where
   pub sss : List (List ℕ)
   pub end : List Token
-  pub read : times (relation n) 0 n (tokens (behindLines 2 relations)) ≡ good sss end
+  pub read : inTurn (relation n) 0 n (tokens (behindLines 2 relations)) ≡ good sss end
   pub count : length (pairsFrom 0 (map linked sss)) ≡ pairs
-  pub come : comes n Relations s (first at) ≡ good (pairsFrom 0 (map linked sss)) end
+  pub come : comes n Relations s (rowsAt at) ≡ good (pairsFrom 0 (map linked sss)) end
 
 -- the requests read, with durations and demands in the arrays
 pub record Requested (n k res : ℕ) (requests durs dems : List ℕ) : Type 0 where
   pub qs : List Need
   pub end : List Token
-  pub read : times (request k) 0 n (tokens (behindLines 3 requests)) ≡ good qs end
+  pub read : inTurn (request k) 0 n (tokens (behindLines 3 requests)) ≡ good qs end
   pub durs-are : durations (map needed qs) ≡ take n durs
   pub dems-are : demandsOn res (map needed qs) ≡ take n dems
 
 module _ (n res : ℕ) (s relations : List ℕ) (at : ℕ) (here : drop at s ≡ behindLines 2 relations) where
-  no-relation : (c : ℕ) → seeing n Relations res 0 0 (tokens (drop at s)) ≡ bad c → times (relation n) 0 n (tokens (behindLines 2 relations)) ≡ bad c
+  no-relation : (c : ℕ) → seeing n Relations res 0 0 (tokens (drop at s)) ≡ bad c → inTurn (relation n) 0 n (tokens (behindLines 2 relations)) ≡ bad c
   no-relation c e = said-bad (map linked) _ c (sym (relations-said n (tokens (behindLines 2 relations))) ∙ rw (← here) (rows-bad n Relations res (tokens (drop at s)) c e))
 
   pub relations-read : (durs dems : List ℕ) (pairs to : ℕ) → WalkedSays (seeing n Relations res 0 0 (tokens (drop at s))) s n durs dems (Walked.Read pairs to) → Related n s relations at pairs
   relations-read durs dems pairs to f =
       let t = rows-good n Relations res (tokens (drop at s)) (tokens (drop to s)) (f .0) (f .1) in
-      let q = said-good (map linked) (times (relation n) 0 n (tokens (drop at s))) (t .0) (tokens (drop to s)) (sym (relations-said n (tokens (drop at s))) ∙ t .1) in
+      let q = said-good (map linked) (inTurn (relation n) 0 n (tokens (drop at s))) (t .0) (tokens (drop to s)) (sym (relations-said n (tokens (drop at s))) ∙ t .1) in
       let v : f .0 ≡ viewed res (map linked (q .0)) = t .2 ∙ ap (viewed res) (q .2) in
       record {
         sss = q .0;
@@ -60,13 +60,13 @@ module _ (n res : ℕ) (s relations : List ℕ) (at : ℕ) (here : drop at s ≡
       }
 
 module _ (n k res : ℕ) (s requests : List ℕ) (to : ℕ) (here : drop to s ≡ behindLines 3 requests) where
-  no-request : (c : ℕ) → seeing n (Requests k) res 0 0 (tokens (drop to s)) ≡ bad c → times (request k) 0 n (tokens (behindLines 3 requests)) ≡ bad c
+  no-request : (c : ℕ) → seeing n (Requests k) res 0 0 (tokens (drop to s)) ≡ bad c → inTurn (request k) 0 n (tokens (behindLines 3 requests)) ≡ bad c
   no-request c e = said-bad (map needed) _ c (sym (requests-said n k (tokens (behindLines 3 requests))) ∙ rw (← here) (rows-bad n (Requests k) res (tokens (drop to s)) c e))
 
   pub requests-read : (durs dems : List ℕ) (m end : ℕ) → WalkedSays (seeing n (Requests k) res 0 0 (tokens (drop to s))) s n durs dems (Walked.Read m end) → Requested n k res requests durs dems
   requests-read durs dems m end f =
       let t = rows-good n (Requests k) res (tokens (drop to s)) (tokens (drop end s)) (f .0) (f .1) in
-      let q = said-good (map needed) (times (request k) 0 n (tokens (drop to s))) (t .0) (tokens (drop end s)) (sym (requests-said n k (tokens (drop to s))) ∙ t .1) in
+      let q = said-good (map needed) (inTurn (request k) 0 n (tokens (drop to s))) (t .0) (tokens (drop end s)) (sym (requests-said n k (tokens (drop to s))) ∙ t .1) in
       let v : f .0 ≡ viewed res (map needed (q .0)) = t .2 ∙ ap (viewed res) (q .2) in
       record {
         qs = q .0;
@@ -96,13 +96,13 @@ module _ (n k res : ℕ) (s relations requests capacities : List ℕ) where
       no-requests c e = refused c (rw (r .read, no-request n k res s requests to here c e))
 
     module _ (durs dems : List ℕ) (q : Requested n k res requests durs dems) (from : ℕ) (here : drop from s ≡ behindLines 2 capacities) where
-      pub no-capacities : (c : ℕ) → many mostDemand k (tokens (drop from s)) ≡ bad c → Refused c
+      pub no-capacities : (c : ℕ) → numbersUpTo mostDemand k (tokens (drop from s)) ≡ bad c → Refused c
       unfolding tables
       no-capacities c e =
-          let p : many mostDemand k (tokens (behindLines 2 capacities)) ≡ bad c = rw (← here) e in
+          let p : numbersUpTo mostDemand k (tokens (behindLines 2 capacities)) ≡ bad c = rw (← here) e in
           refused c (rw (r .read, q .read, p))
 
-      pub tables-read : (cs : List ℕ) (rest : List Token) (cap : ℕ) → n ≤ mostJobs → many mostDemand k (tokens (drop from s)) ≡ good cs rest → cs ! res ≡ cap
+      pub tables-read : (cs : List ℕ) (rest : List Token) (cap : ℕ) → n ≤ mostJobs → numbersUpTo mostDemand k (tokens (drop from s)) ≡ good cs rest → cs ! res ≡ cap
           → ParsedSays (tables n k relations requests capacities) s res durs dems (Parsed.Read (record { n = n; k = k; cap = cap; pairs = pairs; table = Relations; at = at }))
       unfolding tables
       tables-read cs rest cap few e picked =
@@ -112,7 +112,7 @@ module _ (n k res : ℕ) (s relations requests capacities : List ℕ) where
             said,
             record {
               jobs = join-long (r .sss) (q .qs) even ∙ long;
-              resources = many-takes mostDemand k (tokens (drop from s)) rest cs e .0;
+              resources = numbers-takes mostDemand k (tokens (drop from s)) rest cs e .0;
               cap = picked;
               durs-are = join-durations (r .sss) (q .qs) even ∙ q .durs-are;
               dems-are = join-demands res (r .sss) (q .qs) even ∙ q .dems-are;
@@ -128,7 +128,7 @@ module _ (n k res : ℕ) (s relations requests capacities : List ℕ) where
 
           said : tables n k relations requests capacities ≡ good made []
           said =
-              let p : many mostDemand k (tokens (behindLines 2 capacities)) ≡ good cs rest = rw (← here) e in
+              let p : numbersUpTo mostDemand k (tokens (behindLines 2 capacities)) ≡ good cs rest = rw (← here) e in
               rw (r .read, q .read, p)
 
 -- ---- the whole text

@@ -83,7 +83,7 @@ fn read_tables(
                 Walked::Refused(c) => Parsed::Refused(c),
                 Walked::Read(_, _) => {
                     let capacities = seeker::behind_lines(text, from.capacities, BEHIND_NAMES);
-                    match parsing::read_many(text, capacities, k, screen::MOST_DEMAND, res) {
+                    match parsing::read_numbers(text, capacities, k, screen::MOST_DEMAND, res) {
                         Got::Refused(c) => Parsed::Refused(c),
                         Got::Read(cap, _) => Parsed::Read(Shape {
                             n,

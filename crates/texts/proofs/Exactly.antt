@@ -8,7 +8,7 @@ use mathlib.Core.Logic.{_⊎_, inl, inr, _↔_}
 use lib.Dec.{leb}
 use borrow.Author.Tests.{leb-true, leb-false, le-leb, lt-leb}
 use Rattle.texts.specs.Tokens.{Token, number, other}
-use Rattle.texts.specs.Readings.{Read, bad, good, andThen, one, times, many, nothingMore}
+use Rattle.texts.specs.Readings.{Read, bad, good, andThen, one, inTurn, numbersUpTo, nothingMore}
 use Rattle.texts.proofs.Readings.{bad-not-good, good-same, then-good, then-bad}
 
 -- no number stands next: the tokens are at their end, or the next one is anything else
@@ -114,14 +114,14 @@ pub record Behind {A : Type 0} (f : ℕ → List Token → Read A) (Refused : �
   pub before : i < m
   pub xs : List A
   pub rest : List Token
-  pub read : times f j i ts ≡ good xs rest
+  pub read : inTurn f j i ts ≡ good xs rest
   pub refused : Refused (j + i) rest
 
 module _ {A : Type 0} (f : ℕ → List Token → Read A) (Refused : ℕ → List Token → Type 0) (c : ℕ) (facts : (j : ℕ) (ts : List Token) → (f j ts ≡ bad c) ↔ Refused j ts) where
-  times-to : (j m : ℕ) (ts : List Token) → times f j m ts ≡ bad c → Behind f Refused j m ts
-  unfolding times
-  times-to j zero ts e = bad-not-good (good [] ts) c [] ts e refl
-  times-to j (suc m) ts e = go (then-bad (f j ts) (λ a u. andThen (times f (suc j) m u) (λ ys end. good (a ∷ ys) end)) c e) (λ u q. times-to (suc j) m u q)
+  in-turn-to : (j m : ℕ) (ts : List Token) → inTurn f j m ts ≡ bad c → Behind f Refused j m ts
+  unfolding inTurn
+  in-turn-to j zero ts e = bad-not-good (good [] ts) c [] ts e refl
+  in-turn-to j (suc m) ts e = go (then-bad (f j ts) (λ a u. andThen (inTurn f (suc j) m u) (λ ys end. good (a ∷ ys) end)) c e) (λ u q. in-turn-to (suc j) m u q)
     where
       here : f j ts ≡ bad c → Behind f Refused j (suc m) ts
       here q = let z : j + 0 ≡ j = omega arith in record { i = 0; before = omega arith; xs = []; rest = ts; read = refl; refused = rw z (facts j ts .0 q) }
@@ -131,38 +131,38 @@ module _ {A : Type 0} (f : ℕ → List Token → Read A) (Refused : ℕ → Lis
           let z : j + suc (b .i) ≡ suc j + b .i = omega arith in
           record { i = suc (b .i); before = omega (arith, b .before); xs = a ∷ b .xs; rest = b .rest; read = rw (q, b .read); refused = rw z (b .refused) }
 
-      go : (f j ts ≡ bad c) ⊎ ((a : A) × (u : List Token) × (f j ts ≡ good a u) × (andThen (times f (suc j) m u) (λ ys end. good (a ∷ ys) end) ≡ bad c))
-          → ((u : List Token) → times f (suc j) m u ≡ bad c → Behind f Refused (suc j) m u) → Behind f Refused j (suc m) ts
+      go : (f j ts ≡ bad c) ⊎ ((a : A) × (u : List Token) × (f j ts ≡ good a u) × (andThen (inTurn f (suc j) m u) (λ ys end. good (a ∷ ys) end) ≡ bad c))
+          → ((u : List Token) → inTurn f (suc j) m u ≡ bad c → Behind f Refused (suc j) m u) → Behind f Refused j (suc m) ts
       go (inl q) k = here q
-      go (inr (a, u, q, p)) k = last (then-bad (times f (suc j) m u) (λ ys end. good (a ∷ ys) end) c p)
+      go (inr (a, u, q, p)) k = last (then-bad (inTurn f (suc j) m u) (λ ys end. good (a ∷ ys) end) c p)
         where
-          last : (times f (suc j) m u ≡ bad c) ⊎ ((ys : List A) × (v : List Token) × (times f (suc j) m u ≡ good ys v) × (good (a ∷ ys) v ≡ bad c)) → Behind f Refused j (suc m) ts
+          last : (inTurn f (suc j) m u ≡ bad c) ⊎ ((ys : List A) × (v : List Token) × (inTurn f (suc j) m u ≡ good ys v) × (good (a ∷ ys) v ≡ bad c)) → Behind f Refused j (suc m) ts
           last (inl y) = later a u q (k u y)
           last (inr (ys, v, y, w)) = bad-not-good (good (a ∷ ys) v) c (a ∷ ys) v w refl
 
-  times-from : (j m i : ℕ) (ts rest : List Token) (xs : List A) → i < m → times f j i ts ≡ good xs rest → f (j + i) rest ≡ bad c → times f j m ts ≡ bad c
-  unfolding times
-  times-from j zero i ts rest xs h e q = absurd (omega arith)
-  times-from j (suc m) zero ts rest xs h e q =
+  in-turn-from : (j m i : ℕ) (ts rest : List Token) (xs : List A) → i < m → inTurn f j i ts ≡ good xs rest → f (j + i) rest ≡ bad c → inTurn f j m ts ≡ bad c
+  unfolding inTurn
+  in-turn-from j zero i ts rest xs h e q = absurd (omega arith)
+  in-turn-from j (suc m) zero ts rest xs h e q =
       let u : ts ≡ rest = good-same [] xs ts rest e .1 in
       let z : j + 0 ≡ j = omega arith in
       let p : f j ts ≡ bad c = subst (λ (v : List Token). f j v ≡ bad c) (sym u) (subst (λ (k : ℕ). f k rest ≡ bad c) z q) in
       rw p
-  times-from j (suc m) (suc i) ts rest xs h e q =
-      let s = then-good (f j ts) (λ a u. andThen (times f (suc j) i u) (λ ys end. good (a ∷ ys) end)) xs rest e in
-      let t = then-good (times f (suc j) i (s .1)) (λ ys end. good (s .0 ∷ ys) end) xs rest (s .3) in
+  in-turn-from j (suc m) (suc i) ts rest xs h e q =
+      let s = then-good (f j ts) (λ a u. andThen (inTurn f (suc j) i u) (λ ys end. good (a ∷ ys) end)) xs rest e in
+      let t = then-good (inTurn f (suc j) i (s .1)) (λ ys end. good (s .0 ∷ ys) end) xs rest (s .3) in
       let v : t .1 ≡ rest = good-same (s .0 ∷ t .0) xs (t .1) rest (t .3) .1 in
       let z : j + suc i ≡ suc j + i = omega arith in
-      let w = times-from (suc j) m i (s .1) rest (t .0) (omega arith) (t .2 ∙ ap (good (t .0)) v) (subst (λ (k : ℕ). f k rest ≡ bad c) z q) in
+      let w = in-turn-from (suc j) m i (s .1) rest (t .0) (omega arith) (t .2 ∙ ap (good (t .0)) v) (subst (λ (k : ℕ). f k rest ≡ bad c) z q) in
       rw (s .2, w)
 
-  pub times-refused : (j m : ℕ) (ts : List Token) → (times f j m ts ≡ bad c) ↔ Behind f Refused j m ts
-  times-refused j m ts = (times-to j m ts, λ b. times-from j m (b .i) ts (b .rest) (b .xs) (b .before) (b .read) (facts (j + b .i) (b .rest) .1 (b .refused)))
+  pub in-turn-refused : (j m : ℕ) (ts : List Token) → (inTurn f j m ts ≡ bad c) ↔ Behind f Refused j m ts
+  in-turn-refused j m ts = (in-turn-to j m ts, λ b. in-turn-from j m (b .i) ts (b .rest) (b .xs) (b .before) (b .read) (facts (j + b .i) (b .rest) .1 (b .refused)))
 
 -- numbers up to a limit: one of them is missing, is none, or is above it, behind numbers that are not
-abbrev pub ManyRefused : ℕ → ℕ → ℕ → List Token → Type 0
-ManyRefused top m c ts = Behind (λ j. one top 31) (λ j. OneRefused top 31 c) 0 m ts
+abbrev pub NumbersRefused : ℕ → ℕ → ℕ → List Token → Type 0
+NumbersRefused top m c ts = Behind (λ j. one top 31) (λ j. OneRefused top 31 c) 0 m ts
 
-pub many-refused : (top m c : ℕ) (ts : List Token) → (many top m ts ≡ bad c) ↔ ManyRefused top m c ts
-unfolding many
-many-refused top m c ts = times-refused (λ j. one top 31) (λ j. OneRefused top 31 c) c (λ j u. one-refused top 31 c u) 0 m ts
+pub numbers-refused : (top m c : ℕ) (ts : List Token) → (numbersUpTo top m ts ≡ bad c) ↔ NumbersRefused top m c ts
+unfolding numbersUpTo
+numbers-refused top m c ts = in-turn-refused (λ j. one top 31) (λ j. OneRefused top 31 c) c (λ j u. one-refused top 31 c u) 0 m ts

@@ -29,14 +29,14 @@ exactly v (other ∷ ts) = bad 30
 exactly v (number x ∷ ts) = cond (eqb x v) (good x ts) (bad 30)
 
 -- m readings, the first of them numbered j
-unfoldable pub times : {A : Type 0} → (ℕ → List Token → Read A) → ℕ → ℕ → List Token → Read (List A)
-times f j zero ts = good [] ts
-times f j (suc m) ts = andThen (f j ts) (λ a rest. andThen (times f (suc j) m rest) (λ xs end. good (a ∷ xs) end))
+unfoldable pub inTurn : {A : Type 0} → (ℕ → List Token → Read A) → ℕ → ℕ → List Token → Read (List A)
+inTurn f j zero ts = good [] ts
+inTurn f j (suc m) ts = andThen (f j ts) (λ a rest. andThen (inTurn f (suc j) m rest) (λ xs end. good (a ∷ xs) end))
 
 -- m numbers up to `top`, 31 where one is above it
-unfoldable pub many : ℕ → ℕ → List Token → Read (List ℕ)
-unfolding times one
-many top m ts = times (λ j. one top 31) 0 m ts
+unfoldable pub numbersUpTo : ℕ → ℕ → List Token → Read (List ℕ)
+unfolding inTurn one
+numbersUpTo top m ts = inTurn (λ j. one top 31) 0 m ts
 
 -- nothing more: 30 where a token is left over
 abbrev pub nothingMore : {A : Type 0} → A → List Token → Read A

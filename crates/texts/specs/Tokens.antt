@@ -25,10 +25,10 @@ onto b [] = (b ∷ []) ∷ []
 onto b (t ∷ ts) = (b ∷ t) ∷ ts
 
 -- the longest runs of bytes other than blanks
-unfoldable pub runs : List ℕ → List (List ℕ)
+unfoldable pub solidRuns : List ℕ → List (List ℕ)
 unfolding blank
-runs [] = []
-runs (b ∷ s) = cond (blank b) (runs s) (cond (goesOn s) (onto b (runs s)) ((b ∷ []) ∷ runs s))
+solidRuns [] = []
+solidRuns (b ∷ s) = cond (blank b) (solidRuns s) (cond (goesOn s) (onto b (solidRuns s)) ((b ∷ []) ∷ solidRuns s))
 
 -- what such a run is: a number, or anything else
 pub data Token : Type 0 where
@@ -53,5 +53,5 @@ token t = tokenFrom (number 0) t
 
 -- all of a text's
 unfoldable pub tokens : List ℕ → List Token
-unfolding runs token
-tokens s = map token (runs s)
+unfolding solidRuns token
+tokens s = map token (solidRuns s)

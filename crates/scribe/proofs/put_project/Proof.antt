@@ -2,7 +2,7 @@
 use native.Mathlib.Omega.{arith}
 use borrow.Author.Needs.{needs}
 use Rattle.chains.specs.Listed.{paired}
-use Rattle.projects.specs.Form.{written}
+use Rattle.projects.specs.Form.{projectText}
 use Rattle.projects.specs.Made.{made}
 use Rattle.scribe.specs.Says.{RoomFor}
 use Rattle.scribe.proofs.Puts.{room-same, first-room, second-room, third-room, fourth-room, all-put}
@@ -12,7 +12,7 @@ use Rattle.scribe.proofs.put_project.Statement.{statement}
 use Rattle.scribe.proofs.put_project.Tie as tie
 
 -- there is room for the whole text, and it is not too long to be counted
-room : (k : tie.After-shared-slice-known2) → let a = k .before .before .args in RoomFor (a .dry) 0 (written (made (a .cap) (a .dur .now) (a .dem .now) (paired (a .jobs .now) (a .successors .now)))) (a .buffer .now)
+room : (k : tie.After-shared-slice-known2) → let a = k .before .before .args in RoomFor (a .dry) 0 (projectText (made (a .cap) (a .dur .now) (a .dem .now) (paired (a .jobs .now) (a .successors .now)))) (a .buffer .now)
 room k =
     let s = k .before .before in
     whole-room _ (s .pre .0) (s .fits .cap .fits) (λ i. k .before .shared-slice-known .given i .fits) (λ i. k .shared-slice-known2 .given i .fits) (s .pre .1)

@@ -40,8 +40,8 @@ enum-told c = search needs
 behind-lines-requires-3 : tie.Need-behind-lines-requires-3
 behind-lines-requires-3 c κs = search needs
 
-read-many-requires : tie.Need-read-many-requires
-read-many-requires c κs = search needs
+read-numbers-requires : tie.Need-read-numbers-requires
+read-numbers-requires c κs = search needs
 
 enum-known-c-3 : tie.Need-enum-known-c-3
 enum-known-c-3 c = search needs
@@ -70,7 +70,7 @@ returns-3 c =
     let r = related e in
     let v = c .before .before .before .before .before .before .before .validate2 .ensures in
     let q = requests-read _ _ _ t _ (c .before .before .before .before .before .before .before .before .before .before .behind-lines2 .result) (c .before .before .before .before .before .before .before .before .before .before .behind-lines2 .ensures) _ _ _ (c .before .before .before .before .before .enum-told .given .0 .1 .0) (rw (c .before .before .before .before .before .enum-told .given .1) at (v .0)) in
-    (no-capacities _ _ _ t _ _ _ _ _ r _ _ q (c .before .before .before .before .behind-lines3 .result) (c .before .before .before .before .behind-lines3 .ensures) _ (rw (c .before .c3 .given .1) at (c .before .before .before .read-many .ensures)), v .1, v .2, v .3)
+    (no-capacities _ _ _ t _ _ _ _ _ r _ _ q (c .before .before .before .before .behind-lines3 .result) (c .before .before .before .before .behind-lines3 .ensures) _ (rw (c .before .c3 .given .1) at (c .before .before .before .read-numbers .ensures)), v .1, v .2, v .3)
 
 returns-4 : tie.Need-returns-4
 returns-4 c =
@@ -79,7 +79,7 @@ returns-4 c =
     let r = related e in
     let v = c .before .before .before .before .before .before .before .validate2 .ensures in
     let q = requests-read _ _ _ t _ (c .before .before .before .before .before .before .before .before .before .before .behind-lines2 .result) (c .before .before .before .before .before .before .before .before .before .before .behind-lines2 .ensures) _ _ _ (c .before .before .before .before .before .enum-told .given .0 .1 .0) (rw (c .before .before .before .before .before .enum-told .given .1) at (v .0)) in
-    let m = rw (c .before .cap .given .1) at (c .before .before .before .read-many .ensures) in
+    let m = rw (c .before .cap .given .1) at (c .before .before .before .read-numbers .ensures) in
     (tables-read _ _ _ t _ _ _ _ _ r _ _ q (c .before .before .before .before .behind-lines3 .result) (c .before .before .before .before .behind-lines3 .ensures) _ _ _ (started e .pre .0) (m .1) (m .2), v .1, v .2, v .3)
 
 pub read-tables-spec : {M : Type 1} → statement M
@@ -95,7 +95,7 @@ read-tables-spec =
     enum-known-c-2
     enum-told
     behind-lines-requires-3
-    read-many-requires
+    read-numbers-requires
     enum-known-c-3
     enum-known-cap
     returns

@@ -1,6 +1,6 @@
 -- `parsing::parts::open_text` meets its contract: its three readings, one after the other.
 use mathlib.Core.Path.{refl}
-use Rattle.texts.proofs.Readings.{one-takes, many-takes}
+use Rattle.texts.proofs.Readings.{one-takes, numbers-takes}
 use Rattle.parsing.proofs.Whole.{opening-bad, opening-bad₂, opening-bad₃, opening-good}
 use borrow.Author.Needs.{needs}
 use Rattle.parsing.proofs.parts.open_text.Statement.{statement}
@@ -27,8 +27,8 @@ enum-known-c-2 c = search needs
 enum-known-k : tie.Need-enum-known-k
 enum-known-k c = search needs
 
-read-many-requires : tie.Need-read-many-requires
-read-many-requires c κs = search needs
+read-numbers-requires : tie.Need-read-numbers-requires
+read-numbers-requires c κs = search needs
 
 enum-known-c-3 : tie.Need-enum-known-c-3
 enum-known-c-3 c = search needs
@@ -49,15 +49,15 @@ returns-3 : tie.Need-returns-3
 returns-3 c =
     let p = rw (c .before .before .before .before .before .before .before .before .before .n .given .1) at (c .before .before .before .before .before .before .before .before .before .before .before .next-up-to .ensures) in
     let q = rw (c .before .before .before .before .before .k .given .1) at (c .before .before .before .before .before .before .before .next-up-to2 .ensures) in
-    let r = rw (c .before .c3 .given .1) at (c .before .before .before .read-many .ensures) in
+    let r = rw (c .before .c3 .given .1) at (c .before .before .before .read-numbers .ensures) in
     opening-bad₃ _ _ _ p _ _ q _ r
 
 returns-4 : tie.Need-returns-4
 returns-4 c =
     let p = rw (c .before .before .before .before .before .before .before .before .before .n .given .1) at (c .before .before .before .before .before .before .before .before .before .before .before .next-up-to .ensures) in
     let q = rw (c .before .before .before .before .before .k .given .1) at (c .before .before .before .before .before .before .before .next-up-to2 .ensures) in
-    let r = rw (c .before .cap .given .1) at (c .before .before .before .read-many .ensures) in
-    (_, opening-good _ _ _ p _ _ q _ _ (r .1), refl, refl, r .2, one-takes _ _ _ _ _ p .1, many-takes _ _ _ _ _ (r .1) .0)
+    let r = rw (c .before .cap .given .1) at (c .before .before .before .read-numbers .ensures) in
+    (_, opening-good _ _ _ p _ _ q _ _ (r .1), refl, refl, r .2, one-takes _ _ _ _ _ p .1, numbers-takes _ _ _ _ _ (r .1) .0)
 
 pub open-text-spec : {M : Type 1} → statement M
 open-text-spec =
@@ -70,7 +70,7 @@ open-text-spec =
     next-up-to-requires-2
     enum-known-c-2
     enum-known-k
-    read-many-requires
+    read-numbers-requires
     enum-known-c-3
     enum-known-cap
     returns

@@ -14,8 +14,8 @@ enum-known-c c = search needs
 enum-known-d : tie.Need-enum-known-d
 enum-known-d c = search needs
 
-read-many-requires : tie.Need-read-many-requires
-read-many-requires c κs = search needs
+read-numbers-requires : tie.Need-read-numbers-requires
+read-numbers-requires c κs = search needs
 
 enum-known-c-2 : tie.Need-enum-known-c-2
 enum-known-c-2 c = search needs
@@ -38,20 +38,20 @@ returns c = head-bad _ _ _ _ (rw (c .before .c .given .1) at (c .before .before 
 returns-2 : tie.Need-returns-2
 returns-2 c =
     let p = rw (c .before .before .before .before .before .d .given .1) at (c .before .before .before .before .before .before .before .next-up-to .ensures) in
-    let q = rw (c .before .c2 .given .1) at (c .before .before .before .read-many .ensures) in
+    let q = rw (c .before .c2 .given .1) at (c .before .before .before .read-numbers .ensures) in
     head-bad₂ _ _ _ _ _ p _ q
 
 returns-3 : tie.Need-returns-3
 returns-3 c =
     let p = rw (c .before .before .before .before .before .before .before .before .before .d .given .1) at (c .before .before .before .before .before .before .before .before .before .before .before .next-up-to .ensures) in
-    let q = rw (c .before .before .before .before .before .q .given .1) at (c .before .before .before .before .before .before .before .read-many .ensures) in
+    let q = rw (c .before .before .before .before .before .q .given .1) at (c .before .before .before .before .before .before .before .read-numbers .ensures) in
     let r = rw (c .before .c3 .given .1) at (c .before .before .before .next-up-to2 .ensures) in
     head-bad₃ _ _ _ _ _ p _ _ (q .1) _ r
 
 returns-4 : tie.Need-returns-4
 returns-4 c =
     let p = rw (c .before .before .before .before .before .before .before .before .before .d .given .1) at (c .before .before .before .before .before .before .before .before .before .before .before .next-up-to .ensures) in
-    let q = rw (c .before .before .before .before .before .q .given .1) at (c .before .before .before .before .before .before .before .read-many .ensures) in
+    let q = rw (c .before .before .before .before .before .q .given .1) at (c .before .before .before .before .before .before .before .read-numbers .ensures) in
     let r = rw (c .before .m .given .1) at (c .before .before .before .next-up-to2 .ensures) in
     (_, head-good _ _ _ _ _ p _ _ (q .1) _ _ r, refl, q .2, refl)
 
@@ -62,7 +62,7 @@ read-head-spec =
     next-up-to-requires
     enum-known-c
     enum-known-d
-    read-many-requires
+    read-numbers-requires
     enum-known-c-2
     enum-known-q
     next-up-to-requires-2

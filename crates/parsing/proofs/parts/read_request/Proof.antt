@@ -23,8 +23,8 @@ enum-known-c-2 c = search needs
 enum-known-d : tie.Need-enum-known-d
 enum-known-d c = search needs
 
-read-many-requires : tie.Need-read-many-requires
-read-many-requires c κs = search needs
+read-numbers-requires : tie.Need-read-numbers-requires
+read-numbers-requires c κs = search needs
 
 enum-known-c-3 : tie.Need-enum-known-c-3
 enum-known-c-3 c = search needs
@@ -44,13 +44,13 @@ returns-3 : tie.Need-returns-3
 returns-3 c =
     let p = rw (c .before .before .before .before .before .before .before .before .before .duration .given .1) at (c .before .before .before .before .before .before .before .before .before .before .before .read-numbered .ensures) in
     let q = rw (c .before .before .before .before .before .d .given .1) at (c .before .before .before .before .before .before .before .next-up-to .ensures) in
-    request-bad₃ _ _ _ _ _ p _ _ q _ (rw (c .before .c3 .given .1) at (c .before .before .before .read-many .ensures))
+    request-bad₃ _ _ _ _ _ p _ _ q _ (rw (c .before .c3 .given .1) at (c .before .before .before .read-numbers .ensures))
 
 returns-4 : tie.Need-returns-4
 returns-4 c =
     let p = rw (c .before .before .before .before .before .before .before .before .before .duration .given .1) at (c .before .before .before .before .before .before .before .before .before .before .before .read-numbered .ensures) in
     let q = rw (c .before .before .before .before .before .d .given .1) at (c .before .before .before .before .before .before .before .next-up-to .ensures) in
-    let r = rw (c .before .q .given .1) at (c .before .before .before .read-many .ensures) in
+    let r = rw (c .before .q .given .1) at (c .before .before .before .read-numbers .ensures) in
     (_, request-good _ _ _ _ _ p _ _ q _ _ (r .1), refl, r .2, refl)
 
 pub read-request-spec : {M : Type 1} → statement M
@@ -63,7 +63,7 @@ read-request-spec =
     next-up-to-requires
     enum-known-c-2
     enum-known-d
-    read-many-requires
+    read-numbers-requires
     enum-known-c-3
     enum-known-q
     returns

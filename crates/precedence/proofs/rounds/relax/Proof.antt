@@ -6,7 +6,7 @@ use lib.ListN.{length, drop}
 use Rattle.joblist.specs.Limits.{mostJobs}
 use Rattle.texts.specs.Tokens.{tokens}
 use Rattle.parsing.specs.Walk.{Fit}
-use Rattle.parsing.specs.Parsed.{comes, first}
+use Rattle.parsing.specs.Parsed.{comes, rowsAt}
 use Rattle.precedence.specs.Pairs.{PullSays}
 use Rattle.precedence.specs.declared.Pull.the-variants.{Next}
 use Rattle.precedence.proofs.Relaxing.{Relaxing, relaxing-start, relaxing-kept, relaxing-rose, relaxing-over, relaxing-same, relaxing-changed, both-below}
@@ -14,7 +14,7 @@ use Rattle.precedence.proofs.rounds.relax.Statement.{statement}
 use Rattle.precedence.proofs.rounds.relax.Tie as tie
 
 abbrev Inv-loop : tie.InvT-loop
-Inv-loop text n table at p back top v₀ w₀ changed₀ v w changed = Fit n w × Relaxing (comes n table text (first at)) (comes n table text w) p back top v₀ v changed
+Inv-loop text n table at p back top v₀ w₀ changed₀ v w changed = Fit n w × Relaxing (comes n table text (rowsAt at)) (comes n table text w) p back top v₀ v changed
 
 abbrev μ-loop : tie.MeasureT-loop
 μ-loop text n table at p back top v₀ w₀ changed₀ v w changed = length (tokens (drop (w .at) text))

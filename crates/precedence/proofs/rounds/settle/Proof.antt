@@ -1,7 +1,7 @@
 -- `precedence::rounds::settle` meets its contract: the values are chains' lengths below the limit, and their sum rises with each round.
 use Prim.Native.Nat.{_-_, _*_}
 use borrow.Author.Needs.{needs}
-use Rattle.parsing.specs.Parsed.{comes, first}
+use Rattle.parsing.specs.Parsed.{comes, rowsAt}
 use Rattle.precedence.specs.Rounds.{sum}
 use Rattle.joblist.specs.Limits.{mostJobs}
 use Rattle.precedence.proofs.Settling.{Settling, settling-start, settling-again, settling-less, settling-true, settling-false}
@@ -9,7 +9,7 @@ use Rattle.precedence.proofs.rounds.settle.Statement.{statement}
 use Rattle.precedence.proofs.rounds.settle.Tie as tie
 
 abbrev Inv-loop : tie.InvT-loop
-Inv-loop text n table at p back top v₀ v = Settling (comes n table text (first at)) p back top v
+Inv-loop text n table at p back top v₀ v = Settling (comes n table text (rowsAt at)) p back top v
 
 abbrev μ-loop : tie.MeasureT-loop
 μ-loop text n table at p back top v₀ v = mostJobs * top - sum v

@@ -6,14 +6,14 @@ use native.Mathlib.Omega.{arith}
 use borrow.Author.Needs.{needs}
 use lib.ListN.{length, drop}
 use Rattle.texts.specs.Tokens.{number}
-use Rattle.scanner.specs.Scan.{within, Capped}
+use Rattle.scanner.specs.Scan.{tokensInside, Capped}
 use Rattle.scanner.proofs.Numbers.{capped-zero}
-use Rattle.scanner.proofs.Tokens.{within-blank, within-digit, within-other, within-end}
+use Rattle.scanner.proofs.Tokens.{inside-blank, inside-digit, inside-other, inside-end}
 use Rattle.scanner.proofs.scan.token_at.Statement.{statement}
 use Rattle.scanner.proofs.scan.token_at.Tie as tie
 
 abbrev Inv-loop : tie.InvT-loop
-Inv-loop text at v₀ i₀ v i = (x : ℕ) × Capped x v × (within (number 0) (drop at text) ≡ within (number x) (drop i text))
+Inv-loop text at v₀ i₀ v i = (x : ℕ) × Capped x v × (tokensInside (number 0) (drop at text) ≡ tokensInside (number x) (drop i text))
 
 abbrev μ-loop : tie.MeasureT-loop
 μ-loop text at v₀ i₀ v i = length text - i
@@ -32,7 +32,7 @@ returns c =
     let l = c .before .before .before .before in
     let h : l .loop .i < length (l .before .before .args .text .now) = omega arith in
     let q = l .loop .inv in
-    (q .0, q .1, q .2 ∙ within-blank _ _ h _ (sym (c .before .is-blank .ensures) ∙ c .if1 .taken))
+    (q .0, q .1, q .2 ∙ inside-blank _ _ h _ (sym (c .before .is-blank .ensures) ∙ c .if1 .taken))
 
 is-digit-requires : tie.Need-is-digit-requires Inv-loop μ-loop
 is-digit-requires c κs = search needs
@@ -42,7 +42,7 @@ returns-2 c =
     let l = c .before .before .before .before .before .before in
     let h : l .loop .i < length (l .before .before .args .text .now) = omega arith in
     let q = l .loop .inv in
-    let o = within-other _ _ h (q .0) (sym (c .before .before .before .is-blank .ensures) ∙ c .before .before .if1 .left) (sym (c .before .is-digit .ensures) ∙ not-true _ (c .if2 .taken)) in
+    let o = inside-other _ _ h (q .0) (sym (c .before .before .before .is-blank .ensures) ∙ c .before .before .if1 .left) (sym (c .before .is-digit .ensures) ∙ not-true _ (c .if2 .taken)) in
     (o .0, q .2 ∙ o .1)
 
 with-digit-requires : tie.Need-with-digit-requires Inv-loop μ-loop
@@ -61,12 +61,12 @@ loop-again c =
     let l = c .before .before .before .before .before .before .before in
     let h : l .loop .i < length (l .before .before .args .text .now) = omega arith in
     let q = l .loop .inv in
-    (_, c .with-digit .ensures (q .0) (q .1), q .2 ∙ within-digit _ _ h (q .0) (sym (c .before .before .before .before .is-blank .ensures) ∙ c .before .before .before .if1 .left) (sym (c .before .before .is-digit .ensures) ∙ not-false _ (c .before .if2 .left)))
+    (_, c .with-digit .ensures (q .0) (q .1), q .2 ∙ inside-digit _ _ h (q .0) (sym (c .before .before .before .before .is-blank .ensures) ∙ c .before .before .before .if1 .left) (sym (c .before .before .is-digit .ensures) ∙ not-false _ (c .before .if2 .left)))
 
 returns-3 : tie.Need-returns-3 Inv-loop μ-loop
 returns-3 c =
     let q = c .before .loop .inv in
-    (q .0, q .1, q .2 ∙ within-end _ _ _ (c .loop-test .left))
+    (q .0, q .1, q .2 ∙ inside-end _ _ _ (c .loop-test .left))
 
 pub token-at-spec : {M : Type 1} → statement M
 token-at-spec =

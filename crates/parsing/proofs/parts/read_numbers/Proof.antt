@@ -1,11 +1,11 @@
--- `parsing::parts::read_many` meets its contract: i of the m numbers are read, and `picked` is the one at `res` among them.
+-- `parsing::parts::read_numbers` meets its contract: i of the m numbers are read, and `picked` is the one at `res` among them.
 use Prim.Native.Nat.{_-_}
 use borrow.Author.Needs.{needs}
 use lib.ListN.{drop}
 use Rattle.texts.specs.Tokens.{tokens}
 use Rattle.parsing.proofs.Numbers.{Picking, picking-start, picking-step, picking-bad, picking-end}
-use Rattle.parsing.proofs.parts.read_many.Statement.{statement}
-use Rattle.parsing.proofs.parts.read_many.Tie as tie
+use Rattle.parsing.proofs.parts.read_numbers.Statement.{statement}
+use Rattle.parsing.proofs.parts.read_numbers.Tie as tie
 
 abbrev Inv-loop : tie.InvT-loop
 Inv-loop text at m top res picked₀ to₀ i₀ picked to i = Picking top m res (tokens (drop at text)) text picked to i
@@ -47,8 +47,8 @@ loop-again c =
 returns-2 : tie.Need-returns-2 Inv-loop μ-loop
 returns-2 c = picking-end _ _ _ _ _ _ _ _ (c .before .loop .inv) (c .loop-test .left)
 
-pub read-many-spec : {M : Type 1} → statement M
-read-many-spec =
+pub read-numbers-spec : {M : Type 1} → statement M
+read-numbers-spec =
     tie.close
     (tie.spec
     Inv-loop
