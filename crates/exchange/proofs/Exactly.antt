@@ -8,7 +8,7 @@ use Rattle.joblist.specs.Limits.{mostTime}
 use Rattle.texts.specs.Readings.{bad}
 use Rattle.projects.specs.Patterson.{patterson}
 use Rattle.parsing.proofs.Limits.{patterson-codes, patterson-beyond}
-use Rattle.parsing.proofs.Takes.{some-code}
+use Rattle.rowheads.proofs.Takes.{some-code}
 use Rattle.psplib.specs.Psplib.{psplib}
 use Rattle.psplib.proofs.Limits.{psplib-codes, psplib-some}
 use Rattle.psplib.proofs.Exactly.{Headed, psplib-35, psplib-beyond}

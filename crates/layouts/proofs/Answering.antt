@@ -13,7 +13,8 @@ use Rattle.chains.specs.Paths.{Pair, Below, Longest, Longer, Back, weight}
 use Rattle.chains.proofs.Chains.{chain-map}
 use Rattle.texts.specs.Readings.{Read, good}
 use Rattle.projects.specs.Projects.{Project, pairsOf}
-use Rattle.parsing.specs.Parsed.{comes, rowsAt, Parsing}
+use Rattle.walking.specs.Comes.{comes, rowsAt}
+use Rattle.parsing.specs.Parsed.{Parsing}
 use Rattle.parsing.specs.declared.Shape.{Shape}
 use Rattle.parsing.proofs.Parsing.{parsing-range, parsing-few}
 use Rattle.precedence.specs.Chains.{OrderSays}

@@ -11,10 +11,10 @@ use Rattle.lists.specs.Lists.{_!_}
 use Rattle.chains.specs.Paths.{Pair, pair}
 use Rattle.texts.specs.Tokens.{Token}
 use Rattle.texts.specs.Readings.{Read, good}
-use Rattle.parsing.specs.declared.Table.{Table}
-use Rattle.parsing.specs.declared.Walk.{Walk}
-use Rattle.parsing.specs.Walk.{Fit}
-use Rattle.parsing.specs.Parsed.{comes, rowsAt}
+use Rattle.rowheads.specs.declared.Table.{Table}
+use Rattle.walking.specs.declared.Walk.{Walk}
+use Rattle.walking.specs.Walk.{Fit}
+use Rattle.walking.specs.Comes.{comes, rowsAt}
 use Rattle.precedence.specs.Pairs.{PullSays}
 use Rattle.precedence.specs.declared.Pull.the-variants.{Next, NoMore}
 use Rattle.lent.specs.Parts.{Wrote}

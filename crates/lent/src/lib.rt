@@ -1,13 +1,13 @@
 // The lists that a reader of project texts is lent (document 02, Item 1): whether their lengths fit, the latest ends, and the pairs.
-use parsing::Table;
-use parsing::Walk;
 use precedence::Pull;
+use rowheads::Table;
+use walking::Walk;
 ghost use mathlib.Core.Path.{_≡_};
 ghost use Prim.Native.Nat.{ℕ, _≤_};
 ghost use lib.ListN.{length};
 ghost use Rattle.lists.specs.Lists.{_!_};
 ghost use Rattle.joblist.specs.Limits.{mostJobs};
-ghost use Rattle.parsing.specs.Parsed.{comes, rowsAt};
+ghost use Rattle.walking.specs.Comes.{comes, rowsAt};
 ghost use Rattle.lent.specs.Parts.{RoomSays, Lessened, Roomy, Wrote};
 
 // Whether the lengths of the six lists are those wanted for n jobs and m pairs.

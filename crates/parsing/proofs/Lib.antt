@@ -1,9 +1,3 @@
-pub mod Numbers
-pub mod Seeing
-pub mod Takes
-pub mod Tables
 pub mod Whole
-pub mod Steps
-pub mod Checking
 pub mod Limits
 pub mod Parsing

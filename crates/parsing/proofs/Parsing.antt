@@ -1,4 +1,4 @@
--- A text read whole: from its opening and its rows to the project; and the pairs do not depend on the resource that the walk looks at.
+-- A text read whole: from its opening and its rows to the project.
 use Prim.Native.Nat.{ℕ, _-_, _≤_}
 use native.Mathlib.Omega.{arith}
 use mathlib.Core.Path.{_≡_, refl, sym, ap, _∙_, subst}
@@ -14,34 +14,19 @@ use Rattle.scanner.specs.Scan.{none?}
 use Rattle.texts.proofs.Readings.{bad-not-good, good-one}
 use Rattle.projects.specs.Projects.{Row, Project, link, tagged, pairsFrom, pairsOf, durations, demandsOn, WithinLimits}
 use Rattle.projects.specs.Patterson.{row, opening, project, patterson}
-use Rattle.parsing.specs.Heads.{headIn, rowIn}
-use Rattle.parsing.specs.Walk.{Seen, seeing, OpenSays, WalkedSays}
-use Rattle.parsing.specs.Parsed.{onlyPairs, Parsing, ParsedSays}
-use Rattle.parsing.specs.declared.Table.{Table}
-use Rattle.parsing.specs.declared.Table.the-variants.{Whole}
+use Rattle.rowheads.specs.Heads.{headIn, rowIn}
+use Rattle.walking.specs.Walk.{Seen, seeing, WalkedSays}
+use Rattle.walking.specs.Comes.{onlyPairs}
+use Rattle.parsing.specs.Parsed.{OpenSays, Parsing, ParsedSays}
+use Rattle.rowheads.specs.declared.Table.the-variants.{Whole}
 use Rattle.parsing.specs.declared.Shape.{Shape}
 use Rattle.parsing.specs.declared.Parsed.{Parsed}
-use Rattle.parsing.specs.declared.parts.Opened.{Opened}
-use Rattle.parsing.specs.declared.Walked.{Walked}
-use Rattle.parsing.proofs.Takes.{some-code}
+use Rattle.parsing.specs.declared.Opened.{Opened}
+use Rattle.walking.specs.declared.Walked.{Walked}
+use Rattle.rowheads.proofs.Takes.{some-code}
 use Rattle.parsing.proofs.Limits.{patterson-takes, patterson-codes}
-use Rattle.parsing.proofs.Whole.{rows-good, rows-bad, project-bad, project-bad₂, project-over, project-good}
-
-pub pairs-any : (n : ℕ) (table : Table) (a b next left : ℕ) (ts : List Token) → onlyPairs (seeing n table a next left ts) ≡ onlyPairs (seeing n table b next left ts)
-unfolding seeing
-pairs-any n table a b next left ts = go (inTurn (λ i. link n) 0 left ts)
-  where
-    rest : (ss : List ℕ) (r : Read (List Row))
-        → onlyPairs (andThen r (λ rs t₂. good (record { durs = durations rs; dems = demandsOn a rs; pairs = tagged (next - 1) ss ++ pairsFrom next rs }) t₂))
-        ≡ onlyPairs (andThen r (λ rs t₂. good (record { durs = durations rs; dems = demandsOn b rs; pairs = tagged (next - 1) ss ++ pairsFrom next rs }) t₂))
-    rest ss (bad c) = refl
-    rest ss (good rs t₂) = refl
-
-    go : (r : Read (List ℕ))
-        → onlyPairs (andThen r (λ ss t₁. andThen (inTurn (rowIn table n) next (n - next) t₁) (λ rs t₂. good (record { durs = durations rs; dems = demandsOn a rs; pairs = tagged (next - 1) ss ++ pairsFrom next rs }) t₂)))
-        ≡ onlyPairs (andThen r (λ ss t₁. andThen (inTurn (rowIn table n) next (n - next) t₁) (λ rs t₂. good (record { durs = durations rs; dems = demandsOn b rs; pairs = tagged (next - 1) ss ++ pairsFrom next rs }) t₂)))
-    go (bad c) = refl
-    go (good ss t₁) = rest ss (inTurn (rowIn table n) next (n - next) t₁)
+use Rattle.walking.proofs.Rows.{rows-good, rows-bad, pairs-any}
+use Rattle.parsing.proofs.Whole.{project-bad, project-bad₂, project-over, project-good}
 
 -- whether tokens are left
 some-left : (ts : List Token) → none? ts ≡ false → (t : Token) × (rest : List Token) × (ts ≡ t ∷ rest)

@@ -1,17 +1,12 @@
--- The whole text: the counts and the capacities, all rows at once, and the project.
-use Prim.Native.Nat.{ℕ, _-_}
-use native.Mathlib.Omega.{arith}
-use mathlib.Core.Path.{_≡_, refl, sym, ap, _∙_}
+-- The whole text: the counts and the capacities, and the project.
+use Prim.Native.Nat.{ℕ}
+use mathlib.Core.Path.{_≡_}
 use mathlib.Core.List.{List, [], _∷_}
 use Rattle.joblist.specs.Limits.{mostDemand, mostJobs, mostResources}
 use Rattle.texts.specs.Tokens.{Token}
-use Rattle.texts.specs.Readings.{Read, bad, good, andThen, one, inTurn, numbersUpTo}
-use Rattle.texts.proofs.Readings.{bad-not-good}
-use Rattle.projects.specs.Projects.{Row, pairsFrom, durations, demandsOn}
+use Rattle.texts.specs.Readings.{bad, good, one, inTurn, numbersUpTo}
+use Rattle.projects.specs.Projects.{Row}
 use Rattle.projects.specs.Patterson.{row, Opening, opening, project}
-use Rattle.parsing.specs.Heads.{rowIn}
-use Rattle.parsing.specs.Walk.{Seen, seeing}
-use Rattle.parsing.specs.declared.Table.{Table}
 
 -- ---- the counts and the capacities
 
@@ -33,30 +28,6 @@ module _ (ts : List Token) where
       pub opening-good : (cs : List ℕ) (t₃ : List Token) → numbersUpTo mostDemand k t₂ ≡ good cs t₃ → opening ts ≡ good (record { jobs = n; resources = k; capacities = cs }) t₃
       unfolding opening
       opening-good cs t₃ e = rw (e₁, e₂, e)
-
--- ---- all the rows
-
-abbrev pub viewed : ℕ → List Row → Seen
-viewed res rs = record { durs = durations rs; dems = demandsOn res rs; pairs = pairsFrom 0 rs }
-
-seeing-all : (n : ℕ) (table : Table) (res : ℕ) (ts : List Token) → seeing n table res 0 0 ts ≡ andThen (inTurn (rowIn table n) 0 n ts) (λ rs u. good (viewed res rs) u)
-unfolding seeing inTurn
-seeing-all n table res ts = let z : n - 0 ≡ n = omega arith in ap (λ (m : ℕ). andThen (inTurn (rowIn table n) 0 m ts) (λ rs u. good (viewed res rs) u)) z
-
-pub rows-good : (n : ℕ) (table : Table) (res : ℕ) (ts rest : List Token) (x : Seen) → seeing n table res 0 0 ts ≡ good x rest
-    → (rs : List Row) × (inTurn (rowIn table n) 0 n ts ≡ good rs rest) × (x ≡ viewed res rs)
-rows-good n table res ts rest x e = go (inTurn (rowIn table n) 0 n ts) (sym (seeing-all n table res ts) ∙ e)
-  where
-    go : (r : Read (List Row)) → andThen r (λ rs u. good (viewed res rs) u) ≡ good x rest → (rs : List Row) × (r ≡ good rs rest) × (x ≡ viewed res rs)
-    go (bad c) q = bad-not-good (bad c) c x rest refl q
-    go (good rs u) q = (rs, let y : u ≡ rest = cc in rw y, cc)
-
-pub rows-bad : (n : ℕ) (table : Table) (res : ℕ) (ts : List Token) (c : ℕ) → seeing n table res 0 0 ts ≡ bad c → inTurn (rowIn table n) 0 n ts ≡ bad c
-rows-bad n table res ts c e = go (inTurn (rowIn table n) 0 n ts) (sym (seeing-all n table res ts) ∙ e)
-  where
-    go : (r : Read (List Row)) → andThen r (λ rs u. good (viewed res rs) u) ≡ bad c → r ≡ bad c
-    go (bad d) q = cc
-    go (good rs u) q = bad-not-good (good (viewed res rs) u) c (viewed res rs) u q refl
 
 -- ---- the project
 

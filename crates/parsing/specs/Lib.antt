@@ -1,3 +1,1 @@
-pub mod Heads
-pub mod Walk
 pub mod Parsed

@@ -1,31 +1,24 @@
 -- A text read whole, whatever its layout: what it says, with durations and demands in arrays, and where its pairs can be read again.
-use Prim.Native.Nat.{ℕ}
+use Prim.Native.Nat.{ℕ, _≤_}
 use mathlib.Core.Path.{_≡_}
 use mathlib.Core.List.{List, []}
-use lib.ListN.{length, take}
+use lib.ListN.{length, drop, take}
 use Rattle.lists.specs.Lists.{_!_}
-use Rattle.chains.specs.Paths.{Pair}
-use Rattle.texts.specs.Tokens.{Token}
+use Rattle.joblist.specs.Limits.{mostJobs}
+use Rattle.texts.specs.Tokens.{Token, tokens}
 use Rattle.texts.specs.Readings.{Read, bad, good}
 use Rattle.projects.specs.Projects.{Project, pairsOf, durations, demandsOn, WithinLimits}
-use Rattle.parsing.specs.Walk.{Seen, see}
-use Rattle.parsing.specs.declared.Table.{Table}
-use Rattle.parsing.specs.declared.Walk.{Walk}
+use Rattle.projects.specs.Patterson.{Opening}
+use Rattle.walking.specs.Comes.{comes, rowsAt}
+use Rattle.parsing.specs.declared.Opened.{Opened}
 use Rattle.parsing.specs.declared.Shape.{Shape}
 use Rattle.parsing.specs.declared.Parsed.{Parsed}
 
--- of what rows say, the pairs
-abbrev pub onlyPairs : Read Seen → Read (List Pair)
-onlyPairs (bad c) = bad c
-onlyPairs (good x ts) = good (x .pairs) ts
-
--- the pairs still to come at a place of the walk; the resource that the walk looks at makes no difference
-abbrev pub comes : ℕ → Table → List ℕ → Walk → Read (List Pair)
-comes n table s w = onlyPairs (see n table 0 s w)
-
--- the start of the rows
-abbrev pub rowsAt : ℕ → Walk
-rowsAt at = record { next = 0; left = 0; at = at }
+-- the counts, and one of the capacities
+abbrev pub OpenSays : Read Opening → List ℕ → ℕ → Opened → Type 0
+OpenSays r s res (Opened.Read n k cap at) =
+    (o : Opening) × (r ≡ good o (tokens (drop at s))) × (o .jobs ≡ n) × (o .resources ≡ k) × (o .capacities ! res ≡ cap) × (n ≤ mostJobs) × (length (o .capacities) ≡ k)
+OpenSays r s res (Opened.Refused c) = r ≡ bad c
 
 -- a text that says x, and where things stand
 pub record Parsing (s : List ℕ) (res : ℕ) (durs dems : List ℕ) (z : Shape) (x : Project) : Type 0 where

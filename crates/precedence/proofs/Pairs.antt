@@ -8,12 +8,12 @@ use Rattle.chains.specs.Paths.{Pair, pair}
 use Rattle.texts.specs.Tokens.{Token, tokens}
 use Rattle.texts.specs.Readings.{Read, bad, good}
 use Rattle.texts.proofs.Readings.{bad-not-good}
-use Rattle.parsing.specs.declared.Table.{Table}
-use Rattle.parsing.specs.declared.Walk.{Walk}
-use Rattle.parsing.specs.declared.Step.the-variants as steps
-use Rattle.parsing.specs.Walk.{Seen, see, Fit, addPair, addRow, StepSays}
+use Rattle.rowheads.specs.declared.Table.{Table}
+use Rattle.walking.specs.declared.Walk.{Walk}
+use Rattle.walking.specs.declared.Step.the-variants as steps
+use Rattle.walking.specs.Walk.{Seen, see, Fit, addPair, addRow, StepSays}
 use Rattle.precedence.specs.declared.Pull.the-variants.{Next, NoMore}
-use Rattle.parsing.specs.Parsed.{onlyPairs, comes}
+use Rattle.walking.specs.Comes.{onlyPairs, comes}
 use Rattle.precedence.specs.Pairs.{PullSays}
 
 only-row : (d q : ℕ) (r : Read Seen) → onlyPairs (addRow d q r) ≡ onlyPairs r

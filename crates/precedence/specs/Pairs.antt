@@ -5,10 +5,10 @@ use mathlib.Core.List.{List, [], _∷_}
 use Rattle.chains.specs.Paths.{Pair, pair}
 use Rattle.texts.specs.Tokens.{Token}
 use Rattle.texts.specs.Readings.{good}
-use Rattle.parsing.specs.declared.Table.{Table}
-use Rattle.parsing.specs.declared.Walk.{Walk}
-use Rattle.parsing.specs.Walk.{Fit, Further}
-use Rattle.parsing.specs.Parsed.{comes}
+use Rattle.rowheads.specs.declared.Table.{Table}
+use Rattle.walking.specs.declared.Walk.{Walk}
+use Rattle.walking.specs.Walk.{Fit, Further}
+use Rattle.walking.specs.Comes.{comes}
 use Rattle.precedence.specs.declared.Pull.{Pull}
 use Rattle.precedence.specs.declared.Pull.the-variants.{Next, NoMore}
 

@@ -5,11 +5,11 @@ mod rounds;
 
 pub use listed::has_cycle;
 pub use listed::rising;
-use parsing::Step;
-use parsing::Table;
-use parsing::Walk;
 use rounds::exceeds;
 use rounds::settle;
+use rowheads::Table;
+use walking::Step;
+use walking::Walk;
 ghost use mathlib.Core.Path.{_≡_};
 ghost use mathlib.Core.List.{List};
 ghost use Prim.Native.Nat.{ℕ, _≤_};
@@ -19,8 +19,8 @@ ghost use Rattle.joblist.specs.Limits.{mostTime, mostJobs};
 ghost use Rattle.chains.specs.Paths.{Pair, Precedes, Below};
 ghost use Rattle.texts.specs.Tokens.{Token};
 ghost use Rattle.texts.specs.Readings.{good};
-ghost use Rattle.parsing.specs.Walk.{Fit};
-ghost use Rattle.parsing.specs.Parsed.{comes, rowsAt};
+ghost use Rattle.walking.specs.Walk.{Fit};
+ghost use Rattle.walking.specs.Comes.{comes, rowsAt};
 ghost use Rattle.precedence.specs.Pairs.{PullSays};
 ghost use Rattle.precedence.specs.Chains.{OrderSays};
 
@@ -37,7 +37,7 @@ pub fn next_pair(text: &[u8], n: u32, table: Table, start: Walk) -> Pull
 {
     let mut w = start;
     loop {
-        match parsing::advance(text, n, table, 0, w) {
+        match walking::advance(text, n, table, 0, w) {
             Step::Successor(v, u) => {
                 let next = w.next;
                 return Pull::Next(next - 1, v, u);

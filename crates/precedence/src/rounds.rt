@@ -2,15 +2,15 @@
 // longest chain has jobs, and one in which nothing changes; where there is a cycle, no more than there are jobs and one.
 use crate::Pull;
 use crate::next_pair;
-use parsing::Table;
-use parsing::Walk;
+use rowheads::Table;
+use walking::Walk;
 ghost use mathlib.Core.Path.{_≡_};
 ghost use Prim.Native.Nat.{ℕ, _≤_, _<_};
 ghost use lib.ListN.{length, replicate};
 ghost use Rattle.lists.specs.Lists.{_!_};
 ghost use mathlib.Core.Bool.{cond};
 ghost use Rattle.joblist.specs.Limits.{mostTime, mostJobs};
-ghost use Rattle.parsing.specs.Parsed.{comes, rowsAt};
+ghost use Rattle.walking.specs.Comes.{comes, rowsAt};
 ghost use Rattle.precedence.specs.Rounds.{RiseSays, RoundSays, SettleSays, ExceedsSays};
 
 // A value stays; it is raised; it would rise above the limit.

@@ -17,7 +17,7 @@ use Rattle.headings.proofs.Facts.{in-order-which, counted-refused}
 use Rattle.projects.specs.Projects.{Project}
 use Rattle.projects.specs.Tables.{relation, request}
 use Rattle.projects.proofs.Exactly.{RelationRefused, relation-refused, RequestRefused, request-refused}
-use Rattle.parsing.proofs.Takes.{OfText}
+use Rattle.rowheads.proofs.Takes.{OfText}
 use Rattle.psplib.specs.Psplib.{join, tables, sections, psplib}
 use Rattle.psplib.proofs.Limits.{sections-codes, psplib-codes}
 

@@ -8,8 +8,8 @@ use Rattle.lists.specs.Lists.{_!_, Every}
 use Rattle.chains.specs.Paths.{Pair}
 use Rattle.projects.specs.Projects.{tagged, pairsFrom, durations, demandsOn}
 use Rattle.projects.specs.Tables.{Need}
-use Rattle.parsing.proofs.Takes.{Limited}
-use Rattle.parsing.proofs.Tables.{linked, needed}
+use Rattle.rowheads.proofs.Takes.{Limited}
+use Rattle.rowheads.proofs.Tables.{linked, needed}
 use Rattle.psplib.specs.Psplib.{join}
 
 pub join-long : (sss : List (List ℕ)) (qs : List Need) → length sss ≡ length qs → length (join sss qs) ≡ length sss

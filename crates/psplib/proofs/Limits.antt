@@ -16,9 +16,9 @@ use Rattle.headings.specs.Headings.{marks, inOrder, section}
 use Rattle.headings.proofs.Facts.{counted-codes, counted-takes}
 use Rattle.projects.specs.Projects.{Project, WithinLimits}
 use Rattle.projects.specs.Tables.{relation, Need, request}
-use Rattle.parsing.proofs.Takes.{OfText, low-code, some-code, then-codes, Limited}
-use Rattle.parsing.proofs.Tables.{linked, needed, relation-within, request-within, relation-code, request-code}
-use Rattle.parsing.proofs.Limits.{rows-within}
+use Rattle.rowheads.proofs.Takes.{OfText, low-code, some-code, then-codes, Limited}
+use Rattle.rowheads.proofs.Tables.{linked, needed, relation-within, request-within, relation-code, request-code}
+use Rattle.rowheads.proofs.Limits.{rows-within}
 use Rattle.psplib.specs.Psplib.{join, tables, sections, psplib}
 use Rattle.psplib.proofs.Joined.{join-long, join-limited}
 

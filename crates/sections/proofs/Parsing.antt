@@ -13,15 +13,15 @@ use Rattle.headings.specs.Lines.{behindLines, counted}
 use Rattle.headings.specs.Headings.{marks, inOrder, section}
 use Rattle.projects.specs.Projects.{Project, pairsFrom, durations, demandsOn}
 use Rattle.projects.specs.Tables.{relation, Need, request}
-use Rattle.parsing.specs.Walk.{Seen, seeing, WalkedSays}
-use Rattle.parsing.specs.Parsed.{onlyPairs, comes, rowsAt, ParsedSays}
-use Rattle.parsing.specs.declared.Table.the-variants.{Relations, Requests}
-use Rattle.parsing.specs.declared.Walked.{Walked}
+use Rattle.walking.specs.Walk.{Seen, seeing, WalkedSays}
+use Rattle.walking.specs.Comes.{onlyPairs, comes, rowsAt}
+use Rattle.parsing.specs.Parsed.{ParsedSays}
+use Rattle.rowheads.specs.declared.Table.the-variants.{Relations, Requests}
+use Rattle.walking.specs.declared.Walked.{Walked}
 use Rattle.parsing.specs.declared.Parsed.{Parsed}
-use Rattle.parsing.proofs.Takes.{some-code}
-use Rattle.parsing.proofs.Tables.{linked, needed, relations-said, requests-said}
-use Rattle.parsing.proofs.Whole.{viewed, rows-good, rows-bad}
-use Rattle.parsing.proofs.Parsing.{pairs-any}
+use Rattle.rowheads.proofs.Takes.{some-code}
+use Rattle.rowheads.proofs.Tables.{linked, needed, relations-said, requests-said}
+use Rattle.walking.proofs.Rows.{viewed, rows-good, rows-bad, pairs-any}
 use Rattle.psplib.specs.Psplib.{join, tables, sections, psplib}
 use Rattle.psplib.proofs.Joined.{join-long, join-pairs, join-durations, join-demands}
 use Rattle.psplib.proofs.Limits.{relations-take, requests-take, tables-take, tables-codes, psplib-codes, psplib-some}

@@ -2,10 +2,10 @@
 // its three tables.
 use parsing::Parsed;
 use parsing::Shape;
-use parsing::Table;
-use parsing::Walked;
+use rowheads::Table;
 use scanner::Got;
 use seeker::Count;
+use walking::Walked;
 ghost use mathlib.Core.Path.{_≡_};
 ghost use Prim.Native.Nat.{ℕ, _≤_};
 ghost use lib.ListN.{length, drop};
@@ -75,15 +75,15 @@ fn read_tables(
     ensures { λ r. ⌜ ParsedSays (tables n k (drop (from .relations) (now (text .entry))) (drop (from .requests) (now (text .entry))) (drop (from .capacities) (now (text .entry)))) (now (text .entry)) res (now (dur .exit)) (now (dem .exit)) r × (length (now (dur .exit)) ≡ mostJobs) × (length (now (dem .exit)) ≡ mostJobs) × ((j : ℕ) → now (dur .exit) ! j ≤ mostTime) ⌝ }
 {
     let at = seeker::behind_lines(text, from.relations, BEHIND_NAMES);
-    match parsing::validate(text, at, n, Table::Relations, res, dur, dem) {
+    match walking::validate(text, at, n, Table::Relations, res, dur, dem) {
         Walked::Refused(c) => Parsed::Refused(c),
         Walked::Read(pairs, _) => {
             let requests = seeker::behind_lines(text, from.requests, BEHIND_HYPHENS);
-            match parsing::validate(text, requests, n, Table::Requests(k), res, dur, dem) {
+            match walking::validate(text, requests, n, Table::Requests(k), res, dur, dem) {
                 Walked::Refused(c) => Parsed::Refused(c),
                 Walked::Read(_, _) => {
                     let capacities = seeker::behind_lines(text, from.capacities, BEHIND_NAMES);
-                    match parsing::read_numbers(text, capacities, k, screen::MOST_DEMAND, res) {
+                    match rowheads::read_numbers(text, capacities, k, screen::MOST_DEMAND, res) {
                         Got::Refused(c) => Parsed::Refused(c),
                         Got::Read(cap, _) => Parsed::Read(Shape {
                             n,

@@ -5,8 +5,8 @@ use borrow.Author.Needs.{needs}
 use lib.ListN.{length, drop}
 use Rattle.joblist.specs.Limits.{mostJobs}
 use Rattle.texts.specs.Tokens.{tokens}
-use Rattle.parsing.specs.Walk.{Fit}
-use Rattle.parsing.specs.Parsed.{comes, rowsAt}
+use Rattle.walking.specs.Walk.{Fit}
+use Rattle.walking.specs.Comes.{comes, rowsAt}
 use Rattle.precedence.specs.Pairs.{PullSays}
 use Rattle.precedence.specs.declared.Pull.the-variants.{Next}
 use Rattle.precedence.proofs.Relaxing.{Relaxing, relaxing-start, relaxing-kept, relaxing-rose, relaxing-over, relaxing-same, relaxing-changed, both-below}

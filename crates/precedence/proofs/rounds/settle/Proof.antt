@@ -1,7 +1,7 @@
 -- `precedence::rounds::settle` meets its contract: the values are chains' lengths below the limit, and their sum rises with each round.
 use Prim.Native.Nat.{_-_, _*_}
 use borrow.Author.Needs.{needs}
-use Rattle.parsing.specs.Parsed.{comes, rowsAt}
+use Rattle.walking.specs.Comes.{comes, rowsAt}
 use Rattle.precedence.specs.Rounds.{sum}
 use Rattle.joblist.specs.Limits.{mostJobs}
 use Rattle.precedence.proofs.Settling.{Settling, settling-start, settling-again, settling-less, settling-true, settling-false}

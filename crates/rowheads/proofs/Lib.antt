@@ -1,0 +1,4 @@
+pub mod Numbers
+pub mod Takes
+pub mod Tables
+pub mod Limits

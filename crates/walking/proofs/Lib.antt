@@ -1,0 +1,4 @@
+pub mod Seeing
+pub mod Steps
+pub mod Checking
+pub mod Rows
