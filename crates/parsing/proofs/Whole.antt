@@ -10,24 +10,10 @@ use Rattle.projects.specs.Patterson.{row, Opening, opening, project}
 
 -- ---- the counts and the capacities
 
-module _ (ts : List Token) where
-  pub opening-bad : (c : ℕ) → one mostJobs 31 ts ≡ bad c → opening ts ≡ bad c
-  unfolding opening
-  opening-bad c e = rw e
-
-  module _ (n : ℕ) (t₁ : List Token) (e₁ : one mostJobs 31 ts ≡ good n t₁) where
-    pub opening-bad₂ : (c : ℕ) → one mostResources 31 t₁ ≡ bad c → opening ts ≡ bad c
-    unfolding opening
-    opening-bad₂ c e = rw (e₁, e)
-
-    module _ (k : ℕ) (t₂ : List Token) (e₂ : one mostResources 31 t₁ ≡ good k t₂) where
-      pub opening-bad₃ : (c : ℕ) → numbersUpTo mostDemand k t₂ ≡ bad c → opening ts ≡ bad c
-      unfolding opening
-      opening-bad₃ c e = rw (e₁, e₂, e)
-
-      pub opening-good : (cs : List ℕ) (t₃ : List Token) → numbersUpTo mostDemand k t₂ ≡ good cs t₃ → opening ts ≡ good (record { jobs = n; resources = k; capacities = cs }) t₃
-      unfolding opening
-      opening-good cs t₃ e = rw (e₁, e₂, e)
+pub opening-good : (ts : List Token) (n : ℕ) (t₁ : List Token) → one mostJobs 31 ts ≡ good n t₁ → (k : ℕ) (t₂ : List Token) → one mostResources 31 t₁ ≡ good k t₂
+    → (cs : List ℕ) (t₃ : List Token) → numbersUpTo mostDemand k t₂ ≡ good cs t₃ → opening ts ≡ good (record { jobs = n; resources = k; capacities = cs }) t₃
+unfolding opening
+opening-good ts n t₁ e₁ k t₂ e₂ cs t₃ e = rw (e₁, e₂, e)
 
 -- ---- the project
 

@@ -1,10 +1,27 @@
--- `parsing::open_text` meets its contract: its three readings, one after the other.
-use mathlib.Core.Path.{refl}
+-- `parsing::open_text` meets its contract: its three readings, one after the other. A refusal of one is the refusal.
+use mathlib.Core.Path.{_≡_, refl}
+use lib.ListN.{drop}
+use Rattle.joblist.specs.Limits.{mostJobs, mostResources}
+use Rattle.texts.specs.Tokens.{tokens}
+use Rattle.texts.specs.Readings.{good, one}
 use Rattle.texts.proofs.Readings.{one-takes, numbers-takes}
-use Rattle.parsing.proofs.Whole.{opening-bad, opening-bad₂, opening-bad₃, opening-good}
+use Rattle.projects.specs.Patterson.{opening}
+use Rattle.parsing.proofs.Whole.{opening-good}
 use borrow.Author.Needs.{needs}
 use Rattle.parsing.proofs.open_text.Statement.{statement}
 use Rattle.parsing.proofs.open_text.Tie as tie
+
+-- ---- the two counts, once they are read
+
+abbrev counting : tie.After-k → tie.After-n
+counting e = e .before .before .before .before
+
+jobs : (e : tie.After-n) → let s = e .before .before .before .before .args .text .now in one mostJobs 31 (tokens s) ≡ good (e .n .given .0 .0) (tokens (drop (e .n .given .0 .1 .0) s))
+jobs e = rw (e .n .given .1) at (e .before .before .next-up-to .ensures)
+
+resources : (e : tie.After-k) → let s = counting e .before .before .before .before .args .text .now in
+    one mostResources 31 (tokens (drop (counting e .n .given .0 .1 .0) s)) ≡ good (e .k .given .0 .0) (tokens (drop (e .k .given .0 .1 .0) s))
+resources e = rw (e .k .given .1) at (e .before .before .next-up-to2 .ensures)
 
 cast-next-up-to : tie.Need-cast-next-up-to
 cast-next-up-to c = search needs
@@ -37,27 +54,30 @@ enum-known-cap : tie.Need-enum-known-cap
 enum-known-cap c = search needs
 
 returns : tie.Need-returns
-returns c = opening-bad _ _ (rw (c .before .c .given .1) at (c .before .before .before .next-up-to .ensures))
+unfolding opening
+returns c =
+    let r = rw (c .before .c .given .1) at (c .before .before .before .next-up-to .ensures) in
+    rw r
 
 returns-2 : tie.Need-returns-2
+unfolding opening
 returns-2 c =
-    let p = rw (c .before .before .before .before .before .n .given .1) at (c .before .before .before .before .before .before .before .next-up-to .ensures) in
-    let q = rw (c .before .c2 .given .1) at (c .before .before .before .next-up-to2 .ensures) in
-    opening-bad₂ _ _ _ p _ q
+    let r = rw (c .before .c2 .given .1) at (c .before .before .before .next-up-to2 .ensures) in
+    rw (jobs (c .before .before .before .before .before), r)
 
 returns-3 : tie.Need-returns-3
+unfolding opening
 returns-3 c =
-    let p = rw (c .before .before .before .before .before .before .before .before .before .n .given .1) at (c .before .before .before .before .before .before .before .before .before .before .before .next-up-to .ensures) in
-    let q = rw (c .before .before .before .before .before .k .given .1) at (c .before .before .before .before .before .before .before .next-up-to2 .ensures) in
+    let e = c .before .before .before .before .before in
     let r = rw (c .before .c3 .given .1) at (c .before .before .before .read-numbers .ensures) in
-    opening-bad₃ _ _ _ p _ _ q _ r
+    rw (jobs (counting e), resources e, r)
 
 returns-4 : tie.Need-returns-4
 returns-4 c =
-    let p = rw (c .before .before .before .before .before .before .before .before .before .n .given .1) at (c .before .before .before .before .before .before .before .before .before .before .before .next-up-to .ensures) in
-    let q = rw (c .before .before .before .before .before .k .given .1) at (c .before .before .before .before .before .before .before .next-up-to2 .ensures) in
+    let e = c .before .before .before .before .before in
     let r = rw (c .before .cap .given .1) at (c .before .before .before .read-numbers .ensures) in
-    (_, opening-good _ _ _ p _ _ q _ _ (r .1), refl, refl, r .2, one-takes _ _ _ _ _ p .1, numbers-takes _ _ _ _ _ (r .1) .0)
+    let few = one-takes _ _ _ _ _ (jobs (counting e)) .1 in
+    (_, opening-good _ _ _ (jobs (counting e)) _ _ (resources e) _ _ (r .1), refl, refl, r .2, few, numbers-takes _ _ _ _ _ (r .1) .0)
 
 pub open-text-spec : {M : Type 1} → statement M
 open-text-spec =

@@ -11,7 +11,8 @@ use Rattle.rowheads.proofs.read_need.Statement.{statement}
 use Rattle.rowheads.proofs.read_need.Tie as tie
 
 -- the duration, once it is read
-duration : (e : tie.After-d) → let a = e .before .before .before .before .args in one mostTime 31 (tokens (drop (a .at) (a .text .now))) ≡ good (e .d .given .0 .0) (tokens (drop (e .d .given .0 .1 .0) (a .text .now)))
+duration : (e : tie.After-d) → let a = e .before .before .before .before .args in
+    one mostTime 31 (tokens (drop (a .at) (a .text .now))) ≡ good (e .d .given .0 .0) (tokens (drop (e .d .given .0 .1 .0) (a .text .now)))
 duration e = rw (e .d .given .1) at (e .before .before .next-up-to .ensures)
 
 next-up-to-requires : tie.Need-next-up-to-requires

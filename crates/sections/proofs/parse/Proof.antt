@@ -1,11 +1,43 @@
 -- `sections::parse` meets its contract: the headings, the two counts, and then what `read_tables` says.
+use Prim.Native.Nat.{_≤_}
+use mathlib.Core.Path.{_≡_}
+use mathlib.Core.Bool.{true}
+use mathlib.Core.List.{List}
 use borrow.Author.Needs.{needs}
 use native.Mathlib.Omega.{arith}
 use borrow.Author.Tests.{not-true, not-false}
+use Rattle.joblist.specs.Limits.{mostJobs, mostResources}
+use Rattle.texts.specs.Tokens.{Token}
+use Rattle.texts.specs.Readings.{good}
+use Rattle.headings.specs.Lines.{counted}
+use Rattle.headings.specs.Headings.{marks, inOrder, section}
 use Rattle.headings.proofs.Facts.{counted-takes}
 use Rattle.sections.proofs.Parsing.{no-headings, no-jobs, no-resources, by-tables}
 use Rattle.sections.proofs.parse.Statement.{statement}
 use Rattle.sections.proofs.parse.Tie as tie
+
+-- ---- behind the headings, and behind the job count: the start of the call, and what was read
+
+abbrev started : tie.Else1 → tie.Start
+started h = h .before .before .before .before
+
+abbrev headings-of : tie.After-n → tie.Else1
+headings-of e = e .before .before .before
+
+ordered : (h : tie.Else1) → inOrder 0 (marks (started h .args .text .now)) ≡ true
+ordered h =
+    let f = rw (not-false (h .before .find .result) (h .if1 .left)) at (h .before .find .ensures .0) in
+    f .0
+
+jobs : (e : tie.After-n) → (rest : List Token) × (counted mostJobs (section 0 (marks (started (headings-of e) .args .text .now))) ≡ good (e .n .given .0 .0) rest)
+jobs e =
+    let h = e .before .before .before in
+    let f = rw (not-false (h .before .find .result) (h .if1 .left)) at (h .before .find .ensures .0) in
+    let n = rw (e .n .given .1) at (e .before .before .count-at .ensures) in
+    (n .0, rw (f .1 0 (omega arith)) (n .1))
+
+few : (e : tie.After-n) → e .n .given .0 .0 ≤ mostJobs
+few e = counted-takes _ _ _ _ (jobs e .1)
 
 find-requires : tie.Need-find-requires
 find-requires c κs = search needs
@@ -53,33 +85,36 @@ array-read-t32 c = search needs
 
 read-tables-requires : tie.Need-read-tables-requires
 read-tables-requires c κs =
-    let n = rw (c .before .before .before .before .before .before .before .n .given .1) at (c .before .before .before .before .before .before .before .before .before .count-at .ensures) in
-    let p = c .before .before .before .before .before .before .before .before .before .before .before .before .before .before .pre in
-    (counted-takes _ _ _ _ (n .1), p .0, p .1, p .2)
+    let e = c .before .before .before .before .before .before .before in
+    let p = started (headings-of e) .pre in
+    (few e, p .0, p .1, p .2)
 
 returns-2 : tie.Need-returns-2
 returns-2 c =
-    let f = rw (not-false (c .before .before .before .before .before .find .result) (c .before .before .before .before .if1 .left)) at (c .before .before .before .before .before .find .ensures .0) in
+    let h = c .before .before .before .before in
+    let f = rw (not-false (h .before .find .result) (h .if1 .left)) at (h .before .find .ensures .0) in
     let n = rw (c .before .c .given .1) at (c .before .before .before .count-at .ensures) in
-    let p = c .before .before .before .before .before .before .before .before .pre in
-    (no-jobs _ (f .0) _ (rw (f .1 0 (omega arith)) n), p .0, p .1, p .2)
+    let p = started h .pre in
+    (no-jobs _ (ordered h) _ (rw (f .1 0 (omega arith)) n), p .0, p .1, p .2)
 
 returns-3 : tie.Need-returns-3
 returns-3 c =
-    let f = rw (not-false (c .before .before .before .before .before .before .before .before .before .find .result) (c .before .before .before .before .before .before .before .before .if1 .left)) at (c .before .before .before .before .before .before .before .before .before .find .ensures .0) in
-    let n = rw (c .before .before .before .before .before .n .given .1) at (c .before .before .before .before .before .before .before .count-at .ensures) in
+    let e = c .before .before .before .before .before in
+    let h = e .before .before .before in
+    let f = rw (not-false (h .before .find .result) (h .if1 .left)) at (h .before .find .ensures .0) in
     let k = rw (c .before .c2 .given .1) at (c .before .before .before .count-at2 .ensures) in
-    let p = c .before .before .before .before .before .before .before .before .before .before .before .before .pre in
-    (no-resources _ (f .0) (c .before .before .before .before .before .n .given .0 .0) (n .0) (rw (f .1 0 (omega arith)) (n .1)) _ (rw (f .1 1 (omega arith)) k), p .0, p .1, p .2)
+    let p = started h .pre in
+    (no-resources _ (ordered h) _ _ (jobs e .1) _ (rw (f .1 1 (omega arith)) k), p .0, p .1, p .2)
 
 returns-4 : tie.Need-returns-4
 returns-4 c =
-    let s = c .before .before .before .before .before .before .before .before .before .before .before .before .before .before .before .args .text .now in
-    let f = rw (not-false (c .before .before .before .before .before .before .before .before .before .before .before .before .find .result) (c .before .before .before .before .before .before .before .before .before .before .before .if1 .left)) at (c .before .before .before .before .before .before .before .before .before .before .before .before .find .ensures .0) in
-    let n = rw (c .before .before .before .before .before .before .before .before .n .given .1) at (c .before .before .before .before .before .before .before .before .before .before .count-at .ensures) in
-    let k = rw (c .before .before .before .before .k .given .1) at (c .before .before .before .before .before .before .count-at2 .ensures) in
-    let e = by-tables s (f .0) (c .before .before .before .before .before .before .before .before .n .given .0 .0) (n .0) (rw (f .1 0 (omega arith)) (n .1)) (c .before .before .before .before .k .given .0 .0) (k .0) (rw (f .1 1 (omega arith)) (k .1)) in
-    rw (e, f .1 2 (omega arith), f .1 3 (omega arith), f .1 4 (omega arith)) (c .read-tables .ensures)
+    let g = c .before .before .before .before in
+    let e = g .before .before .before .before in
+    let h = e .before .before .before in
+    let f = rw (not-false (h .before .find .result) (h .if1 .left)) at (h .before .find .ensures .0) in
+    let k = rw (g .k .given .1) at (g .before .before .count-at2 .ensures) in
+    let t = by-tables (started h .args .text .now) (ordered h) (e .n .given .0 .0) _ (jobs e .1) (g .k .given .0 .0) (k .0) (rw (f .1 1 (omega arith)) (k .1)) in
+    rw (t, f .1 2 (omega arith), f .1 3 (omega arith), f .1 4 (omega arith)) (c .read-tables .ensures)
 
 pub parse-spec : {M : Type 1} → statement M
 parse-spec =
