@@ -7,7 +7,7 @@ use mathlib.Core.List.{List, [], _∷_, _++_}
 use lib.Dec.{eqb}
 use lib.ListN.{length, drop, length-drop}
 use Rattle.headings.specs.Lines.{behind, nextLine}
-use Rattle.headings.specs.Headings.{headings, unspaced, Mark, markOf, lineMark, laterMarks, marks}
+use Rattle.headings.specs.Headings.{headings, startsWith, unspaced, Mark, markOf, lineMark, laterMarks, marks}
 
 pub marks-none : marks [] ≡ []
 unfolding marks
@@ -26,6 +26,16 @@ later-is (b ∷ s) = go (eqb b 10) (later-is s)
 pub marks-split : (s : List ℕ) → marks s ≡ lineMark s ++ marks (nextLine s)
 unfolding marks
 marks-split s = ap (λ (ms : List Mark). lineMark s ++ ms) (later-is s)
+
+-- one heading tried: it is passed over, or it is the one
+module _ (k : ℕ) (h : List ℕ) (hs : List (List ℕ)) (t : List ℕ) where
+  pub mark-past : startsWith h t ≡ false → markOf k (h ∷ hs) t ≡ markOf (suc k) hs t
+  unfolding markOf
+  mark-past e = rw e
+
+  pub mark-here : startsWith h t ≡ true → markOf k (h ∷ hs) t ≡ record { which = k; from = t } ∷ []
+  unfolding markOf
+  mark-here e = rw e
 
 -- spaces in front of a heading do not matter
 pub line-mark : (s t : List ℕ) (ms : List Mark) → t ≡ unspaced s → markOf 0 headings t ≡ ms → lineMark s ≡ ms

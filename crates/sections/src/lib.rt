@@ -1,10 +1,10 @@
 // A text of the PSPLIB layout read whole (document 01, 'Library layouts'; refusals of document 02, Items 1 and 13): its headings, the two counts, and
 // its three tables.
+use linewise::Count;
 use parsing::Parsed;
 use parsing::Shape;
 use rowheads::Table;
 use scanner::Got;
-use seeker::Count;
 use walking::Walked;
 ghost use mathlib.Core.Path.{_≡_};
 ghost use Prim.Native.Nat.{ℕ, _≤_};
@@ -40,9 +40,9 @@ pub fn parse(
     if !seeker::find(text, &mut places) {
         return Parsed::Refused(35);
     }
-    match seeker::count_at(text, places[0], screen::MOST_JOBS as u32) {
+    match linewise::count_at(text, places[0], screen::MOST_JOBS as u32) {
         Count::Refused(c) => Parsed::Refused(c),
-        Count::Read(n) => match seeker::count_at(text, places[1], screen::MOST_RESOURCES) {
+        Count::Read(n) => match linewise::count_at(text, places[1], screen::MOST_RESOURCES) {
             Count::Refused(c) => Parsed::Refused(c),
             Count::Read(k) => read_tables(
                 text,
@@ -74,15 +74,15 @@ fn read_tables(
     requires { ⌜ (n ≤ mostJobs) × (length (now dur) ≡ mostJobs) × (length (now dem) ≡ mostJobs) × ((j : ℕ) → now dur ! j ≤ mostTime) ⌝ }
     ensures { λ r. ⌜ ParsedSays (tables n k (drop (from .relations) (now (text .entry))) (drop (from .requests) (now (text .entry))) (drop (from .capacities) (now (text .entry)))) (now (text .entry)) res (now (dur .exit)) (now (dem .exit)) r × (length (now (dur .exit)) ≡ mostJobs) × (length (now (dem .exit)) ≡ mostJobs) × ((j : ℕ) → now (dur .exit) ! j ≤ mostTime) ⌝ }
 {
-    let at = seeker::behind_lines(text, from.relations, BEHIND_NAMES);
+    let at = linewise::behind_lines(text, from.relations, BEHIND_NAMES);
     match walking::validate(text, at, n, Table::Relations, res, dur, dem) {
         Walked::Refused(c) => Parsed::Refused(c),
         Walked::Read(pairs, _) => {
-            let requests = seeker::behind_lines(text, from.requests, BEHIND_HYPHENS);
+            let requests = linewise::behind_lines(text, from.requests, BEHIND_HYPHENS);
             match walking::validate(text, requests, n, Table::Requests(k), res, dur, dem) {
                 Walked::Refused(c) => Parsed::Refused(c),
                 Walked::Read(_, _) => {
-                    let capacities = seeker::behind_lines(text, from.capacities, BEHIND_NAMES);
+                    let capacities = linewise::behind_lines(text, from.capacities, BEHIND_NAMES);
                     match rowheads::read_numbers(text, capacities, k, screen::MOST_DEMAND, res) {
                         Got::Refused(c) => Parsed::Refused(c),
                         Got::Read(cap, _) => Parsed::Read(Shape {

@@ -1,13 +1,13 @@
--- `seeker::behind_lines` meets its contract: the lines left, from `to` on, end where all of them do.
+-- `linewise::behind_lines` meets its contract: the lines left, from `to` on, end where all of them do.
 use Prim.Native.Nat.{_<_}
 use native.Mathlib.Omega.{arith}
 use mathlib.Core.Path.{_≡_, refl, sym, _∙_}
 use borrow.Author.Needs.{needs}
 use lib.ListN.{drop}
 use Rattle.headings.specs.Lines.{behindLines}
-use Rattle.seeker.proofs.Counts.{lines-none, lines-step}
-use Rattle.seeker.proofs.behind_lines.Statement.{statement}
-use Rattle.seeker.proofs.behind_lines.Tie as tie
+use Rattle.linewise.proofs.Counts.{lines-none, lines-step}
+use Rattle.linewise.proofs.behind_lines.Statement.{statement}
+use Rattle.linewise.proofs.behind_lines.Tie as tie
 
 abbrev Inv-loop : tie.InvT-loop
 Inv-loop text at m to₀ left₀ to left = behindLines m (drop at text) ≡ behindLines left (drop to text)

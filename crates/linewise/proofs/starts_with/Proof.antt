@@ -1,13 +1,13 @@
--- `seeker::lines::starts_with` meets its contract: the first i bytes agree, so the rest decides.
+-- `linewise::starts_with` meets its contract: the first i bytes agree, so the rest decides.
 use Prim.Native.Nat.{_-_}
 use native.Mathlib.Omega.{arith}
 use mathlib.Core.Path.{_≡_, refl}
 use lib.ListN.{length, drop}
 use borrow.Author.Tests.{eq-eqb, ne-eqb}
 use Rattle.headings.specs.Headings.{startsWith}
-use Rattle.seeker.proofs.Places.{starts-step, starts-short, starts-end}
-use Rattle.seeker.proofs.lines.starts_with.Statement.{statement}
-use Rattle.seeker.proofs.lines.starts_with.Tie as tie
+use Rattle.linewise.proofs.Places.{starts-step, starts-short, starts-end}
+use Rattle.linewise.proofs.starts_with.Statement.{statement}
+use Rattle.linewise.proofs.starts_with.Tie as tie
 
 abbrev Inv-loop : tie.InvT-loop
 Inv-loop text word i₀ i = startsWith word text ≡ startsWith (drop i word) (drop i text)

@@ -1,13 +1,13 @@
--- `seeker::lines::line_end` meets its contract: wherever the line from i on ends, the line from `at` on ends.
+-- `linewise::line_end` meets its contract: wherever the line from i on ends, the line from `at` on ends.
 use Prim.Native.Nat.{ℕ, _<_, _-_}
 use native.Mathlib.Omega.{arith}
 use mathlib.Core.Path.{_≡_}
 use lib.ListN.{length}
 use Rattle.lists.specs.Lists.{_!_}
-use Rattle.seeker.specs.Found.{LineTo}
-use Rattle.seeker.proofs.Places.{line-stop, line-onward, line-over}
-use Rattle.seeker.proofs.lines.line_end.Statement.{statement}
-use Rattle.seeker.proofs.lines.line_end.Tie as tie
+use Rattle.linewise.specs.Says.{LineTo}
+use Rattle.linewise.proofs.Places.{line-stop, line-onward, line-over}
+use Rattle.linewise.proofs.line_end.Statement.{statement}
+use Rattle.linewise.proofs.line_end.Tie as tie
 
 abbrev Inv-loop : tie.InvT-loop
 Inv-loop text at i₀ i = (to : ℕ) → LineTo text i to → LineTo text at to

@@ -1,10 +1,10 @@
--- `seeker::lines::starts_at` meets its contract: the part from `at` on starts with the bytes; a place behind the end has none.
+-- `linewise::starts_at` meets its contract: the part from `at` on starts with the bytes; a place behind the end has none.
 use native.Mathlib.Omega.{arith}
 use mathlib.Core.Path.{_∙_}
 use borrow.Author.Needs.{needs}
-use Rattle.seeker.proofs.Places.{starts-past, part-rest}
-use Rattle.seeker.proofs.lines.starts_at.Statement.{statement}
-use Rattle.seeker.proofs.lines.starts_at.Tie as tie
+use Rattle.linewise.proofs.Places.{starts-past, part-rest}
+use Rattle.linewise.proofs.starts_at.Statement.{statement}
+use Rattle.linewise.proofs.starts_at.Tie as tie
 
 returns : tie.Need-returns
 returns c =

@@ -7,7 +7,7 @@ use lib.ListN.{drop, take}
 use Rattle.texts.specs.Tokens.{tokens}
 use Rattle.texts.specs.Readings.{one}
 use Rattle.headings.specs.Lines.{behind, nextLine, behindLines, counted}
-use Rattle.seeker.specs.Found.{LineTo}
+use Rattle.linewise.specs.Says.{LineTo}
 
 -- on the part of the text that ends with the line
 pub counted-part : (top : ℕ) (s : List ℕ) (at end from : ℕ) → LineTo s at end → drop from (take end s) ≡ behind 58 (drop at (take end s))

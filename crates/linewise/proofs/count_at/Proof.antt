@@ -1,12 +1,12 @@
--- `seeker::count_at` meets its contract: the part that ends with the line is read from behind its first colon on.
+-- `linewise::count_at` meets its contract: the part that ends with the line is read from behind its first colon on.
 use mathlib.Core.Path.{sym}
 use lib.ListN.{take, drop}
 use lib.Seq.{length-take-le}
 use borrow.Author.Needs.{needs}
 use Rattle.texts.specs.Tokens.{tokens}
-use Rattle.seeker.proofs.Counts.{counted-part}
-use Rattle.seeker.proofs.count_at.Statement.{statement}
-use Rattle.seeker.proofs.count_at.Tie as tie
+use Rattle.linewise.proofs.Counts.{counted-part}
+use Rattle.linewise.proofs.count_at.Statement.{statement}
+use Rattle.linewise.proofs.count_at.Tie as tie
 
 line-end-requires : tie.Need-line-end-requires
 line-end-requires c κs = search needs

@@ -13,7 +13,7 @@ use Rattle.lists.specs.Lists.{_!_}
 use Rattle.lists.specs.Tests.{both}
 use Rattle.headings.specs.Lines.{line, behind}
 use Rattle.headings.specs.Headings.{startsWith, unspaced}
-use Rattle.seeker.specs.Found.{LineTo}
+use Rattle.linewise.specs.Says.{LineTo}
 
 -- ---- bytes compared
 

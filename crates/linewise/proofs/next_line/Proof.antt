@@ -1,7 +1,7 @@
--- `seeker::lines::next_line` meets its contract: a line ends at a line feed.
+-- `linewise::next_line` meets its contract: a line ends at a line feed.
 use borrow.Author.Needs.{needs}
-use Rattle.seeker.proofs.lines.next_line.Statement.{statement}
-use Rattle.seeker.proofs.lines.next_line.Tie as tie
+use Rattle.linewise.proofs.next_line.Statement.{statement}
+use Rattle.linewise.proofs.next_line.Tie as tie
 
 behind-requires : tie.Need-behind-requires
 behind-requires c κs = search needs
