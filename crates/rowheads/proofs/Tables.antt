@@ -8,9 +8,9 @@ use Rattle.joblist.specs.Limits.{mostTime, mostDemand}
 use Rattle.texts.specs.Tokens.{Token}
 use Rattle.texts.specs.Readings.{Read, bad, good, andThen, one, inTurn, numbersUpTo}
 use Rattle.texts.proofs.Readings.{said, in-turn-said}
-use Rattle.projects.specs.Projects.{Row, Head, headed, link}
+use Rattle.projects.specs.Projects.{Row, headed, link}
 use Rattle.projects.specs.Tables.{numbered, relation, Need, request}
-use Rattle.rowheads.specs.Heads.{needHead, withCount, relationHead, requestHead, headIn, rowIn}
+use Rattle.rowheads.specs.Heads.{needHead, withCount, bare, relationHead, requestHead, headIn, rowIn}
 use Rattle.rowheads.specs.declared.Table.the-variants.{Relations, Requests}
 use Rattle.rowheads.proofs.Takes.{OfText, Limited, row-takes, row-codes}
 
@@ -30,38 +30,33 @@ relation-row n j ts = go (numbered j ts)
     last (good ss end) = refl
 
     counts : (r : Read ℕ)
-        → andThen (andThen r (λ c t. good (record { duration = 0; demands = []; count = c }) t)) (λ (h : Head) rest. andThen (inTurn (λ i. link n) 0 (h .count) rest) (λ ss end. good (record { duration = h .duration; demands = h .demands; successors = ss }) end))
-        ≡ said linked (andThen r (λ c t. inTurn (λ i. link n) 0 c t))
+        → headed n (andThen r (λ c t. good (record { duration = 0; demands = []; count = c }) t)) ≡ said linked (andThen r (λ c t. inTurn (λ i. link n) 0 c t))
     counts (bad c) = refl
     counts (good c t) = last (inTurn (λ i. link n) 0 c t)
 
-    go : (r : Read ℕ)
-        → andThen (andThen r (λ a t₁. andThen (one n 31 t₁) (λ c t₂. good (record { duration = 0; demands = []; count = c }) t₂))) (λ (h : Head) rest. andThen (inTurn (λ i. link n) 0 (h .count) rest) (λ ss end. good (record { duration = h .duration; demands = h .demands; successors = ss }) end))
-        ≡ said linked (andThen r (λ a t₁. andThen (one n 31 t₁) (λ c t₂. inTurn (λ i. link n) 0 c t₂)))
+    go : (r : Read ℕ) → headed n (andThen r (λ a t. withCount n bare t)) ≡ said linked (andThen r (λ a t₁. andThen (one n 31 t₁) (λ c t₂. inTurn (λ i. link n) 0 c t₂)))
     go (bad c) = refl
-    go (good a t₁) = counts (one n 31 t₁)
+    go (good a t) = counts (one n 31 t)
 
 request-row : (n k j : ℕ) (ts : List Token) → rowIn (Requests k) n j ts ≡ said needed (request k j ts)
 unfolding rowIn headIn headed requestHead needHead request inTurn
 request-row n k j ts = go (numbered j ts)
   where
     demands : (d : ℕ) (r : Read (List ℕ))
-        → andThen (andThen r (λ qs t. good (record { duration = d; demands = qs; count = 0 }) t)) (λ (h : Head) rest. andThen (inTurn (λ i. link n) 0 (h .count) rest) (λ ss end. good (record { duration = h .duration; demands = h .demands; successors = ss }) end))
-        ≡ said needed (andThen r (λ qs t. good (record { duration = d; demands = qs }) t))
+        → headed n (andThen r (λ qs t. good (record { duration = d; demands = qs; count = 0 }) t)) ≡ said needed (andThen r (λ qs t. good (record { duration = d; demands = qs }) t))
     demands d (bad c) = refl
     demands d (good qs t) = refl
 
     durations : (r : Read ℕ)
-        → andThen (andThen r (λ d t₂. andThen (numbersUpTo mostDemand k t₂) (λ qs t₃. good (record { duration = d; demands = qs; count = 0 }) t₃))) (λ (h : Head) rest. andThen (inTurn (λ i. link n) 0 (h .count) rest) (λ ss end. good (record { duration = h .duration; demands = h .demands; successors = ss }) end))
+        → headed n (andThen r (λ d t₂. andThen (numbersUpTo mostDemand k t₂) (λ qs t₃. good (record { duration = d; demands = qs; count = 0 }) t₃)))
         ≡ said needed (andThen r (λ d t₂. andThen (numbersUpTo mostDemand k t₂) (λ qs t₃. good (record { duration = d; demands = qs }) t₃)))
     durations (bad c) = refl
     durations (good d t) = demands d (numbersUpTo mostDemand k t)
 
-    go : (r : Read ℕ)
-        → andThen (andThen r (λ a t₁. andThen (one mostTime 31 t₁) (λ d t₂. andThen (numbersUpTo mostDemand k t₂) (λ qs t₃. good (record { duration = d; demands = qs; count = 0 }) t₃)))) (λ (h : Head) rest. andThen (inTurn (λ i. link n) 0 (h .count) rest) (λ ss end. good (record { duration = h .duration; demands = h .demands; successors = ss }) end))
+    go : (r : Read ℕ) → headed n (andThen r (λ a t. needHead k t))
         ≡ said needed (andThen r (λ a t₁. andThen (one mostTime 31 t₁) (λ d t₂. andThen (numbersUpTo mostDemand k t₂) (λ qs t₃. good (record { duration = d; demands = qs }) t₃))))
     go (bad c) = refl
-    go (good a t₁) = durations (one mostTime 31 t₁)
+    go (good a t) = durations (one mostTime 31 t)
 
 -- ---- whole tables
 

@@ -59,7 +59,10 @@ module _ (s : List ℕ) (at found : ℕ) (places : List ℕ) (l : Looking s at f
 
         placed : (k : ℕ) → k < found + 1 → section k (marks s) ≡ drop (set places which put ! k) s
         placed k i = elim (ℕ-discrete k which) [
-          | yes d ↦ let z : k ≡ found + 0 = omega arith in let o : which < length places = omega (arith, l .size) in rw (d, getD-set-same places which put 0 o, g, ← d, z) (l .later 0 ∙ rw with-it)
+          | yes d ↦
+              let z : k ≡ found + 0 = omega arith in
+              let o : which < length places = omega (arith, l .size) in
+              rw (d, getD-set-same places which put 0 o, g, ← d, z) (l .later 0 ∙ rw with-it)
           | no d ↦ rw (getD-set-other places which k put 0 d) (l .kept k (omega arith))
         ]
 

@@ -2,7 +2,7 @@
 use Prim.Native.Nat.{ℕ, _-_}
 use native.Mathlib.Omega.{arith}
 use mathlib.Core.Path.{_≡_, refl, sym, ap, _∙_}
-use mathlib.Core.List.{List, _++_}
+use mathlib.Core.List.{List}
 use Rattle.texts.specs.Tokens.{Token}
 use Rattle.texts.specs.Readings.{Read, bad, good, andThen, inTurn}
 use Rattle.texts.proofs.Readings.{bad-not-good}
@@ -11,6 +11,7 @@ use Rattle.rowheads.specs.Heads.{rowIn}
 use Rattle.rowheads.specs.declared.Table.{Table}
 use Rattle.walking.specs.Walk.{Seen, seeing}
 use Rattle.walking.specs.Comes.{onlyPairs}
+use Rattle.walking.proofs.Seeing.{seen}
 
 abbrev pub viewed : ℕ → List Row → Seen
 viewed res rs = record { durs = durations rs; dems = demandsOn res rs; pairs = pairsFrom 0 rs }
@@ -39,13 +40,13 @@ unfolding seeing
 pairs-any n table a b next left ts = go (inTurn (λ i. link n) 0 left ts)
   where
     rest : (ss : List ℕ) (r : Read (List Row))
-        → onlyPairs (andThen r (λ rs t₂. good (record { durs = durations rs; dems = demandsOn a rs; pairs = tagged (next - 1) ss ++ pairsFrom next rs }) t₂))
-        ≡ onlyPairs (andThen r (λ rs t₂. good (record { durs = durations rs; dems = demandsOn b rs; pairs = tagged (next - 1) ss ++ pairsFrom next rs }) t₂))
+        → onlyPairs (andThen r (λ rs t₂. good (seen a (tagged (next - 1) ss) rs (pairsFrom next rs)) t₂))
+        ≡ onlyPairs (andThen r (λ rs t₂. good (seen b (tagged (next - 1) ss) rs (pairsFrom next rs)) t₂))
     rest ss (bad c) = refl
     rest ss (good rs t₂) = refl
 
     go : (r : Read (List ℕ))
-        → onlyPairs (andThen r (λ ss t₁. andThen (inTurn (rowIn table n) next (n - next) t₁) (λ rs t₂. good (record { durs = durations rs; dems = demandsOn a rs; pairs = tagged (next - 1) ss ++ pairsFrom next rs }) t₂)))
-        ≡ onlyPairs (andThen r (λ ss t₁. andThen (inTurn (rowIn table n) next (n - next) t₁) (λ rs t₂. good (record { durs = durations rs; dems = demandsOn b rs; pairs = tagged (next - 1) ss ++ pairsFrom next rs }) t₂)))
+        → onlyPairs (andThen r (λ ss t₁. andThen (inTurn (rowIn table n) next (n - next) t₁) (λ rs t₂. good (seen a (tagged (next - 1) ss) rs (pairsFrom next rs)) t₂)))
+        ≡ onlyPairs (andThen r (λ ss t₁. andThen (inTurn (rowIn table n) next (n - next) t₁) (λ rs t₂. good (seen b (tagged (next - 1) ss) rs (pairsFrom next rs)) t₂)))
     go (bad c) = refl
     go (good ss t₁) = rest ss (inTurn (rowIn table n) next (n - next) t₁)

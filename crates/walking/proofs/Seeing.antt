@@ -15,7 +15,7 @@ use Rattle.walking.specs.Walk.{Seen, seeing, addPair, addRow}
 use Rattle.rowheads.specs.declared.Table.{Table}
 
 -- rows as seen, behind pairs
-abbrev seen : ℕ → List Pair → List Row → List Pair → Seen
+abbrev pub seen : ℕ → List Pair → List Row → List Pair → Seen
 seen res ps rs qs = record { durs = durations rs; dems = demandsOn res rs; pairs = ps ++ qs }
 
 module _ (n : ℕ) (table : Table) (res next left : ℕ) (ts : List Token) where

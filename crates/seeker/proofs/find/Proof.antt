@@ -1,9 +1,12 @@
 -- `seeker::find` meets its contract. The invariant is `Looking`: the lines from `at` on decide whether the headings are in order, and those found
 -- start where `places` says.
-use Prim.Native.Nat.{_-_}
+use Prim.Native.Nat.{ℕ, _-_, _<_}
 use native.Mathlib.Omega.{arith}
+use mathlib.Core.Path.{_≡_}
+use mathlib.Core.List.{[], _∷_}
 use borrow.Author.Needs.{needs}
-use lib.ListN.{length}
+use lib.ListN.{length, drop}
+use Rattle.headings.specs.Headings.{headings, lineMark}
 use Rattle.headings.proofs.Marks.{line-mark, next-falls}
 use Rattle.seeker.proofs.Looking.{Looking, looking-start, looking-none, looking-other, looking-next, looking-end}
 use Rattle.seeker.proofs.find.Statement.{statement}
@@ -14,6 +17,23 @@ Inv-loop text places₀ at₀ found₀ places at found = Looking text at found p
 
 abbrev μ-loop : tie.MeasureT-loop
 μ-loop text places₀ at₀ found₀ places at found = length text - at
+
+-- ---- a line that has a heading: the place in the loop, where the heading starts, and which it is
+
+abbrev Headed : Type 0
+Headed = tie.After-k Inv-loop μ-loop
+
+abbrev looped : Headed → tie.At-loop Inv-loop μ-loop
+looped d = d .before .before .before .before .before
+
+abbrev start : Headed → ℕ
+start d = d .before .before .before .unspaced-at .result
+
+stands : (d : Headed) → let s = looped d .before .before .args .text .now in let k = d .k .given .0 .0 in
+    (k < length headings) × (lineMark (drop (looped d .loop .at) s) ≡ record { which = k; from = drop (start d) s } ∷ [])
+stands d =
+    let q = rw (d .k .given .1) at (d .before .before .heading-at .ensures) in
+    (q .0, line-mark _ _ _ (d .before .before .before .unspaced-at .ensures) (q .1))
 
 loop-holds : tie.Need-loop-holds Inv-loop μ-loop
 loop-holds c = looking-start _ _ (c .before .pre)
@@ -29,36 +49,31 @@ enum-known-k c = search needs
 
 returns : tie.Need-returns Inv-loop μ-loop
 returns c =
-    let l = c .before .before .before .before .before .before .before in
-    let q = rw (c .before .before .k .given .1) at (c .before .before .before .before .heading-at .ensures) in
-    (looking-other _ _ _ _ (l .loop .inv) _ (c .before .before .before .before .before .unspaced-at .result) (line-mark _ _ _ (c .before .before .before .before .before .unspaced-at .ensures) (q .1)) (λ e. omega (arith, c .if1 .taken, e)), l .loop .inv .size)
+    let d = c .before .before in
+    let l = looped d .loop .inv in
+    (looking-other _ _ _ _ l _ (start d) (stands d .1) (λ e. omega (arith, c .if1 .taken, e)), l .size)
 
 mul-places : tie.Need-mul-places Inv-loop μ-loop
-mul-places c =
-    let q = rw (c .before .before .k .given .1) at (c .before .before .before .before .heading-at .ensures) in
-    omega (arith, q .0)
+mul-places c = omega (arith, stands (c .before .before) .0)
 
 element-write-places : tie.Need-element-write-places Inv-loop μ-loop
-element-write-places c =
-    let q = rw (c .before .before .k .given .1) at (c .before .before .before .before .heading-at .ensures) in
-    omega (arith, q .0)
+element-write-places c = omega (arith, stands (c .before .before) .0)
 
 add-found : tie.Need-add-found Inv-loop μ-loop
-add-found c =
-    let q = rw (c .before .before .k .given .1) at (c .before .before .before .before .heading-at .ensures) in
-    omega (arith, q .0, c .if1 .left)
+add-found c = omega (arith, stands (c .before .before) .0, c .if1 .left)
 
 next-line-requires : tie.Need-next-line-requires Inv-loop μ-loop
 next-line-requires c κs = search needs
 
 loop-less : tie.Need-loop-less Inv-loop μ-loop
-loop-less c = next-falls _ _ _ (c .before .before .before .before .before .before .before .loop-test .taken) (c .next-line .ensures)
+loop-less c =
+    let d = c .before .before .before in
+    next-falls _ _ _ (d .before .before .before .before .loop-test .taken) (c .next-line .ensures)
 
 loop-again : tie.Need-loop-again Inv-loop μ-loop
 loop-again c =
-    let l = c .before .before .before .before .before .before .before .before in
-    let q = rw (c .before .before .before .k .given .1) at (c .before .before .before .before .before .heading-at .ensures) in
-    looking-next _ _ _ _ (l .loop .inv) _ (c .before .before .before .before .before .before .unspaced-at .result) (line-mark _ _ _ (c .before .before .before .before .before .before .unspaced-at .ensures) (q .1)) _ _ (omega arith) (omega (arith, c .before .if1 .left)) (q .0) (c .next-line .ensures)
+    let d = c .before .before .before in
+    looking-next _ _ _ _ (looped d .loop .inv) _ (start d) (stands d .1) _ _ (omega arith) (omega (arith, c .before .if1 .left)) (stands d .0) (c .next-line .ensures)
 
 enum-told : tie.Need-enum-told Inv-loop μ-loop
 enum-told c = search needs
@@ -71,8 +86,9 @@ loop-less-2 c = next-falls _ _ _ (c .before .before .before .before .before .loo
 
 loop-again-2 : tie.Need-loop-again-2 Inv-loop μ-loop
 loop-again-2 c =
-    let q = rw (c .before .enum-told .given .1) at (c .before .before .before .heading-at .ensures) in
-    looking-none _ _ _ _ (c .before .before .before .before .before .before .loop .inv) _ (line-mark _ _ _ (c .before .before .before .before .unspaced-at .ensures) q) (c .next-line2 .ensures)
+    let h = c .before .before .before in
+    let q = rw (c .before .enum-told .given .1) at (h .heading-at .ensures) in
+    looking-none _ _ _ _ (h .before .before .before .loop .inv) _ (line-mark _ _ _ (h .before .unspaced-at .ensures) q) (c .next-line2 .ensures)
 
 returns-2 : tie.Need-returns-2 Inv-loop μ-loop
 returns-2 c =

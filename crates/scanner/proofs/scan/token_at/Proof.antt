@@ -42,7 +42,8 @@ returns-2 c =
     let l = c .before .before .before .before .before .before in
     let h : l .loop .i < length (l .before .before .args .text .now) = omega arith in
     let q = l .loop .inv in
-    let o = inside-other _ _ h (q .0) (sym (c .before .before .before .is-blank .ensures) ∙ c .before .before .if1 .left) (sym (c .before .is-digit .ensures) ∙ not-true _ (c .if2 .taken)) in
+    let solid = sym (c .before .before .before .is-blank .ensures) ∙ c .before .before .if1 .left in
+    let o = inside-other _ _ h (q .0) solid (sym (c .before .is-digit .ensures) ∙ not-true _ (c .if2 .taken)) in
     (o .0, q .2 ∙ o .1)
 
 with-digit-requires : tie.Need-with-digit-requires Inv-loop μ-loop
@@ -61,7 +62,9 @@ loop-again c =
     let l = c .before .before .before .before .before .before .before in
     let h : l .loop .i < length (l .before .before .args .text .now) = omega arith in
     let q = l .loop .inv in
-    (_, c .with-digit .ensures (q .0) (q .1), q .2 ∙ inside-digit _ _ h (q .0) (sym (c .before .before .before .before .is-blank .ensures) ∙ c .before .before .before .if1 .left) (sym (c .before .before .is-digit .ensures) ∙ not-false _ (c .before .if2 .left)))
+    let solid = sym (c .before .before .before .before .is-blank .ensures) ∙ c .before .before .before .if1 .left in
+    let counts = sym (c .before .before .is-digit .ensures) ∙ not-false _ (c .before .if2 .left) in
+    (_, c .with-digit .ensures (q .0) (q .1), q .2 ∙ inside-digit _ _ h (q .0) solid counts)
 
 returns-3 : tie.Need-returns-3 Inv-loop μ-loop
 returns-3 c =
