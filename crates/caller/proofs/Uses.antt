@@ -8,7 +8,7 @@ use lib.ListN.{replicate}
 use Rattle.answers.specs.Said.{Word}
 use Rattle.desk.specs.Lists.{_!_, win, Side, jobs, recordWords, Long, slack, roomOf}
 use Rattle.desk.specs.Narrowing.{Call, Good, After, Narrows, Stable, Applies, jobsOf}
-use Rattle.desk.specs.Reading.{Lent, TextCall, windows}
+use Rattle.desk.specs.Reading.{Lent, TextCall, windowsIn}
 use Rattle.caller.specs.Told.{ToldReads}
 
 -- room for one record is enough for a window that just holds its job
@@ -17,7 +17,7 @@ unfolding slack roomOf
 just-room = omega arith
 
 -- every window of a text that was read holds its job
-pub window-holds : (c : TextCall) (L : Lent) → ToldReads c L true → (k : ℕ) → k < jobs (windows L) → L .est ! k + L .dur ! k ≤ L .lct ! k
+pub window-holds : (c : TextCall) (L : Lent) → ToldReads c L true → (k : ℕ) → k < jobs (windowsIn L) → L .est ! k + L .dur ! k ≤ L .lct ! k
 unfolding Long
 window-holds c L h k b = h .long refl k b
 

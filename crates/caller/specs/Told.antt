@@ -9,7 +9,7 @@ use Rattle.answers.specs.Said.{Word, Said}
 use Rattle.desk.specs.Lists.{Win, Long, jobs, slack, roomOf}
 use Rattle.desk.specs.Narrowing.{Call, Good, StableIn, NoneIn, leaves, Narrows}
 use Rattle.desk.specs.Checking.{finds, Checks}
-use Rattle.desk.specs.Reading.{Lent, TextCall, windows, Reads}
+use Rattle.desk.specs.Reading.{Lent, TextCall, windowsIn, Reads}
 
 -- whether the windows of a job list could be narrowed
 pub record ToldSettles (c : Call) (U : Win) (log : List ℕ) (r : Bool) : Type 0 where
@@ -31,4 +31,4 @@ pub record ToldReads (c : TextCall) (L : Lent) (r : Bool) : Type 0 where
   pub reads : Reads c (record { says = says; lent = L })
   pub read : (r ≡ true) ↔ (says .word ≡ Word.read)
   -- narrowing then finds no window that is too short
-  pub long : r ≡ true → Long (jobs (windows L)) (L .dur) (windows L)
+  pub long : r ≡ true → Long (jobs (windowsIn L)) (L .dur) (windowsIn L)

@@ -9,5 +9,5 @@ unfoldable pub use Rattle.psplib.specs.Psplib.{psplib}
 pub use Rattle.exchange.specs.Calls.{Lent, TextCall, TextAfter, Order, durationOf}
 pub use Rattle.exchange.specs.Tests.{Fitting, Misfit, ListsFit, Unfit, TooLong, Unless, None, Tested, Met, Refusal}
 pub use Rattle.exchange.specs.Table.{Filled, Taken, Leaves, Answered}
-pub use Rattle.exchange.specs.Promise.{windows, ListedIn, RespectsPairs, capacity, count, Reads}
+pub use Rattle.exchange.specs.Promise.{windowsIn, ListedIn, RespectsPairs, capacity, pairCount, Reads}
 pub use Rattle.exchange.specs.When.{Meets, AboveLimit, Says, NoResource, NoRoom, Cyclic, ChainTooLong, Readable}

@@ -21,9 +21,9 @@ use Rattle.chains.proofs.Longest.{longest-chained, longest-is}
 use Rattle.chains.proofs.Cycles.{judged-acyclic, cycle-back, cycle-map}
 use Rattle.texts.specs.Readings.{Read, good}
 use Rattle.projects.specs.Projects.{Project, pairsOf, durations, demandsOn, WithinLimits}
-use Rattle.precedence.specs.Rounds.{turned}
+use Rattle.precedence.specs.Rounds.{flipped}
 use Rattle.precedence.proofs.Orders.{back-of, of-back}
-use Rattle.precedence.proofs.Settling.{below-turned}
+use Rattle.precedence.proofs.Settling.{below-flipped}
 use Rattle.exchange.specs.Calls.{Lent, TextAfter, Order, durationOf}
 use Rattle.exchange.specs.Tests.{ListsFit, Tested}
 use Rattle.exchange.specs.Promise.{Reads}
@@ -36,7 +36,7 @@ abbrev pub heads : Project → List ℕ
 heads x = longest (durationOf x) (pairsOf x) (length (x .rows))
 
 abbrev pub tails : Project → List ℕ
-tails x = longest (durationOf x) (turned true (pairsOf x)) (length (x .rows))
+tails x = longest (durationOf x) (flipped true (pairsOf x)) (length (x .rows))
 
 -- there is no cycle
 abbrev pub calm? : Project → Bool
@@ -74,18 +74,18 @@ module _ (t : Read Project) (x : Project) (e : t ≡ good x []) (limits : Within
       head-is : (j : ℕ) → j < length (x .rows) → Longest (Order x) (durationOf x) j (heads x ! j)
       head-is = longest-is (durationOf x) (pairsOf x) (length (x .rows)) range no-cycle
 
-      turned-range : Below (length (x .rows)) (Precedes (turned true (pairsOf x)))
-      turned-range = below-turned true (pairsOf x) (length (x .rows)) range
+      flipped-range : Below (length (x .rows)) (Precedes (flipped true (pairsOf x)))
+      flipped-range = below-flipped true (pairsOf x) (length (x .rows)) range
 
-      no-turned : Cycle (Precedes (turned true (pairsOf x))) → ⊥
-      no-turned c = no-cycle (cycle-back (Order x) (cycle-map (Precedes (turned true (pairsOf x))) (Back (Order x)) (back-of (pairsOf x)) c))
+      no-flipped : Cycle (Precedes (flipped true (pairsOf x))) → ⊥
+      no-flipped c = no-cycle (cycle-back (Order x) (cycle-map (Precedes (flipped true (pairsOf x))) (Back (Order x)) (back-of (pairsOf x)) c))
 
       tail-is : (j : ℕ) → j < length (x .rows) → Longest (Back (Order x)) (durationOf x) j (tails x ! j)
       tail-is j b =
-          let l = longest-is (durationOf x) (turned true (pairsOf x)) (length (x .rows)) turned-range no-turned j b in
+          let l = longest-is (durationOf x) (flipped true (pairsOf x)) (length (x .rows)) flipped-range no-flipped j b in
           record {
-            one = chain-map (Precedes (turned true (pairsOf x))) (Back (Order x)) (durationOf x) (durationOf x) (λ p q d. (back-of (pairsOf x) p q d, refl)) (l .one);
-            most = λ M c. l .most M (chain-map (Back (Order x)) (Precedes (turned true (pairsOf x))) (durationOf x) (durationOf x) (λ p q d. (of-back (pairsOf x) p q d, refl)) c);
+            one = chain-map (Precedes (flipped true (pairsOf x))) (Back (Order x)) (durationOf x) (durationOf x) (λ p q d. (back-of (pairsOf x) p q d, refl)) (l .one);
+            most = λ M c. l .most M (chain-map (Back (Order x)) (Precedes (flipped true (pairsOf x))) (durationOf x) (durationOf x) (λ p q d. (of-back (pairsOf x) p q d, refl)) c);
           }
 
       -- the text is read, and the lists are those computed

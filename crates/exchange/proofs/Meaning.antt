@@ -25,7 +25,7 @@ use Rattle.projects.specs.Projects.{Row, Project, pairsOf, durations, demandsOn
 use Rattle.exchange.specs.Calls.{Lent, TextCall, TextAfter, Order, durationOf}
 use Rattle.exchange.specs.Tests.{Refusal}
 use Rattle.exchange.specs.Table.{Filled, Taken, Leaves, Answered}
-use Rattle.exchange.specs.Promise.{windows, ListedIn, RespectsPairs, Reads}
+use Rattle.exchange.specs.Promise.{windowsIn, ListedIn, RespectsPairs, Reads}
 use Rattle.exchange.proofs.Tests.{Passed, refusal-none}
 
 -- a pair's place
@@ -78,11 +78,11 @@ module _ (x : Project) (resource horizon : ℕ) (L K : Lent) (limits : WithinLim
   dem-at : (j : ℕ) → K .dem ! j ≡ demandsOn resource (x .rows) ! j
   dem-at j = ap (λ (l : List ℕ). l ! j) (f .dem)
 
-  pub filled-long : Long (jobs (windows K)) (K .dur) (windows K)
+  pub filled-long : Long (jobs (windowsIn K)) (K .dur) (windowsIn K)
   unfolding Long
   filled-long j b = omega (arith, after-ends (K .est) est-stable est-ends j (omega (arith, f .est-long)), dur-at j)
 
-  pub filled-good : GoodList (jobs (windows K)) (fourLists (windows K) (K .dur) (K .dem)) (supply (x .capacities ! resource))
+  pub filled-good : GoodList (jobs (windowsIn K)) (fourLists (windowsIn K) (K .dur) (K .dem)) (supply (x .capacities ! resource))
   filled-good = record {
     sized = (refl, (f .lct-long ∙ sym (f .est-long), (dur-long ∙ sym (f .est-long), (dem-long ∙ sym (f .est-long), tt))));
     few = omega (arith, f .est-long, limits .few);
@@ -127,7 +127,7 @@ module _ (x : Project) (resource horizon : ℕ) (L K : Lent) (limits : WithinLim
     starts-end : (j : ℕ) → j < length (x .rows) → s ! j + w j ≤ horizon
     starts-end j b = omega (arith, t .ends j (omega (arith, dur-long)), dur-at j)
 
-    pub filled-kept : Schedule (length (K .dur)) (K .dur) (RespectsPairs K (length (pairsOf x)) horizon) (windows K) s
+    pub filled-kept : Schedule (length (K .dur)) (K .dur) (RespectsPairs K (length (pairsOf x)) horizon) (windowsIn K) s
     filled-kept = record {
       from = λ j b. stable-most (Order x) w s starts-stable (f .est j (omega (arith, dur-long)) .one);
       to = λ j b. omega (arith, after-ends s starts-stable starts-end j (omega (arith, dur-long)), dur-at j);
@@ -153,7 +153,7 @@ module _ (c : TextCall) (limits : (x : Project) (rest : List Token) → c .text 
         let t = read-taken c a r e in
         let y = t .0 in
         let n = refusal-none c (y .x) (y .rest) (y .text) (t .1) in
-        subst (λ (m : ℕ). GoodList (jobs (windows (a .lent))) (fourLists (windows (a .lent)) (a .lent .dur) (a .lent .dem)) (supply m))
+        subst (λ (m : ℕ). GoodList (jobs (windowsIn (a .lent))) (fourLists (windowsIn (a .lent)) (a .lent .dur) (a .lent .dem)) (supply m))
         (sym (ap (λ (z : Said). z .numbers ! 0) (y .says)))
         (filled-good (y .x) (c .resource) (c .horizon) (c .lent) (a .lent) (limits (y .x) (y .rest) (y .text)) (n .0) (n .1) (y .filled));
     long = λ e.
@@ -172,7 +172,7 @@ module _ (c : TextCall) (limits : (x : Project) (rest : List Token) → c .text 
         let t = read-taken c a r e in
         let y = t .0 in
         let n = refusal-none c (y .x) (y .rest) (y .text) (t .1) in
-        subst (λ (m : ℕ). RespectsPairs (a .lent) m (c .horizon) s → Schedule (length (a .lent .dur)) (a .lent .dur) (RespectsPairs (a .lent) m (c .horizon)) (windows (a .lent)) s)
+        subst (λ (m : ℕ). RespectsPairs (a .lent) m (c .horizon) s → Schedule (length (a .lent .dur)) (a .lent .dur) (RespectsPairs (a .lent) m (c .horizon)) (windowsIn (a .lent)) s)
         (sym (ap (λ (z : Said). z .numbers ! 1) (y .says)))
         (filled-kept (y .x) (c .resource) (c .horizon) (c .lent) (a .lent) (limits (y .x) (y .rest) (y .text)) (n .0) (n .1) (y .filled) s);
   }

@@ -20,7 +20,7 @@ use Rattle.projects.specs.Made.{made}
 use Rattle.scribe.proofs.Rows.{made-back, pairs-back, durations-back, demands-back}
 use Rattle.exchange.specs.Calls.{Lent, TextAfter}
 use Rattle.exchange.specs.Promise.{Reads}
-use Rattle.exchange.specs.Write.{WriteCall, WriteAfter, pairsIn, textOf, columns, alone, PairsTested, WriteRefusal, WriteAnswered, SaysSame, textLeft, readAgain, TakenAgain, Writes}
+use Rattle.exchange.specs.Write.{WriteCall, WriteAfter, pairsIn, textOf, writeColumns, alone, PairsTested, WriteRefusal, WriteAnswered, SaysSame, textLeft, readAgain, TakenAgain, Writes}
 use Rattle.exchange.specs.WriteWhen.{WritePassed}
 use Rattle.exchange.proofs.WriteTests.{by-lists, good-lists, behind-lists, left-by, written-exactly}
 use Rattle.exchange.proofs.WriteWhen.{write-none}
@@ -82,11 +82,11 @@ module _ (c : WriteCall) where
   refuses zero f t = absurd (f refl)
   refuses (suc k) f t = writes-of c _ (record { number = suc k; refusal = t; leaves = refl })
 
-  pub lists-refused : (k : ℕ) → (k ≡ 0 → ⊥) → k ≡ refusal (length (c .dur)) (columns c) (alone c) → Refuses k
+  pub lists-refused : (k : ℕ) → (k ≡ 0 → ⊥) → k ≡ refusal (length (c .dur)) (writeColumns c) (alone c) → Refuses k
   lists-refused k f e = refuses k f (by-lists c k f e)
 
-  module _ (k : ℕ) (none : k ≡ 0) (tested : k ≡ refusal (length (c .dur)) (columns c) (alone c)) where
-    lists-good : GoodList (length (c .dur)) (columns c) (alone c)
+  module _ (k : ℕ) (none : k ≡ 0) (tested : k ≡ refusal (length (c .dur)) (writeColumns c) (alone c)) where
+    lists-good : GoodList (length (c .dur)) (writeColumns c) (alone c)
     lists-good = good-lists c (sym none ∙ tested)
 
     behind : (k : ℕ) → (k ≡ 0 → ⊥) → PairsTested c k → Refuses k

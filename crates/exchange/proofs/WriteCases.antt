@@ -17,16 +17,16 @@ use Rattle.chains.proofs.Cycles.{judged-acyclic}
 use Rattle.chains.proofs.Listed.{paired-below}
 use Rattle.projects.specs.Form.{projectText}
 use Rattle.projects.specs.Made.{rowsFrom}
-use Rattle.exchange.specs.Write.{WriteCall, WriteAfter, columns, alone, PairsTested, writeLeaves, Writes}
+use Rattle.exchange.specs.Write.{WriteCall, WriteAfter, writeColumns, alone, PairsTested, writeLeaves, Writes}
 use Rattle.exchange.proofs.WriteTests.{write-answered-one, behind-lists, by-lists}
 
 -- two jobs on a capacity of 5, with such pairs and such a buffer
 abbrev two : List ℕ → List ℕ → List ℕ → WriteCall
 two js ss buffer = record { cap = 5; dur = 3 ∷ 4 ∷ []; dem = 1 ∷ 2 ∷ []; jobs = js; successors = ss; buffer = buffer }
 
-two-good : (js ss buffer : List ℕ) → GoodList 2 (columns (two js ss buffer)) (alone (two js ss buffer))
+two-good : (js ss buffer : List ℕ) → GoodList 2 (writeColumns (two js ss buffer)) (alone (two js ss buffer))
 unfolding refusal
-two-good js ss buffer = good 2 (columns (two js ss buffer)) (alone (two js ss buffer)) refl
+two-good js ss buffer = good 2 (writeColumns (two js ss buffer)) (alone (two js ss buffer)) refl
 
 -- what the tests of the pairs say is the answer
 by-pairs : (js ss buffer : List ℕ) (k : ℕ) → PairsTested (two js ss buffer) k → (a : WriteAfter) → Writes (two js ss buffer) a → a ≡ writeLeaves (two js ss buffer) k

@@ -12,7 +12,7 @@ use Rattle.answers.proofs.Same.{not-said, said-apart, write-same}
 use Rattle.joblist.specs.GoodList.{GoodList, Given, refusal}
 use Rattle.joblist.proofs.Refusals.{sized-judged, limits-judged, refusal-exactly}
 use Rattle.chains.proofs.Listed.{rising-one}
-use Rattle.exchange.specs.Write.{WriteCall, WriteAfter, columns, alone, PairsTested, WriteRefusal, writeLeaves, WriteAnswered, Writes}
+use Rattle.exchange.specs.Write.{WriteCall, WriteAfter, writeColumns, alone, PairsTested, WriteRefusal, writeLeaves, WriteAnswered, Writes}
 use Rattle.exchange.proofs.Tests.{Alone, unless-alone, none-alone}
 
 -- ---- one number alone
@@ -30,26 +30,26 @@ module _ (c : WriteCall) where
 
   pub write-refusal-one : (j k : ℕ) → WriteRefusal c j → WriteRefusal c k → j ≡ k
   write-refusal-one =
-      unless-alone _ _ _ _ (sized-judged n (columns c) .apart)
+      unless-alone _ _ _ _ (sized-judged n (writeColumns c) .apart)
       (unless-alone _ _ _ _ (λ f g. omega arith)
-      (unless-alone _ _ _ _ (limits-judged (columns c) (alone c) .apart) pairs-alone))
+      (unless-alone _ _ _ _ (limits-judged (writeColumns c) (alone c) .apart) pairs-alone))
 
   -- ---- from the tests of the lists
 
-  pub by-lists : (k : ℕ) → (k ≡ 0 → ⊥) → k ≡ refusal n (columns c) (alone c) → WriteRefusal c k
-  by-lists k f e = go k f (refusal-exactly n (columns c) (alone c) k .0 (sym e))
+  pub by-lists : (k : ℕ) → (k ≡ 0 → ⊥) → k ≡ refusal n (writeColumns c) (alone c) → WriteRefusal c k
+  by-lists k f e = go k f (refusal-exactly n (writeColumns c) (alone c) k .0 (sym e))
     where
-      go : (k : ℕ) → (k ≡ 0 → ⊥) → Given k n (columns c) (alone c) → WriteRefusal c k
+      go : (k : ℕ) → (k ≡ 0 → ⊥) → Given k n (writeColumns c) (alone c) → WriteRefusal c k
       go zero h g = absurd (h refl)
       go (suc zero) h g = inl (g, refl)
       go (suc (suc zero)) h g = inr (g .0, inl (g .1, refl))
       go (suc (suc (suc zero))) h g = inr (g .0, inr (g .1, inl (g .2, refl)))
       go (suc (suc (suc (suc k)))) h g = absurd g
 
-  pub good-lists : 0 ≡ refusal n (columns c) (alone c) → GoodList n (columns c) (alone c)
-  good-lists e = refusal-exactly n (columns c) (alone c) 0 .0 (sym e)
+  pub good-lists : 0 ≡ refusal n (writeColumns c) (alone c) → GoodList n (writeColumns c) (alone c)
+  good-lists e = refusal-exactly n (writeColumns c) (alone c) 0 .0 (sym e)
 
-  pub behind-lists : (k : ℕ) → GoodList n (columns c) (alone c) → PairsTested c k → WriteRefusal c k
+  pub behind-lists : (k : ℕ) → GoodList n (writeColumns c) (alone c) → PairsTested c k → WriteRefusal c k
   behind-lists k g t = inr (g .sized, inr (g .few, inr ((g .within, g .beside), t)))
 
 -- ---- two results are equal

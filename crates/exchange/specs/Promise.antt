@@ -15,8 +15,8 @@ use Rattle.exchange.specs.Calls.{Lent, TextCall, TextAfter}
 use Rattle.exchange.specs.Table.{Answered}
 
 -- the windows in the lists
-abbrev pub windows : Lent → Win
-windows K = win (K .est) (K .lct)
+abbrev pub windowsIn : Lent → Win
+windowsIn K = win (K .est) (K .lct)
 
 -- the precedences that are written there: the first `count` pairs
 abbrev pub ListedIn : Lent → ℕ → ℕ → ℕ → Type 0
@@ -31,18 +31,18 @@ pub record RespectsPairs (K : Lent) (count horizon : ℕ) (s : List ℕ) : Type 
 abbrev pub capacity : TextAfter → ℕ
 capacity a = a .says .numbers ! 0
 
-abbrev pub count : TextAfter → ℕ
-count a = a .says .numbers ! 1
+abbrev pub pairCount : TextAfter → ℕ
+pairCount a = a .says .numbers ! 1
 
 -- the contract of a reader; the answer table itself is in facts, and the other fields tie what was read to the base
 pub record Reads (c : TextCall) (a : TextAfter) : Type 0 where
   pub answered : Answered c a
   -- the lists pass tests 1 to 3 of document 01
-  pub good : a .says .word ≡ Word.read → GoodList (jobs (windows (a .lent))) (fourLists (windows (a .lent)) (a .lent .dur) (a .lent .dem)) (supply (capacity a))
+  pub good : a .says .word ≡ Word.read → GoodList (jobs (windowsIn (a .lent))) (fourLists (windowsIn (a .lent)) (a .lent .dur) (a .lent .dem)) (supply (capacity a))
   -- every window is long enough for its job
-  pub long : a .says .word ≡ Word.read → Long (jobs (windows (a .lent))) (a .lent .dur) (windows (a .lent))
+  pub long : a .says .word ≡ Word.read → Long (jobs (windowsIn (a .lent))) (a .lent .dur) (windowsIn (a .lent))
   -- the pairs that are written are of its jobs, and there is no cycle among them
-  pub ordered : a .says .word ≡ Word.read → Below (length (a .lent .dur)) (ListedIn (a .lent) (count a)) × (Cycle (ListedIn (a .lent) (count a)) → ⊥)
+  pub ordered : a .says .word ≡ Word.read → Below (length (a .lent .dur)) (ListedIn (a .lent) (pairCount a)) × (Cycle (ListedIn (a .lent) (pairCount a)) → ⊥)
   -- all start times that respect the pairs and end by the horizon lie within the windows
-  pub kept : a .says .word ≡ Word.read → (s : List ℕ) → RespectsPairs (a .lent) (count a) (c .horizon) s
-      → Schedule (length (a .lent .dur)) (a .lent .dur) (RespectsPairs (a .lent) (count a) (c .horizon)) (windows (a .lent)) s
+  pub kept : a .says .word ≡ Word.read → (s : List ℕ) → RespectsPairs (a .lent) (pairCount a) (c .horizon) s
+      → Schedule (length (a .lent .dur)) (a .lent .dur) (RespectsPairs (a .lent) (pairCount a) (c .horizon)) (windowsIn (a .lent)) s

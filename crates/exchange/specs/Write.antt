@@ -41,8 +41,8 @@ abbrev pub textOf : WriteCall → List ℕ
 textOf c = projectText (made (c .cap) (c .dur) (c .dem) (pairsIn c))
 
 -- the lists, and the number that stands beside them
-abbrev pub columns : WriteCall → List Column
-columns c = twoLists (c .dur) (c .dem)
+abbrev pub writeColumns : WriteCall → List Column
+writeColumns c = twoLists (c .dur) (c .dem)
 
 abbrev pub alone : WriteCall → List Column
 alone c = supply (c .cap)
@@ -58,9 +58,9 @@ PairsTested c =
 -- the number of the first test that fails, and 0 where none does
 abbrev pub WriteRefusal : WriteCall → ℕ → Type 0
 WriteRefusal c =
-    Unless 1 (Every (Sized (length (c .dur))) (columns c)) (Unequal (length (c .dur)) (columns c))
+    Unless 1 (Every (Sized (length (c .dur))) (writeColumns c)) (Unequal (length (c .dur)) (writeColumns c))
     (Unless 2 (length (c .dur) ≤ mostJobs) (mostJobs < length (c .dur))
-    (Unless 3 (Every Within (columns c) × Every Within (alone c)) (Any Above (columns c ++ alone c))
+    (Unless 3 (Every Within (writeColumns c) × Every Within (alone c)) (Any Above (writeColumns c ++ alone c))
     (PairsTested c)))
 
 -- by the number of the refusal: the bytes in front and how many they are said, those beyond as they were; or that number, and the buffer as it was

@@ -13,18 +13,18 @@ use Rattle.chains.specs.Passes.{Chained, NoneRaises}
 use Rattle.chains.proofs.Chains.{stable-most, stable-longest, stable-after, stable-acyclic, long-cycle, chain-map, chain-starts, chain-inside}
 use Rattle.texts.specs.Tokens.{Token}
 use Rattle.texts.specs.Readings.{Read, good}
-use Rattle.precedence.specs.Rounds.{turned, ChainOver, AtRest, Overrun, ExceedsSays}
+use Rattle.precedence.specs.Rounds.{flipped, ChainOver, AtRest, Overrun, ExceedsSays}
 
-turned-false : (ps : List Pair) → turned false ps ≡ ps
-turned-false [] = refl
-turned-false (x ∷ ps) = ap (λ l. x ∷ l) (turned-false ps)
+flipped-false : (ps : List Pair) → flipped false ps ≡ ps
+flipped-false [] = refl
+flipped-false (x ∷ ps) = ap (λ l. x ∷ l) (flipped-false ps)
 
-pub back-of : (ps : List Pair) (a b : ℕ) → Precedes (turned true ps) a b → Precedes ps b a
+pub back-of : (ps : List Pair) (a b : ℕ) → Precedes (flipped true ps) a b → Precedes ps b a
 back-of [] a b r = r
 back-of (x ∷ ps) a b (inl e) = inl (e .1, e .0)
 back-of (x ∷ ps) a b (inr r) = inr (back-of ps a b r)
 
-pub of-back : (ps : List Pair) (a b : ℕ) → Precedes ps b a → Precedes (turned true ps) a b
+pub of-back : (ps : List Pair) (a b : ℕ) → Precedes ps b a → Precedes (flipped true ps) a b
 of-back [] a b r = r
 of-back (x ∷ ps) a b (inl e) = inl (e .1, e .0)
 of-back (x ∷ ps) a b (inr r) = inr (of-back ps a b r)
@@ -37,13 +37,13 @@ module _ (r : Read (List Pair)) (n : ℕ) (few : n ≤ mostJobs) (ps : List Pair
 
   pub says-33 : Overrun r (replicate mostJobs 1) false n → Cycle (Precedes ps)
   says-33 t =
-      let u : ChainOver ps (replicate mostJobs 1) n = subst (λ (l : List Pair). ChainOver l (replicate mostJobs 1) n) (turned-false ps) (t .long ps end e) in
+      let u : ChainOver ps (replicate mostJobs 1) n = subst (λ (l : List Pair). ChainOver l (replicate mostJobs 1) n) (flipped-false ps) (t .long ps end e) in
       let c : Chain (Precedes ps) (λ i. 1) (u .at) (u .length) = chain-map (Precedes ps) (Precedes ps) (weight (replicate mostJobs 1)) (λ i. 1) (λ a b q. (q, one-each a b q)) (u .chain) in
       long-cycle (Precedes ps) n range (chain-inside (Precedes ps) n (λ i. 1) range (omega (arith, u .over)) c) (omega (arith, u .over)) c
 
   pub no-33 : (v : List ℕ) → AtRest r n (replicate mostJobs 1) false n v → Cycle (Precedes ps) → ⊥
   no-33 v t c =
-      let s : NoneRaises (Precedes ps) (weight (replicate mostJobs 1)) v = subst (λ (l : List Pair). NoneRaises (Precedes l) (weight (replicate mostJobs 1)) v) (turned-false ps) (t .stable ps end e range) in
+      let s : NoneRaises (Precedes ps) (weight (replicate mostJobs 1)) v = subst (λ (l : List Pair). NoneRaises (Precedes l) (weight (replicate mostJobs 1)) v) (flipped-false ps) (t .stable ps end e range) in
       stable-acyclic (Precedes ps) (λ i. 1) v (λ a b q. omega (arith, s a b q, one-each a b q)) (λ i. omega arith) c
 
   -- ---- durations
@@ -51,7 +51,7 @@ module _ (r : Read (List Pair)) (n : ℕ) (few : n ≤ mostJobs) (ps : List Pair
   module _ (p : List ℕ) (h : ℕ) where
     pub head-34 : Overrun r p false h → Longer (Precedes ps) n (weight p) h
     head-34 t =
-        let u : ChainOver ps p h = subst (λ (l : List Pair). ChainOver l p h) (turned-false ps) (t .long ps end e) in
+        let u : ChainOver ps p h = subst (λ (l : List Pair). ChainOver l p h) (flipped-false ps) (t .long ps end e) in
         record {
           last = u .at;
           job = chain-inside (Precedes ps) n (weight p) range (omega (arith, u .over)) (u .chain);
@@ -60,23 +60,23 @@ module _ (r : Read (List Pair)) (n : ℕ) (few : n ≤ mostJobs) (ps : List Pair
           over = omega (arith, u .over);
         }
 
-    backwards : {j L : ℕ} → Chain (Precedes (turned true ps)) (weight p) j L → Chain (Back (Precedes ps)) (weight p) j L
-    backwards c = chain-map (Precedes (turned true ps)) (Back (Precedes ps)) (weight p) (weight p) (λ a b q. (back-of ps a b q, refl)) c
+    backwards : {j L : ℕ} → Chain (Precedes (flipped true ps)) (weight p) j L → Chain (Back (Precedes ps)) (weight p) j L
+    backwards c = chain-map (Precedes (flipped true ps)) (Back (Precedes ps)) (weight p) (weight p) (λ a b q. (back-of ps a b q, refl)) c
 
     pub tail-longest : (tails : List ℕ) → AtRest r n p true h tails → (j : ℕ) → Longest (Back (Precedes ps)) (weight p) j (tails ! j)
     tail-longest tails t j = record {
       one = backwards (t .chains ps end e j);
       most = λ M c.
-          stable-most (Precedes (turned true ps)) (weight p) tails (t .stable ps end e range)
-          (chain-map (Back (Precedes ps)) (Precedes (turned true ps)) (weight p) (weight p) (λ a b d. (of-back ps a b d, refl)) c);
+          stable-most (Precedes (flipped true ps)) (weight p) tails (t .stable ps end e range)
+          (chain-map (Back (Precedes ps)) (Precedes (flipped true ps)) (weight p) (weight p) (λ a b d. (of-back ps a b d, refl)) c);
     }
 
     module _ (heads : List ℕ) (t : AtRest r n p false h heads) where
       stable : NoneRaises (Precedes ps) (weight p) heads
-      stable = subst (λ (l : List Pair). NoneRaises (Precedes l) (weight p) heads) (turned-false ps) (t .stable ps end e range)
+      stable = subst (λ (l : List Pair). NoneRaises (Precedes l) (weight p) heads) (flipped-false ps) (t .stable ps end e range)
 
       pub head-longest : (j : ℕ) → Longest (Precedes ps) (weight p) j (heads ! j)
-      head-longest = stable-longest (Precedes ps) (weight p) heads stable (subst (λ (l : List Pair). Chained (Precedes l) (weight p) heads) (turned-false ps) (t .chains ps end e))
+      head-longest = stable-longest (Precedes ps) (weight p) heads stable (subst (λ (l : List Pair). Chained (Precedes l) (weight p) heads) (flipped-false ps) (t .chains ps end e))
 
       pub over-34 : ExceedsSays heads p n h true → Longer (Precedes ps) n (weight p) h
       over-34 x = record { last = x .0; job = x .1; before = heads ! x .0; chain = head-longest (x .0) .one; over = x .2 }

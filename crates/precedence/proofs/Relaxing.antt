@@ -21,7 +21,7 @@ use Rattle.texts.specs.Tokens.{Token}
 use Rattle.texts.specs.Readings.{Read, good}
 use Rattle.precedence.specs.declared.rounds.Rise.the-variants.{Kept, Rose, High}
 use Rattle.precedence.specs.declared.rounds.Round.the-variants.{Same, Changed, Over}
-use Rattle.precedence.specs.Rounds.{RiseSays, turned, sum, RoundSays}
+use Rattle.precedence.specs.Rounds.{RiseSays, flipped, sum, RoundSays}
 
 -- a value raised raises the sum
 sum-set : (v : List ℕ) (j x : ℕ) → length v ≡ mostJobs → j < mostJobs → v ! j < x → sum v < sum (set v j x)
@@ -30,14 +30,14 @@ sum-set v j x l b h =
     (λ i c. set-any (λ (y : ℕ). v ! i ≤ y) v j x i (λ e. rw e (omega arith)) (omega arith)) b (rw (getD-set-same v j x 0 (omega arith)) h)
 
 module _ (w : ℕ → ℕ) (a b : ℕ) (rest : List Pair) where
-  pass-turned : (back : Bool) (v : List ℕ) → pass w (turned back (pair a b ∷ rest)) v ≡ pass w (turned back rest) (raise w (cond back b a) (cond back a b) v)
+  pass-flipped : (back : Bool) (v : List ℕ) → pass w (flipped back (pair a b ∷ rest)) v ≡ pass w (flipped back rest) (raise w (cond back b a) (cond back a b) v)
   unfolding pass
-  pass-turned true v = refl
-  pass-turned false v = refl
+  pass-flipped true v = refl
+  pass-flipped false v = refl
 
-  first-turned : (back : Bool) → Precedes (turned back (pair a b ∷ rest)) (cond back b a) (cond back a b)
-  first-turned true = inl (refl, refl)
-  first-turned false = inl (refl, refl)
+  first-flipped : (back : Bool) → Precedes (flipped back (pair a b ∷ rest)) (cond back b a) (cond back a b)
+  first-flipped true = inl (refl, refl)
+  first-flipped false = inl (refl, refl)
 
 cond-below : (t : Bool) (a b m : ℕ) → a < m → b < m → cond t a b < m
 cond-below true a b m h k = h
@@ -54,9 +54,9 @@ Ahead now a b later = (ps : List Pair) (end : List Token) → now ≡ good ps en
 pub record Following (p : List ℕ) (back : Bool) (v₀ v : List ℕ) (now : Read (List Pair)) (ps : List Pair) (end : List Token) : Type 0 where
   pub rest : List Pair
   pub ahead : now ≡ good rest end
-  pub same : pass (weight p) (turned back ps) v₀ ≡ pass (weight p) (turned back rest) v
-  pub part : (a b : ℕ) → Precedes (turned back rest) a b → Precedes (turned back ps) a b
-  pub chains : Chained (Precedes (turned back ps)) (weight p) v₀ → Chained (Precedes (turned back ps)) (weight p) v
+  pub same : pass (weight p) (flipped back ps) v₀ ≡ pass (weight p) (flipped back rest) v
+  pub part : (a b : ℕ) → Precedes (flipped back rest) a b → Precedes (flipped back ps) a b
+  pub chains : Chained (Precedes (flipped back ps)) (weight p) v₀ → Chained (Precedes (flipped back ps)) (weight p) v
 
 -- r is the reading of all pairs, `now` that of the pairs still to come
 pub record Relaxing (r now : Read (List Pair)) (p : List ℕ) (back : Bool) (top : ℕ) (v₀ v : List ℕ) (changed : Bool) : Type 0 where
@@ -82,16 +82,16 @@ module _ (r : Read (List Pair)) (p : List ℕ) (back : Bool) (top : ℕ) where
     module _ (a b : ℕ) (later : Read (List Pair)) (t : Ahead now a b later) where
       -- the pair, and those behind it
       taken : (ps : List Pair) (end : List Token) (e : r ≡ good ps end) → (d : List Pair) × (g .follow ps end e .rest ≡ pair a b ∷ d) × (later ≡ good d end)
-          × ((x y : ℕ) → Precedes (turned back (pair a b ∷ d)) x y → Precedes (turned back ps) x y)
+          × ((x y : ℕ) → Precedes (flipped back (pair a b ∷ d)) x y → Precedes (flipped back ps) x y)
       taken ps end e =
           let f = g .follow ps end e in
           let d = t (f .rest) end (f .ahead) in
-          (d .0, d .1, d .2, subst (λ (l : List Pair). (x y : ℕ) → Precedes (turned back l) x y → Precedes (turned back ps) x y) (d .1) (f .part))
+          (d .0, d .1, d .2, subst (λ (l : List Pair). (x y : ℕ) → Precedes (flipped back l) x y → Precedes (flipped back ps) x y) (d .1) (f .part))
 
       module _ (i j : ℕ) (ei : i ≡ cond back b a) (ej : j ≡ cond back a b) where
         -- the pair as the round takes it, from i to j
-        step-in : (ps : List Pair) (end : List Token) → r ≡ good ps end → Precedes (turned back ps) i j
-        step-in ps end e = let d = taken ps end e in rw (ei, ej) (d .3 _ _ (first-turned (weight p) a b (d .0) back))
+        step-in : (ps : List Pair) (end : List Token) → r ≡ good ps end → Precedes (flipped back ps) i j
+        step-in ps end e = let d = taken ps end e in rw (ei, ej) (d .3 _ _ (first-flipped (weight p) a b (d .0) back))
 
         followed : (v' : List ℕ) → v' ≡ raise (weight p) i j v → (ps : List Pair) (end : List Token) → r ≡ good ps end → Following p back v₀ v' later ps end
         followed v' ev ps end e =
@@ -100,9 +100,9 @@ module _ (r : Read (List Pair)) (p : List ℕ) (back : Bool) (top : ℕ) where
             record {
               rest = d .0;
               ahead = d .2;
-              same = f .same ∙ ap (λ (l : List Pair). pass (weight p) (turned back l) v) (d .1) ∙ pass-turned (weight p) a b (d .0) back v ∙ rw (ev, ei, ej);
+              same = f .same ∙ ap (λ (l : List Pair). pass (weight p) (flipped back l) v) (d .1) ∙ pass-flipped (weight p) a b (d .0) back v ∙ rw (ev, ei, ej);
               part = λ x y q. d .3 x y (inr q);
-              chains = λ q. rw ev (raise-chained (weight p) i j v (Precedes (turned back ps)) (step-in ps end e) (f .chains q));
+              chains = λ q. rw ev (raise-chained (weight p) i j v (Precedes (flipped back ps)) (step-in ps end e) (f .chains q));
             }
 
         pub relaxing-kept : (v' : List ℕ) → RiseSays v v' i j (p ! i) top Kept → Relaxing r later p back top v₀ v' changed
@@ -131,9 +131,9 @@ module _ (r : Read (List Pair)) (p : List ℕ) (back : Bool) (top : ℕ) where
         relaxing-over v' h ps end e q = record { at = j; length = v ! i + p ! i; chain = chain-on (step-in ps end e) (g .follow ps end e .chains q i); over = h .1 }
 
     module _ (t : (ps : List Pair) (end : List Token) → now ≡ good ps end → ps ≡ []) where
-      ended : (ps : List Pair) (end : List Token) → r ≡ good ps end → pass (weight p) (turned back ps) v₀ ≡ v
+      ended : (ps : List Pair) (end : List Token) → r ≡ good ps end → pass (weight p) (flipped back ps) v₀ ≡ v
       unfolding pass
-      ended ps end e = let f = g .follow ps end e in f .same ∙ ap (λ (l : List Pair). pass (weight p) (turned back l) v) (t (f .rest) end (f .ahead))
+      ended ps end e = let f = g .follow ps end e in f .same ∙ ap (λ (l : List Pair). pass (weight p) (flipped back l) v) (t (f .rest) end (f .ahead))
 
       pub relaxing-same : changed ≡ false → RoundSays r p back top v₀ v Same
       relaxing-same c = (g .still c, λ ps end e. ended ps end e ∙ g .still c)

@@ -18,25 +18,25 @@ use Rattle.chains.proofs.Passes.{pass-chained, pass-meets}
 use Rattle.texts.specs.Tokens.{Token}
 use Rattle.texts.specs.Readings.{Read, good}
 use Rattle.precedence.specs.declared.rounds.Round.the-variants.{Same, Changed, Over}
-use Rattle.precedence.specs.Rounds.{turned, sum, RoundSays, AtRest, Overrun}
+use Rattle.precedence.specs.Rounds.{flipped, sum, RoundSays, AtRest, Overrun}
 
 sum-under : (f : ℕ → ℕ) (top m : ℕ) → ((j : ℕ) → f j ≤ top) → total f m ≤ m * top
 unfolding total
 sum-under f top zero h = omega arith
 sum-under f top (suc m) h = omega (arith, sum-under f top m h, h m, suc-mul m top)
 
-pub below-turned : (back : Bool) (ps : List Pair) (n : ℕ) → Below n (Precedes ps) → Below n (Precedes (turned back ps))
-below-turned true [] n f a b r = absurd r
-below-turned false [] n f a b r = absurd r
-below-turned true (x ∷ ps) n f a b (inl e) = let q = f b a (inl (e .1, e .0)) in (q .1, q .0)
-below-turned false (x ∷ ps) n f a b (inl e) = f a b (inl e)
-below-turned true (x ∷ ps) n f a b (inr r) = below-turned true ps n (λ c d q. f c d (inr q)) a b r
-below-turned false (x ∷ ps) n f a b (inr r) = below-turned false ps n (λ c d q. f c d (inr q)) a b r
+pub below-flipped : (back : Bool) (ps : List Pair) (n : ℕ) → Below n (Precedes ps) → Below n (Precedes (flipped back ps))
+below-flipped true [] n f a b r = absurd r
+below-flipped false [] n f a b r = absurd r
+below-flipped true (x ∷ ps) n f a b (inl e) = let q = f b a (inl (e .1, e .0)) in (q .1, q .0)
+below-flipped false (x ∷ ps) n f a b (inl e) = f a b (inl e)
+below-flipped true (x ∷ ps) n f a b (inr r) = below-flipped true ps n (λ c d q. f c d (inr q)) a b r
+below-flipped false (x ∷ ps) n f a b (inr r) = below-flipped false ps n (λ c d q. f c d (inr q)) a b r
 
 pub record Settling (r : Read (List Pair)) (p : List ℕ) (back : Bool) (top : ℕ) (v : List ℕ) : Type 0 where
   pub long : length v ≡ mostJobs
   pub low : (j : ℕ) → v ! j ≤ top
-  pub chains : (ps : List Pair) (end : List Token) → r ≡ good ps end → Chained (Precedes (turned back ps)) (weight p) v
+  pub chains : (ps : List Pair) (end : List Token) → r ≡ good ps end → Chained (Precedes (flipped back ps)) (weight p) v
 
 module _ (r : Read (List Pair)) (p : List ℕ) (back : Bool) (top : ℕ) where
   pub settling-start : (v : List ℕ) → v ≡ replicate mostJobs 0 → Settling r p back top v
@@ -53,7 +53,7 @@ module _ (r : Read (List Pair)) (p : List ℕ) (back : Bool) (top : ℕ) where
     settling-again l t = record {
       long = l;
       low = t .1;
-      chains = λ ps end e. rw (t .2 ps end e) (pass-chained (weight p) (Precedes (turned back ps)) (turned back ps) v (λ a b q. q) (g .chains ps end e));
+      chains = λ ps end e. rw (t .2 ps end e) (pass-chained (weight p) (Precedes (flipped back ps)) (flipped back ps) v (λ a b q. q) (g .chains ps end e));
     }
 
     pub settling-less : RoundSays r p back top v v' Changed → mostJobs * top - sum v' < mostJobs * top - sum v
@@ -66,7 +66,7 @@ module _ (r : Read (List Pair)) (p : List ℕ) (back : Bool) (top : ℕ) where
           chains = g .chains;
           stable = λ ps end e q a b d.
               subst (λ (u : List ℕ). v ! a + p ! a ≤ u ! b) (t .1 ps end e)
-              (pass-meets (weight p) (turned back ps) v a b d (rw (g .long) (omega (arith, below-turned back ps n q a b d .1))));
+              (pass-meets (weight p) (flipped back ps) v a b d (rw (g .long) (omega (arith, below-flipped back ps n q a b d .1))));
         })
 
     pub settling-false : RoundSays r p back top v v' Over → Overrun r p back top

@@ -24,12 +24,12 @@ RiseSays v u a b x top Rose = (u ≡ set v b (v ! a + x)) × (v ! b < v ! a + x)
 RiseSays v u a b x top High = (u ≡ v) × (top < v ! a + x)
 
 -- the pairs, or the pairs the other way round
-abbrev pub turn : Bool → Pair → Pair
-turn false p = p
-turn true p = pair (p .successor) (p .job)
+abbrev pub flip : Bool → Pair → Pair
+flip false p = p
+flip true p = pair (p .successor) (p .job)
 
-abbrev pub turned : Bool → List Pair → List Pair
-turned back ps = map (turn back) ps
+abbrev pub flipped : Bool → List Pair → List Pair
+flipped back ps = map (flip back) ps
 
 -- the sum of an array's numbers: it rises with every round that changes something
 abbrev pub sum : List ℕ → ℕ
@@ -44,20 +44,20 @@ pub record ChainOver (ps : List Pair) (p : List ℕ) (top : ℕ) : Type 0 where
 
 -- one round: nothing changed; something did; some chain is longer than top
 abbrev pub RoundSays : Read (List Pair) → List ℕ → Bool → ℕ → List ℕ → List ℕ → Round → Type 0
-RoundSays r p back top v u Same = (u ≡ v) × ((ps : List Pair) (end : List Token) → r ≡ good ps end → pass (weight p) (turned back ps) v ≡ v)
+RoundSays r p back top v u Same = (u ≡ v) × ((ps : List Pair) (end : List Token) → r ≡ good ps end → pass (weight p) (flipped back ps) v ≡ v)
 RoundSays r p back top v u Changed =
-    (sum v < sum u) × ((j : ℕ) → u ! j ≤ top) × ((ps : List Pair) (end : List Token) → r ≡ good ps end → u ≡ pass (weight p) (turned back ps) v)
-RoundSays r p back top v u Over = (ps : List Pair) (end : List Token) → r ≡ good ps end → Chained (Precedes (turned back ps)) (weight p) v → ChainOver (turned back ps) p top
+    (sum v < sum u) × ((j : ℕ) → u ! j ≤ top) × ((ps : List Pair) (end : List Token) → r ≡ good ps end → u ≡ pass (weight p) (flipped back ps) v)
+RoundSays r p back top v u Over = (ps : List Pair) (end : List Token) → r ≡ good ps end → Chained (Precedes (flipped back ps)) (weight p) v → ChainOver (flipped back ps) p top
 
 -- rounds until nothing changes: values that are chains' lengths and that no pair raises
 pub record AtRest (r : Read (List Pair)) (n : ℕ) (p : List ℕ) (back : Bool) (top : ℕ) (v : List ℕ) : Type 0 where
   pub low : (j : ℕ) → v ! j ≤ top
-  pub chains : (ps : List Pair) (end : List Token) → r ≡ good ps end → Chained (Precedes (turned back ps)) (weight p) v
-  pub stable : (ps : List Pair) (end : List Token) → r ≡ good ps end → Below n (Precedes ps) → NoneRaises (Precedes (turned back ps)) (weight p) v
+  pub chains : (ps : List Pair) (end : List Token) → r ≡ good ps end → Chained (Precedes (flipped back ps)) (weight p) v
+  pub stable : (ps : List Pair) (end : List Token) → r ≡ good ps end → Below n (Precedes ps) → NoneRaises (Precedes (flipped back ps)) (weight p) v
 
 -- or until some chain is longer than top
 pub record Overrun (r : Read (List Pair)) (p : List ℕ) (back : Bool) (top : ℕ) : Type 0 where
-  pub long : (ps : List Pair) (end : List Token) → r ≡ good ps end → ChainOver (turned back ps) p top
+  pub long : (ps : List Pair) (end : List Token) → r ≡ good ps end → ChainOver (flipped back ps) p top
 
 -- by the answer: at rest, or overrun
 abbrev pub SettleSays : Read (List Pair) → ℕ → List ℕ → Bool → ℕ → List ℕ → Bool → Type 0
