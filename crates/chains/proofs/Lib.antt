@@ -4,3 +4,4 @@ pub mod Passes
 pub mod Longest
 pub mod Cycles
 pub mod Listed
+pub mod Flipped

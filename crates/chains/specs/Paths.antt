@@ -2,7 +2,8 @@
 -- job's duration.
 use Prim.Native.Nat.{ℕ, _+_, _≤_, _<_}
 use mathlib.Core.Path.{_≡_}
-use mathlib.Core.List.{List, [], _∷_}
+use mathlib.Core.Bool.{Bool, true, false}
+use mathlib.Core.List.{List, [], _∷_, map}
 use mathlib.Core.Logic.{_⊎_}
 use Rattle.lists.specs.Lists.{_!_}
 
@@ -23,6 +24,14 @@ Precedes (x ∷ ps) a b = ((x .job ≡ a) × (x .successor ≡ b)) ⊎ Precedes 
 -- a and b stand at one of the first `count` places of two lists, jobs and successors
 abbrev pub Listed : List ℕ → List ℕ → ℕ → ℕ → ℕ → Type 0
 Listed jobs successors count a b = (i : ℕ) × (i < count) × (jobs ! i ≡ a) × (successors ! i ≡ b)
+
+-- a pair, and pairs, taken as they are or the other way round
+abbrev pub flip : Bool → Pair → Pair
+flip false p = p
+flip true p = pair (p .successor) (p .job)
+
+abbrev pub flipped : Bool → List Pair → List Pair
+flipped back ps = map (flip back) ps
 
 -- R speaks of jobs below n alone
 abbrev pub Below : ℕ → (ℕ → ℕ → Type 0) → Type 0

@@ -14,16 +14,14 @@ use Rattle.lists.specs.Tests.{every}
 use Rattle.lists.proofs.Tests.{every-at}
 use Rattle.answers.specs.Said.{Word, said}
 use Rattle.joblist.specs.Limits.{mostTime}
-use Rattle.chains.specs.Paths.{Pair, Precedes, Below, Cycle, Longest, Longer, Back}
+use Rattle.chains.specs.Paths.{Pair, Precedes, Below, Cycle, Longest, Longer, Back, flipped}
 use Rattle.chains.specs.Passes.{longest, acyclic?}
 use Rattle.chains.proofs.Chains.{chain-map}
 use Rattle.chains.proofs.Longest.{longest-chained, longest-is}
 use Rattle.chains.proofs.Cycles.{judged-acyclic, cycle-back, cycle-map}
 use Rattle.texts.specs.Readings.{Read, good}
 use Rattle.projects.specs.Projects.{Project, pairsOf, durations, demandsOn, WithinLimits}
-use Rattle.precedence.specs.Rounds.{flipped}
-use Rattle.precedence.proofs.Orders.{back-of, of-back}
-use Rattle.precedence.proofs.Settling.{below-flipped}
+use Rattle.chains.proofs.Flipped.{back-of, of-back, below-flipped}
 use Rattle.exchange.specs.Calls.{Lent, TextAfter, Order, durationOf}
 use Rattle.exchange.specs.Tests.{ListsFit, Tested}
 use Rattle.exchange.specs.Promise.{Reads}

@@ -1,4 +1,2 @@
 pub mod Pairs
-pub mod Rounds
 pub mod Chains
-pub mod Listed

@@ -1,10 +1,7 @@
-// The order of a text's jobs: its pairs one by one, cycles, and the longest chains before and after each job (document 02, Item 1). Each round reads
-// the text again. Pairs that are lent as lists have two tests of their own (`listed`).
-mod listed;
+// The order of a text's jobs: its pairs one by one, cycles, and the longest chains before and after each job (document 02, Item 1). Each round
+// reads the text again.
 mod rounds;
 
-pub use listed::has_cycle;
-pub use listed::rising;
 use rounds::exceeds;
 use rounds::settle;
 use rowheads::Table;

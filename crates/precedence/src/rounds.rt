@@ -1,7 +1,10 @@
-// Rounds over pairs until no value changes, here over those of a text (`listed` has those of lent lists). After m rounds every chain of m steps is met, so that there are no more rounds than the
+// Rounds over the pairs of a text until no value changes. After m rounds every chain of m steps is met, so that there are no more rounds than the
 // longest chain has jobs, and one in which nothing changes; where there is a cycle, no more than there are jobs and one.
 use crate::Pull;
 use crate::next_pair;
+use passes::Rise;
+use passes::Round;
+use passes::lift;
 use rowheads::Table;
 use walking::Walk;
 ghost use mathlib.Core.Path.{_≡_};
@@ -11,39 +14,8 @@ ghost use Rattle.lists.specs.Lists.{_!_};
 ghost use mathlib.Core.Bool.{cond};
 ghost use Rattle.joblist.specs.Limits.{mostTime, mostJobs};
 ghost use Rattle.walking.specs.Comes.{comes, rowsAt};
-ghost use Rattle.precedence.specs.Rounds.{RiseSays, RoundSays, SettleSays, ExceedsSays};
-
-// A value stays; it is raised; it would rise above the limit.
-pub enum Rise {
-    Kept,
-    Rose,
-    High,
-}
-
-// A round in which nothing changed; in which something did; which met a chain above the limit.
-pub enum Round {
-    Same,
-    Changed,
-    Over,
-}
-
-// Raises the value at b to the one at a plus x, up to `top`.
-pub fn lift(v: &mut [u32; screen::MOST_JOBS], a: u32, b: u32, x: u32, top: u32) -> Rise
-    requires { ⌜ (a < mostJobs) × (b < mostJobs) × (length (now v) ≡ mostJobs) × (now v ! a ≤ mostTime) × (x ≤ mostTime) ⌝ }
-    ensures { λ r. ⌜ RiseSays (now (v .entry)) (now (v .exit)) a b x top r × (length (now (v .exit)) ≡ mostJobs) ⌝ }
-{
-    let i = a as usize;
-    let j = b as usize;
-    let y = v[i] + x;
-    if y <= v[j] {
-        return Rise::Kept;
-    }
-    if top < y {
-        return Rise::High;
-    }
-    v[j] = y;
-    Rise::Rose
-}
+ghost use Rattle.passes.specs.Rounds.{RoundSays};
+ghost use Rattle.precedence.specs.Chains.{SettleSays, ExceedsSays};
 
 // b where the pairs are taken the other way round, else a.
 fn select(back: bool, a: u32, b: u32) -> u32

@@ -25,10 +25,10 @@ pub fn write_patterson(
         return WriteAnswer::Refused(1);
     }
     let n = dur.len() as u32;
-    if !precedence::rising(jobs, successors, n) {
+    if !listed::rising(jobs, successors, n) {
         return WriteAnswer::Refused(32);
     }
-    if precedence::has_cycle(jobs, successors, n) {
+    if listed::has_cycle(jobs, successors, n) {
         return WriteAnswer::Refused(33);
     }
     match scribe::write(cap, dur, dem, jobs, successors, buffer) {

@@ -7,7 +7,8 @@ use borrow.Author.Needs.{needs}
 use borrow.Author.Tests.{not-true, not-false}
 use Rattle.joblist.specs.Limits.{mostJobs}
 use Rattle.lists.proofs.Lists.{replicate-low}
-use Rattle.precedence.proofs.Orders.{says-33, no-33, head-34, tail-34, head-longest, over-34, no-34, tail-longest}
+use Rattle.passes.proofs.Steps.{says-33, no-33}
+use Rattle.precedence.proofs.Orders.{head-34, tail-34, head-longest, over-34, no-34, tail-longest}
 use Rattle.precedence.proofs.longest_chains.Statement.{statement}
 use Rattle.precedence.proofs.longest_chains.Tie as tie
 
@@ -30,7 +31,7 @@ returns-2 c =
     let s = c .before .before .before .before .before .before .before .before .pre .0 in
     let t = rw (not-false (c .before .before .before .before .settle .result) (c .before .before .before .if1 .left)) at (c .before .before .before .before .settle .ensures .0) in
     let u = rw (not-true (c .before .settle2 .result) (c .if2 .taken)) at (c .before .settle2 .ensures .0) in (
-      (λ ps end e range. inr (refl, no-33 _ _ (s .0) ps end e range _ t, head-34 _ _ (s .0) ps end e range _ _ u)),
+      (λ ps end e range. inr (refl, no-33 _ _ (s .0) ps end e range _ t, head-34 _ _ ps end e range _ _ u)),
       c .before .settle2 .ensures .1,
       ap length (s .3),
     )
@@ -44,7 +45,7 @@ returns-3 c =
     let t = rw (not-false (c .before .before .before .before .before .before .before .settle .result) (c .before .before .before .before .before .before .if1 .left)) at (c .before .before .before .before .before .before .before .settle .ensures .0) in
     let u = rw (not-false (c .before .before .before .before .settle2 .result) (c .before .before .before .if2 .left)) at (c .before .before .before .before .settle2 .ensures .0) in
     let v = rw (not-true (c .before .settle3 .result) (c .if3 .taken)) at (c .before .settle3 .ensures .0) in (
-      (λ ps end e range. inr (refl, no-33 _ _ (s .0) ps end e range _ t, tail-34 _ _ (s .0) ps end e range _ _ _ u v)),
+      (λ ps end e range. inr (refl, no-33 _ _ (s .0) ps end e range _ t, tail-34 _ _ ps end e range _ _ _ u v)),
       c .before .before .before .before .settle2 .ensures .1,
       c .before .settle3 .ensures .1,
     )
@@ -61,7 +62,7 @@ returns-4 c =
     let t = rw (not-false (c .before .before .before .before .before .before .before .before .before .before .settle .result) (c .before .before .before .before .before .before .before .before .before .if1 .left)) at (c .before .before .before .before .before .before .before .before .before .before .settle .ensures .0) in
     let u = rw (not-false (c .before .before .before .before .before .before .before .settle2 .result) (c .before .before .before .before .before .before .if2 .left)) at (c .before .before .before .before .before .before .before .settle2 .ensures .0) in
     let x = rw (c .if4 .taken) at (c .before .exceeds .ensures) in (
-      (λ ps end e range. inr (refl, no-33 _ _ (s .0) ps end e range _ t, over-34 _ _ (s .0) ps end e range _ _ _ u x)),
+      (λ ps end e range. inr (refl, no-33 _ _ (s .0) ps end e range _ t, over-34 _ _ ps end e range _ _ _ u x)),
       c .before .before .before .before .before .before .before .settle2 .ensures .1,
       c .before .before .before .before .settle3 .ensures .1,
     )
@@ -75,9 +76,9 @@ returns-5 c =
     let x = rw (c .if4 .left) at (c .before .exceeds .ensures) in (
       (λ ps end e range. record {
         acyclic = no-33 _ _ (s .0) ps end e range _ t;
-        short = no-34 _ _ (s .0) ps end e range _ _ _ u x;
-        before = head-longest _ _ (s .0) ps end e range _ _ _ u;
-        after = tail-longest _ _ (s .0) ps end e range _ _ _ v;
+        short = no-34 _ _ ps end e range _ _ _ u x;
+        before = head-longest _ _ ps end e range _ _ _ u;
+        after = tail-longest _ _ ps end e range _ _ _ v;
         low = λ j. (u .low j, v .low j);
       }),
       c .before .before .before .before .before .before .before .settle2 .ensures .1,

@@ -9,7 +9,7 @@ use Rattle.walking.specs.Walk.{Fit}
 use Rattle.walking.specs.Comes.{comes, rowsAt}
 use Rattle.precedence.specs.Pairs.{PullSays}
 use Rattle.precedence.specs.declared.Pull.the-variants.{Next}
-use Rattle.precedence.proofs.Relaxing.{Relaxing, relaxing-start, relaxing-kept, relaxing-rose, relaxing-over, relaxing-same, relaxing-changed, both-below}
+use Rattle.passes.proofs.Relaxing.{Relaxing, relaxing-start, relaxing-kept, relaxing-rose, relaxing-over, relaxing-same, relaxing-changed, both-below}
 use Rattle.precedence.proofs.rounds.relax.Statement.{statement}
 use Rattle.precedence.proofs.rounds.relax.Tie as tie
 

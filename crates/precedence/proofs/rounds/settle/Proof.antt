@@ -2,9 +2,9 @@
 use Prim.Native.Nat.{_-_, _*_}
 use borrow.Author.Needs.{needs}
 use Rattle.walking.specs.Comes.{comes, rowsAt}
-use Rattle.precedence.specs.Rounds.{sum}
+use Rattle.passes.specs.Rounds.{sum}
 use Rattle.joblist.specs.Limits.{mostJobs}
-use Rattle.precedence.proofs.Settling.{Settling, settling-start, settling-again, settling-less, settling-true, settling-false}
+use Rattle.passes.proofs.Settling.{Settling, settling-start, settling-again, settling-less, settling-true, settling-false}
 use Rattle.precedence.proofs.rounds.settle.Statement.{statement}
 use Rattle.precedence.proofs.rounds.settle.Tie as tie
 

@@ -1,7 +1,7 @@
--- `precedence::rounds::lift` meets its contract, branch by branch.
+-- `passes::lift` meets its contract, branch by branch.
 use borrow.Author.Needs.{needs}
-use Rattle.precedence.proofs.rounds.lift.Statement.{statement}
-use Rattle.precedence.proofs.rounds.lift.Tie as tie
+use Rattle.passes.proofs.lift.Statement.{statement}
+use Rattle.passes.proofs.lift.Tie as tie
 
 mul-y : tie.Need-mul-y
 mul-y c = search needs

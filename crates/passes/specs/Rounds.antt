@@ -2,34 +2,26 @@
 -- value to its job's value plus duration, up to a limit. With `back` the pairs are taken the other way round, for chains after a job.
 use Prim.Native.Nat.{ℕ, _+_, _≤_, _<_}
 use mathlib.Core.Path.{_≡_}
-use mathlib.Core.Bool.{Bool, true, false}
-use mathlib.Core.List.{List, map}
+use mathlib.Core.Bool.{Bool}
+use mathlib.Core.List.{List}
 use lib.ListN.{set}
 use Rattle.lists.specs.Lists.{_!_}
 use Rattle.lists.specs.Sums as sums
 use Rattle.joblist.specs.Limits.{mostJobs}
-use Rattle.chains.specs.Paths.{Pair, pair, Precedes, Below, weight, Chain}
+use Rattle.chains.specs.Paths.{Pair, Precedes, flipped, Below, weight, Chain}
 use Rattle.chains.specs.Passes.{Chained, NoneRaises, pass}
 use Rattle.texts.specs.Tokens.{Token}
 use Rattle.texts.specs.Readings.{Read, good}
-use Rattle.precedence.specs.declared.rounds.Rise.{Rise}
-use Rattle.precedence.specs.declared.rounds.Rise.the-variants.{Kept, Rose, High}
-use Rattle.precedence.specs.declared.rounds.Round.{Round}
-use Rattle.precedence.specs.declared.rounds.Round.the-variants.{Same, Changed, Over}
+use Rattle.passes.specs.declared.Rise.{Rise}
+use Rattle.passes.specs.declared.Rise.the-variants.{Kept, Rose, High}
+use Rattle.passes.specs.declared.Round.{Round}
+use Rattle.passes.specs.declared.Round.the-variants.{Same, Changed, Over}
 
 -- b's value in v raised to a's plus x, unless that is above `top`
 abbrev pub RiseSays : List ℕ → List ℕ → ℕ → ℕ → ℕ → ℕ → Rise → Type 0
 RiseSays v u a b x top Kept = (u ≡ v) × (v ! a + x ≤ v ! b)
 RiseSays v u a b x top Rose = (u ≡ set v b (v ! a + x)) × (v ! b < v ! a + x) × (v ! a + x ≤ top)
 RiseSays v u a b x top High = (u ≡ v) × (top < v ! a + x)
-
--- the pairs, or the pairs the other way round
-abbrev pub flip : Bool → Pair → Pair
-flip false p = p
-flip true p = pair (p .successor) (p .job)
-
-abbrev pub flipped : Bool → List Pair → List Pair
-flipped back ps = map (flip back) ps
 
 -- the sum of an array's numbers: it rises with every round that changes something
 abbrev pub sum : List ℕ → ℕ
@@ -58,13 +50,3 @@ pub record AtRest (r : Read (List Pair)) (n : ℕ) (p : List ℕ) (back : Bool) 
 -- or until some chain is longer than top
 pub record Overrun (r : Read (List Pair)) (p : List ℕ) (back : Bool) (top : ℕ) : Type 0 where
   pub long : (ps : List Pair) (end : List Token) → r ≡ good ps end → ChainOver (flipped back ps) p top
-
--- by the answer: at rest, or overrun
-abbrev pub SettleSays : Read (List Pair) → ℕ → List ℕ → Bool → ℕ → List ℕ → Bool → Type 0
-SettleSays r n p back top v true = AtRest r n p back top v
-SettleSays r n p back top v false = Overrun r p back top
-
--- whether a value plus its job's duration is above h
-abbrev pub ExceedsSays : List ℕ → List ℕ → ℕ → ℕ → Bool → Type 0
-ExceedsSays v p n h true = (j : ℕ) × (j < n) × (h < v ! j + p ! j)
-ExceedsSays v p n h false = (j : ℕ) → j < n → v ! j + p ! j ≤ h

@@ -1,4 +1,4 @@
--- `precedence::listed::has_cycle` meets its contract: the values are numbers of steps up to n, and their sum rises with each round.
+-- `listed::has_cycle` meets its contract: the values are numbers of steps up to n, and their sum rises with each round.
 use Prim.Native.Nat.{_-_, _*_}
 use borrow.Author.Needs.{needs}
 use mathlib.Core.Path.{refl}
@@ -6,15 +6,15 @@ use mathlib.Core.Bool.{false}
 use lib.ListN.{replicate}
 use Rattle.joblist.specs.Limits.{mostJobs}
 use Rattle.chains.proofs.Listed.{paired-below}
-use Rattle.precedence.specs.Rounds.{sum}
-use Rattle.precedence.proofs.Settling.{Settling, settling-start, settling-again, settling-less, settling-true, settling-false}
-use Rattle.precedence.proofs.Places.{lent}
-use Rattle.precedence.proofs.Orders.{says-33, no-33}
-use Rattle.precedence.proofs.listed.has_cycle.Statement.{statement}
-use Rattle.precedence.proofs.listed.has_cycle.Tie as tie
+use Rattle.passes.specs.Rounds.{sum}
+use Rattle.passes.proofs.Settling.{Settling, settling-start, settling-again, settling-less, settling-true, settling-false}
+use Rattle.listed.proofs.Places.{readFrom}
+use Rattle.passes.proofs.Steps.{says-33, no-33}
+use Rattle.listed.proofs.has_cycle.Statement.{statement}
+use Rattle.listed.proofs.has_cycle.Tie as tie
 
 abbrev Inv-loop : tie.InvT-loop
-Inv-loop jobs successors n levels₀ levels = Settling (lent jobs successors 0) (replicate mostJobs 1) false n levels
+Inv-loop jobs successors n levels₀ levels = Settling (readFrom jobs successors 0) (replicate mostJobs 1) false n levels
 
 abbrev μ-loop : tie.MeasureT-loop
 μ-loop jobs successors n levels₀ levels = mostJobs * n - sum levels

@@ -1,10 +1,10 @@
--- `precedence::listed::placed` meets its contract, branch by branch.
+-- `listed::placed` meets its contract, branch by branch.
 use native.Mathlib.Omega.{arith}
 use mathlib.Core.Logic.{inl, inr}
-use Rattle.precedence.proofs.Places.{comes-before, not-before}
+use Rattle.listed.proofs.Places.{comes-before, not-before}
 use borrow.Author.Needs.{needs}
-use Rattle.precedence.proofs.listed.placed.Statement.{statement}
-use Rattle.precedence.proofs.listed.placed.Tie as tie
+use Rattle.listed.proofs.placed.Statement.{statement}
+use Rattle.listed.proofs.placed.Tie as tie
 
 mul-a : tie.Need-mul-a
 mul-a c = search needs

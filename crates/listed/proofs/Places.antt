@@ -14,20 +14,20 @@ use Rattle.chains.specs.Listed.{paired, PairInRange, NotRising}
 use Rattle.chains.proofs.Listed.{paired-next, paired-end}
 use Rattle.texts.specs.Tokens.{Token}
 use Rattle.texts.specs.Readings.{Read, good}
-use Rattle.precedence.specs.declared.rounds.Rise.{Rise}
-use Rattle.precedence.specs.declared.rounds.Rise.the-variants.{Kept, Rose, High}
-use Rattle.precedence.specs.declared.rounds.Round.the-variants.{Over}
-use Rattle.precedence.specs.Rounds.{RiseSays, RoundSays}
-use Rattle.precedence.specs.Listed.{PlacedSays}
-use Rattle.precedence.proofs.Relaxing.{Ahead, Relaxing, relaxing-kept, relaxing-rose, relaxing-over}
+use Rattle.passes.specs.declared.Rise.{Rise}
+use Rattle.passes.specs.declared.Rise.the-variants.{Kept, Rose, High}
+use Rattle.passes.specs.declared.Round.the-variants.{Over}
+use Rattle.passes.specs.Rounds.{RiseSays, RoundSays}
+use Rattle.listed.specs.Listed.{PlacedSays}
+use Rattle.passes.proofs.Relaxing.{Ahead, Relaxing, relaxing-kept, relaxing-rose, relaxing-over}
 
 -- the reading of the pairs from place i on
-abbrev pub lent : List ℕ → List ℕ → ℕ → Read (List Pair)
-lent js ss i = good (drop i (paired js ss)) []
+abbrev pub readFrom : List ℕ → List ℕ → ℕ → Read (List Pair)
+readFrom js ss i = good (drop i (paired js ss)) []
 
 -- a round over the pairs that has come to place i; a step counts 1
 abbrev pub Counting : List ℕ → List ℕ → ℕ → ℕ → List ℕ → List ℕ → Bool → Type 0
-Counting js ss n i v₀ v changed = Relaxing (lent js ss 0) (lent js ss i) (replicate mostJobs 1) false n v₀ v changed
+Counting js ss n i v₀ v changed = Relaxing (readFrom js ss 0) (readFrom js ss i) (replicate mostJobs 1) false n v₀ v changed
 
 by-one : (v v' : List ℕ) (a b top : ℕ) (r : Rise) → a < mostJobs → RiseSays v v' a b 1 top r → RiseSays v v' a b (replicate mostJobs 1 ! a) top r
 by-one v v' a b top r h = subst (λ (x : ℕ). RiseSays v v' a b x top r) (sym (getD-replicate mostJobs a 1 0 h))
@@ -41,7 +41,7 @@ read-end xs ps end e = cc
 
 module _ (js ss : List ℕ) (l : length ss ≡ length js) (i : ℕ) where
   -- from place i on the pair there comes first
-  from-place : i < length js → Ahead (lent js ss i) (js ! i) (ss ! i) (lent js ss (i + 1))
+  from-place : i < length js → Ahead (readFrom js ss i) (js ! i) (ss ! i) (readFrom js ss (i + 1))
   from-place h ps end e = (
     drop (i + 1) (paired js ss),
     rw (add-one i) (sym (read-pairs (drop i (paired js ss)) ps end e) ∙ paired-next js ss l i h),
@@ -49,7 +49,7 @@ module _ (js ss : List ℕ) (l : length ss ≡ length js) (i : ℕ) where
   )
 
   -- from the end on there is none
-  pub from-end : length js ≤ i → (ps : List Pair) (end : List Token) → lent js ss i ≡ good ps end → ps ≡ []
+  pub from-end : length js ≤ i → (ps : List Pair) (end : List Token) → readFrom js ss i ≡ good ps end → ps ≡ []
   from-end h ps end e = sym (read-pairs (drop i (paired js ss)) ps end e) ∙ paired-end js ss l i h
 
 -- the round goes on with the pair at place i: nothing rises, a value does, or one would rise above n
@@ -61,7 +61,7 @@ module _ (js ss : List ℕ) (l : length ss ≡ length js) (n : ℕ) (few : n ≤
     pub place-rose : RiseSays v v' (js ! i) (ss ! i) 1 n Rose → Counting js ss n (i + 1) v₀ v' true
     place-rose t = relaxing-rose _ _ _ _ _ _ _ _ g _ _ _ (from-place js ss l i h) (js ! i) (ss ! i) refl refl v' (omega (arith, f .1)) (by-one v v' (js ! i) (ss ! i) n Rose (omega (arith, f .0)) t)
 
-    pub place-over : RiseSays v v' (js ! i) (ss ! i) 1 n High → RoundSays (lent js ss 0) (replicate mostJobs 1) false n v₀ v' Over
+    pub place-over : RiseSays v v' (js ! i) (ss ! i) 1 n High → RoundSays (readFrom js ss 0) (replicate mostJobs 1) false n v₀ v' Over
     place-over t = relaxing-over _ _ _ _ _ _ _ _ g _ _ _ (from-place js ss l i h) (js ! i) (ss ! i) refl refl v' (by-one v v' (js ! i) (ss ! i) n High (omega (arith, f .0)) t)
 
 -- the pair at place i beside the next one

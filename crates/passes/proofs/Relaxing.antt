@@ -13,15 +13,15 @@ use Rattle.lists.proofs.Lists.{set-any}
 use Rattle.lists.proofs.Differences.{total-less}
 use Rattle.lists.proofs.Sets.{clash}
 use Rattle.joblist.specs.Limits.{mostJobs}
-use Rattle.chains.specs.Paths.{Pair, pair, Precedes, weight}
+use Rattle.chains.specs.Paths.{Pair, pair, Precedes, flipped, weight}
 use Rattle.chains.specs.Passes.{Chained, raise, pass}
 use Rattle.chains.proofs.Chains.{chain-on}
 use Rattle.chains.proofs.Passes.{raise-kept, raise-rose, raise-chained}
 use Rattle.texts.specs.Tokens.{Token}
 use Rattle.texts.specs.Readings.{Read, good}
-use Rattle.precedence.specs.declared.rounds.Rise.the-variants.{Kept, Rose, High}
-use Rattle.precedence.specs.declared.rounds.Round.the-variants.{Same, Changed, Over}
-use Rattle.precedence.specs.Rounds.{RiseSays, flipped, sum, RoundSays}
+use Rattle.passes.specs.declared.Rise.the-variants.{Kept, Rose, High}
+use Rattle.passes.specs.declared.Round.the-variants.{Same, Changed, Over}
+use Rattle.passes.specs.Rounds.{RiseSays, sum, RoundSays}
 
 -- a value raised raises the sum
 sum-set : (v : List ℕ) (j x : ℕ) → length v ≡ mostJobs → j < mostJobs → v ! j < x → sum v < sum (set v j x)

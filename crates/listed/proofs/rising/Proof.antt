@@ -1,4 +1,4 @@
--- `precedence::listed::rising` meets its contract. Invariant: each pair passed is of the n jobs and comes before the next, where there is one. The measure is what is
+-- `listed::rising` meets its contract. Invariant: each pair passed is of the n jobs and comes before the next, where there is one. The measure is what is
 -- left of the pairs.
 use Prim.Native.Nat.{ℕ, suc, _<_, _-_}
 use native.Mathlib.Omega.{arith}
@@ -7,9 +7,9 @@ use borrow.Author.Count.{below-more}
 use borrow.Author.Tests.{not-true, not-false}
 use lib.ListN.{length}
 use Rattle.chains.specs.Listed.{PairInRange, InOrder}
-use Rattle.precedence.proofs.Places.{fault-at}
-use Rattle.precedence.proofs.listed.rising.Statement.{statement}
-use Rattle.precedence.proofs.listed.rising.Tie as tie
+use Rattle.listed.proofs.Places.{fault-at}
+use Rattle.listed.proofs.rising.Statement.{statement}
+use Rattle.listed.proofs.rising.Tie as tie
 
 abbrev Inv-loop : tie.InvT-loop
 Inv-loop jobs successors n at₀ at = (k : ℕ) → k < at → PairInRange n jobs successors k × (suc k < length jobs → InOrder jobs successors k)

@@ -3,35 +3,27 @@ use Prim.Native.Nat.{ℕ, zero, suc, _+_, _-_, _*_, _≤_, _<_}
 use native.Mathlib.Omega.{arith}
 use native.Mathlib.Nat.{suc-mul}
 use mathlib.Core.Path.{_≡_, ap, _∙_, subst}
-use mathlib.Core.Bool.{Bool, true, false}
-use mathlib.Core.List.{List, [], _∷_}
-use mathlib.Core.Logic.{inl, inr}
+use mathlib.Core.Bool.{Bool}
+use mathlib.Core.List.{List}
 use lib.ListN.{length, replicate, length-replicate}
 use Rattle.lists.specs.Lists.{_!_}
 use Rattle.lists.proofs.Lists.{zeros-at}
 use Rattle.lists.specs.Sums.{total}
 use Rattle.joblist.specs.Limits.{mostJobs}
-use Rattle.chains.specs.Paths.{Pair, Precedes, Below, weight}
+use Rattle.chains.specs.Paths.{Pair, Precedes, flipped, weight}
 use Rattle.chains.specs.Passes.{Chained}
 use Rattle.chains.proofs.Chains.{chain-none}
+use Rattle.chains.proofs.Flipped.{below-flipped}
 use Rattle.chains.proofs.Passes.{pass-chained, pass-meets}
 use Rattle.texts.specs.Tokens.{Token}
 use Rattle.texts.specs.Readings.{Read, good}
-use Rattle.precedence.specs.declared.rounds.Round.the-variants.{Same, Changed, Over}
-use Rattle.precedence.specs.Rounds.{flipped, sum, RoundSays, AtRest, Overrun}
+use Rattle.passes.specs.declared.Round.the-variants.{Same, Changed, Over}
+use Rattle.passes.specs.Rounds.{sum, RoundSays, AtRest, Overrun}
 
 sum-under : (f : ℕ → ℕ) (top m : ℕ) → ((j : ℕ) → f j ≤ top) → total f m ≤ m * top
 unfolding total
 sum-under f top zero h = omega arith
 sum-under f top (suc m) h = omega (arith, sum-under f top m h, h m, suc-mul m top)
-
-pub below-flipped : (back : Bool) (ps : List Pair) (n : ℕ) → Below n (Precedes ps) → Below n (Precedes (flipped back ps))
-below-flipped true [] n f a b r = absurd r
-below-flipped false [] n f a b r = absurd r
-below-flipped true (x ∷ ps) n f a b (inl e) = let q = f b a (inl (e .1, e .0)) in (q .1, q .0)
-below-flipped false (x ∷ ps) n f a b (inl e) = f a b (inl e)
-below-flipped true (x ∷ ps) n f a b (inr r) = below-flipped true ps n (λ c d q. f c d (inr q)) a b r
-below-flipped false (x ∷ ps) n f a b (inr r) = below-flipped false ps n (λ c d q. f c d (inr q)) a b r
 
 pub record Settling (r : Read (List Pair)) (p : List ℕ) (back : Bool) (top : ℕ) (v : List ℕ) : Type 0 where
   pub long : length v ≡ mostJobs

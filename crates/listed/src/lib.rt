@@ -1,8 +1,8 @@
 // Pairs that are lent as two lists, jobs and successors (document 02, Item 13): whether they are of the jobs and in strictly rising order, and whether
 // there is a cycle along them.
-use crate::rounds::Rise;
-use crate::rounds::Round;
-use crate::rounds::lift;
+use passes::Rise;
+use passes::Round;
+use passes::lift;
 ghost use mathlib.Core.Path.{_≡_};
 ghost use mathlib.Core.Bool.{false};
 ghost use mathlib.Core.List.{[]};
@@ -12,8 +12,8 @@ ghost use Rattle.lists.specs.Lists.{_!_};
 ghost use Rattle.joblist.specs.Limits.{mostJobs};
 ghost use Rattle.chains.specs.Listed.{paired, PairInRange};
 ghost use Rattle.texts.specs.Readings.{good};
-ghost use Rattle.precedence.specs.Rounds.{RoundSays};
-ghost use Rattle.precedence.specs.Listed.{PlacedSays, RisingSays, CycleSays};
+ghost use Rattle.passes.specs.Rounds.{RoundSays};
+ghost use Rattle.listed.specs.Listed.{PlacedSays, RisingSays, CycleSays};
 
 // Whether the pair at place i is of the n jobs and comes before the next, where there is one.
 fn placed(jobs: &[u32], successors: &[u32], n: u32, i: usize) -> bool

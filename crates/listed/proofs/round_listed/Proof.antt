@@ -1,14 +1,14 @@
--- `precedence::listed::round_listed` meets its contract: the pairs passed have made the values of the first ones, and the pairs from place i on make of them what all
+-- `listed::round_listed` meets its contract: the pairs passed have made the values of the first ones, and the pairs from place i on make of them what all
 -- pairs make. The measure is what is left of the pairs.
 use Prim.Native.Nat.{_<_, _-_}
 use native.Mathlib.Omega.{arith}
 use borrow.Author.Needs.{needs}
 use lib.ListN.{length}
 use Rattle.lists.specs.Lists.{_!_}
-use Rattle.precedence.proofs.Relaxing.{relaxing-start, relaxing-same, relaxing-changed}
-use Rattle.precedence.proofs.Places.{Counting, place-kept, place-rose, place-over, from-end}
-use Rattle.precedence.proofs.listed.round_listed.Statement.{statement}
-use Rattle.precedence.proofs.listed.round_listed.Tie as tie
+use Rattle.passes.proofs.Relaxing.{relaxing-start, relaxing-same, relaxing-changed}
+use Rattle.listed.proofs.Places.{Counting, place-kept, place-rose, place-over, from-end}
+use Rattle.listed.proofs.round_listed.Statement.{statement}
+use Rattle.listed.proofs.round_listed.Tie as tie
 
 abbrev Inv-loop : tie.InvT-loop
 Inv-loop jobs successors n v₀ changed₀ i₀ v changed i = Counting jobs successors n i v₀ v changed

@@ -1,0 +1,3 @@
+pub mod Relaxing
+pub mod Settling
+pub mod Steps
