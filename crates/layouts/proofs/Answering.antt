@@ -1,34 +1,33 @@
--- From what the parts say to the answer table, for a text of any layout.
+-- From what was decided, and what the lists were filled from, to the contract, for a text of any layout.
 use Prim.Native.Nat.{ℕ, zero, suc, _≤_, _<_}
 use native.Mathlib.Omega.{arith}
-use mathlib.Core.Path.{_≡_, refl, sym, ap, _∙_}
+use mathlib.Core.Path.{_≡_, refl, sym, ap, _∙_, subst}
 use mathlib.Core.List.{List, [], _∷_}
-use mathlib.Core.Logic.{inl, inr}
 use lib.ListN.{length, take}
 use lib.Seq.{getD-take, length-take-le}
 use Rattle.lists.specs.Lists.{_!_}
 use Rattle.answers.specs.Said.{Word, said}
-use Rattle.joblist.specs.Limits.{mostTime, mostJobs}
-use Rattle.chains.specs.Paths.{Pair, Below, Longest, Longer, Back, weight}
+use Rattle.answers.proofs.Same.{not-said}
+use Rattle.joblist.specs.Limits.{mostJobs}
+use Rattle.chains.specs.Paths.{Longest, Back, weight}
 use Rattle.chains.proofs.Chains.{chain-map}
-use Rattle.texts.specs.Readings.{Read, good}
-use Rattle.projects.specs.Projects.{Project, pairsOf}
+use Rattle.texts.proofs.Readings.{good-same}
+use Rattle.projects.specs.Projects.{Project, pairsOf, WithinLimits}
 use Rattle.walking.specs.Comes.{comes, rowsAt}
-use Rattle.parsing.specs.Parsed.{Parsing}
 use Rattle.parsing.specs.declared.Shape.{Shape}
-use Rattle.parsing.proofs.Parsing.{parsing-range, parsing-few}
-use Rattle.precedence.specs.Chains.{OrderSays}
-use Rattle.exchange.specs.Calls.{Lent, Order, durationOf}
-use Rattle.exchange.specs.Tests.{Fitting, Misfit, ListsFit, Unfit}
-use Rattle.exchange.specs.Table.{Answered}
-use Rattle.lent.specs.Parts.{Lessened, Wrote}
-use Rattle.exchange.proofs.Tests.{none-tested, refusal-of}
-use Rattle.exchange.proofs.Asked.{asked, refused, answer}
-
--- where neither 33 nor 34 is given, no chain after a job is longer than the horizon
-pub tails-low : (ps : List Pair) (n : ℕ) (p : List ℕ) (h : ℕ) (heads tails : List ℕ) (c : ℕ) → c ≡ 0 → OrderSays ps n p h heads tails c → (j : ℕ) → tails ! j ≤ h
-tails-low ps n p h heads tails zero e o j = o .low j .1
-tails-low ps n p h heads tails (suc c) e o j = absurd (omega arith)
+use Rattle.parsing.specs.declared.Parsed.{Parsed}
+use Rattle.parsing.proofs.Parsing.{parsing-few}
+use Rattle.exchange.specs.Calls.{Lent, TextCall, TextAfter, Order, durationOf}
+use Rattle.exchange.specs.Tests.{Fitting, ListsFit, Refusal}
+use Rattle.exchange.specs.Table.{Filled}
+use Rattle.exchange.specs.Promise.{Reads}
+use Rattle.exchange.proofs.Tests.{refusal-none}
+use Rattle.exchange.proofs.Asked.{refused}
+use Rattle.exchange.proofs.Meaning.{reads-of}
+use Rattle.lent.specs.declared.Draft.{Draft}
+use Rattle.lent.specs.Parts.{Drafted, FilledFrom, Roomy, Wrote}
+use Rattle.deciding.specs.Decided.{Accepted, DecidedSays}
+use Rattle.deciding.proofs.Deciding.{range, duration-at}
 
 longest-weights : (R : ℕ → ℕ → Type 0) (w u : ℕ → ℕ) → ((a b : ℕ) → R a b → w a ≡ u a) → {j L : ℕ} → Longest R w j L → Longest R u j L
 longest-weights R w u f l = record {
@@ -36,96 +35,79 @@ longest-weights R w u f l = record {
   most = λ M c. l .most M (chain-map R R u w (λ a b r. (r, sym (f a b r))) c);
 }
 
-module _ (t : Read Project) (res h : ℕ) (L : Lent) (near : h ≤ mostTime) (s durs dems : List ℕ) (z : Shape) (x : Project) (e : t ≡ good x []) (p : Parsing s res durs dems z x) where
-  pub no-resource : z .k ≤ res → Answered (asked t res h L) (refused L 37)
-  no-resource b = answer t res h L 36 (refusal-of (asked t res h L) x [] e 37 near (inl (omega (arith, p .resources), refl)))
+-- by what was decided
+pub accepted-of : (c : TextCall) (s : List ℕ) (d : Draft) (g : Parsed) (z : Shape) → g ≡ Parsed.Read z → DecidedSays c s d g → Accepted c s d z
+accepted-of c s d g z e says = rw e at says
 
-  range : Below (z .n) (Order x)
-  range = parsing-range s res durs dems z x p
+-- a text that is refused: every lent word as it was
+pub refused-reads : (c : TextCall) (k : ℕ) → Refusal c k × (k ≡ 0 → ⊥) → Reads c (refused (c .lent) k)
+refused-reads c zero q = absurd (q .1 refl)
+refused-reads c (suc k) q =
+    let unread : Word.refused ≡ Word.read → ⊥ = not-said Word.refused Word.read (λ z. omega arith) in
+    record {
+      answered = record { number = suc k; refusal = q .0; leaves = refl };
+      good = λ e. absurd (unread e);
+      long = λ e. absurd (unread e);
+      ordered = λ e. absurd (unread e);
+      kept = λ e. absurd (unread e);
+    }
 
-  duration-at : (j : ℕ) → j < z .n → durs ! j ≡ durationOf x j
-  duration-at j b = sym (getD-take (z .n) durs j 0 b) ∙ ap (λ (l : List ℕ). l ! j) (sym (p .durs-are))
+-- a text that is taken
+module _ (c : TextCall) (s : List ℕ) (d : Draft) (z : Shape) (a : Accepted c s d z) where
+  abbrev L : Lent
+  L = c .lent
 
-  abbrev Room : Type 0
-  Room = Fitting (z .n) (z .pairs) (length (L .est)) (length (L .lct)) (length (L .dur)) (length (L .dem)) (length (L .jobs)) (length (L .successors))
+  abbrev x : Project
+  x = a .x
 
-  abbrev Short : Type 0
-  Short = Misfit (z .n) (z .pairs) (length (L .est)) (length (L .lct)) (length (L .dur)) (length (L .dem)) (length (L .jobs)) (length (L .successors))
+  fits : ListsFit x L
+  fits = refusal-none c x [] (a .text) (a .refusal) .1 .fits
 
-  fits-of : Room → ListsFit x L
-  fits-of r = rw (p .jobs, p .count) r
+  pub few : z .n ≤ mostJobs
+  few = parsing-few s (c .resource) (d .dur) (d .dem) z x (a .parsing)
 
-  unfit-of : Short → Unfit x L
-  unfit-of r = rw (p .jobs, p .count) r
+  -- the lists have the lengths that are wanted, and room
+  pub fitting : Fitting (z .n) (z .pairs) (length (L .est)) (length (L .lct)) (length (L .dur)) (length (L .dem)) (length (L .jobs)) (length (L .successors))
+  fitting = rw (← a .parsing .jobs, ← a .parsing .count) fits
 
-  longer-out : Longer (Order x) (z .n) (weight durs) h → Longer (Order x) (length (x .rows)) (durationOf x) h
-  longer-out l = record {
-    last = l .last;
-    job = omega (arith, l .job, p .jobs);
-    before = l .before;
-    chain = chain-map (Order x) (Order x) (weight durs) (durationOf x) (λ a b q. (q, duration-at a (range a b q .0))) (l .chain);
-    over = omega (arith, l .over, duration-at (l .last) (l .job));
-  }
+  pub pair-room : Roomy (comes (z .n) (z .table) s (rowsAt (z .at))) (L .jobs) (L .successors)
+  pair-room = record { ps = pairsOf x; end = a .parsing .end; come = a .parsing .come; jobs = fits .jobs; successors = fits .successors }
 
-  longer-in : Longer (Order x) (length (x .rows)) (durationOf x) h → Longer (Order x) (z .n) (weight durs) h
-  longer-in l =
-      let b : l .last < z .n = omega (arith, l .job, p .jobs) in
-      record {
-        last = l .last;
-        job = b;
-        before = l .before;
-        chain = chain-map (Order x) (Order x) (durationOf x) (weight durs) (λ a b q. (q, sym (duration-at a (range a b q .0)))) (l .chain);
-        over = omega (arith, l .over, duration-at (l .last) b);
-      }
+  module _ (K : Lent) (drafted : Drafted d) (f : FilledFrom d (c .horizon) (L .est) (L .lct) (L .dur) (L .dem) (K .est) (K .lct) (K .dur) (K .dem))
+      (w : Wrote (comes (z .n) (z .table) s (rowsAt (z .at))) (L .jobs) (L .successors) (K .jobs) (K .successors)) where
+    abbrev weighs : (j : ℕ) → j < z .n → d .dur ! j ≡ durationOf x j
+    weighs = duration-at s (c .resource) (d .dur) (d .dem) z x (a .parsing)
 
-  module _ (chosen : res < z .k) where
-    pick : res < length (x .capacities)
-    pick = omega (arith, p .resources)
+    abbrev jobs-below : (i j : ℕ) → Order x i j → (i < z .n) × (j < z .n)
+    jobs-below = range s (c .resource) (d .dur) (d .dem) z x (a .parsing)
 
-    pub no-room : Short → Answered (asked t res h L) (refused L 38)
-    no-room f = answer t res h L 37 (refusal-of (asked t res h L) x [] e 38 near (inr (pick, inl (unfit-of f, refl))))
+    filled : Filled x (c .resource) (c .horizon) L K
+    filled =
+        let pairs = w .are (pairsOf x) (a .parsing .end) (a .parsing .come) in
+        record {
+          est-long = ap length (f .est) ∙ length-take-le (length (L .est)) (d .heads) (omega (arith, fitting .est, few, drafted .heads)) ∙ fits .est;
+          lct-long = f .lct .long ∙ fits .lct;
+          est = λ j b.
+              let at : K .est ! j ≡ d .heads ! j = ap (λ (l : List ℕ). l ! j) (f .est) ∙ getD-take (length (L .est)) (d .heads) j 0 (omega (arith, fits .est)) in
+              rw at (longest-weights (Order x) (weight (d .dur)) (durationOf x) (λ i k q. weighs i (jobs-below i k q .0)) (a .chains .before j));
+          lct = λ j b. (
+            d .tails ! j,
+            longest-weights (Back (Order x)) (weight (d .dur)) (durationOf x) (λ i k q. weighs i (jobs-below k i q .1)) (a .chains .after j),
+            f .lct .each j (omega (arith, fits .lct)),
+          );
+          dur = f .dur ∙ ap (λ (m : ℕ). take m (d .dur)) (fitting .dur) ∙ sym (a .parsing .durs-are);
+          dem = f .dem ∙ ap (λ (m : ℕ). take m (d .dem)) (fitting .dem) ∙ sym (a .parsing .dems-are);
+          jobs = pairs .0;
+          successors = pairs .1;
+        }
 
-    module _ (r : Room) (heads tails : List ℕ) where
-      pub no-order : (c : ℕ) → (c ≡ 0 → ⊥) → OrderSays (pairsOf x) (z .n) durs h heads tails c → Answered (asked t res h L) (refused L c)
-      no-order zero f o = absurd (f refl)
-      no-order (suc c) f (inl q) = answer t res h L c (refusal-of (asked t res h L) x [] e (suc c) near (inr (pick, inr (fits-of r, inl (q .1, q .0)))))
-      no-order (suc c) f (inr q) = answer t res h L c (refusal-of (asked t res h L) x [] e (suc c) near (inr (pick, inr (fits-of r, inr (q .1, inl (longer-out (q .2), q .0))))))
+    abbrev after : TextAfter
+    after = record { says = said Word.read (z .cap ∷ z .pairs ∷ []); lent = K }
 
-      pub taken : (K : Lent) (c : ℕ) → c ≡ 0 → OrderSays (pairsOf x) (z .n) durs h heads tails c → length heads ≡ mostJobs
-          → K .est ≡ take (length (L .est)) heads
-          → Lessened tails h (L .lct) (K .lct)
-          → K .dur ≡ take (length (L .dur)) durs
-          → K .dem ≡ take (length (L .dem)) dems
-          → Wrote (comes (z .n) (z .table) s (rowsAt (z .at))) (L .jobs) (L .successors) (K .jobs) (K .successors)
-          → Answered (asked t res h L) (record { says = said Word.read (z .cap ∷ z .pairs ∷ []); lent = K })
-      taken K c c₀ oc long ke kl kd kq w =
-          let o = rw c₀ at oc in
-          let y = fits-of r in
-          let v = w .are (pairsOf x) (p .end) (p .come) in
-          let ne : length (L .est) ≡ z .n = r .est in
-          record {
-            number = 0;
-            refusal = refusal-of (asked t res h L) x [] e 0 near (none-tested x res h L (record { chosen = pick; fits = y; acyclic = o .acyclic; short = λ l. o .short (longer-in l) }));
-            leaves = record {
-              x = x;
-              rest = [];
-              text = e;
-              says = rw (p .cap, p .count);
-              filled = record {
-                est-long = ap length ke ∙ length-take-le (length (L .est)) heads (omega (arith, ne, parsing-few s res durs dems z x p, long)) ∙ y .est;
-                lct-long = kl .long ∙ y .lct;
-                est = λ j b.
-                    let at : K .est ! j ≡ heads ! j = ap (λ (l : List ℕ). l ! j) ke ∙ getD-take (length (L .est)) heads j 0 (omega (arith, y .est)) in
-                    rw at (longest-weights (Order x) (weight durs) (durationOf x) (λ a d q. duration-at a (range a d q .0)) (o .before j));
-                lct = λ j b. (
-                  tails ! j,
-                  longest-weights (Back (Order x)) (weight durs) (durationOf x) (λ a d q. duration-at a (range d a q .1)) (o .after j),
-                  kl .each j (omega (arith, y .lct)),
-                );
-                dur = kd ∙ ap (λ (m : ℕ). take m durs) (r .dur) ∙ sym (p .durs-are);
-                dem = kq ∙ ap (λ (m : ℕ). take m dems) (r .dem) ∙ sym (p .dems-are);
-                jobs = v .0;
-                successors = v .1;
-              };
-            };
-          }
+    pub taken : Reads c after
+    taken =
+        reads-of c (λ y rest e. subst WithinLimits (good-same x y [] rest (sym (a .text) ∙ e) .0) (a .parsing .limits)) after (record {
+          number = 0;
+          refusal = a .refusal;
+          leaves = record { x = x; rest = []; text = a .text; says = rw (a .parsing .cap, a .parsing .count); filled = filled };
+        })

@@ -1,4 +1,4 @@
-// The lists that a reader of project texts is lent (document 02, Item 1): whether their lengths fit, the latest ends, and the pairs.
+// The lists that a reader of project texts is lent (document 02, Item 1): whether their lengths fit, and how they are filled.
 use precedence::Pull;
 use rowheads::Table;
 use walking::Walk;
@@ -8,36 +8,54 @@ ghost use lib.ListN.{length};
 ghost use Rattle.lists.specs.Lists.{_!_};
 ghost use Rattle.joblist.specs.Limits.{mostJobs};
 ghost use Rattle.walking.specs.Comes.{comes, rowsAt};
-ghost use Rattle.lent.specs.Parts.{RoomSays, Lessened, Roomy, Wrote};
+ghost use Rattle.lent.specs.Parts.{RoomSays, Lessened, Drafted, FilledFrom, Roomy, Wrote};
 
-// Whether the lengths of the six lists are those wanted for n jobs and m pairs.
-pub fn roomy(e: usize, l: usize, d: usize, q: usize, j: usize, s: usize, n: u32, m: usize) -> bool
-    ensures { λ r. ⌜ RoomSays e l d q j s n m r ⌝ }
+// The lengths of the six lists.
+pub struct Sizes {
+    pub est: usize,
+    pub lct: usize,
+    pub dur: usize,
+    pub dem: usize,
+    pub jobs: usize,
+    pub successors: usize,
+}
+
+// What the four lists of the jobs are filled from: the longest chains before and after each job, the durations and the demands.
+pub struct Draft {
+    pub heads: [u32; screen::MOST_JOBS],
+    pub tails: [u32; screen::MOST_JOBS],
+    pub dur: [u32; screen::MOST_JOBS],
+    pub dem: [u32; screen::MOST_JOBS],
+}
+
+// Whether the lengths are those wanted for n jobs and m pairs.
+pub fn roomy(sizes: Sizes, n: u32, m: usize) -> bool
+    ensures { λ r. ⌜ RoomSays sizes n m r ⌝ }
 {
     let jobs = n as usize;
-    if e != jobs {
+    if sizes.est != jobs {
         return false;
     }
-    if l != jobs {
+    if sizes.lct != jobs {
         return false;
     }
-    if d != jobs {
+    if sizes.dur != jobs {
         return false;
     }
-    if q != jobs {
+    if sizes.dem != jobs {
         return false;
     }
-    if j < m {
+    if sizes.jobs < m {
         return false;
     }
-    if s < m {
+    if sizes.successors < m {
         return false;
     }
     true
 }
 
 // The horizon less each chain.
-pub fn latest(tails: &[u32; screen::MOST_JOBS], h: u32, to: &mut [u32])
+fn latest(tails: &[u32; screen::MOST_JOBS], h: u32, to: &mut [u32])
     requires { ⌜ (length (now tails) ≡ mostJobs) × (length (now to) ≤ mostJobs) × ((j : ℕ) → now tails ! j ≤ h) ⌝ }
     ensures { λ _. ⌜ Lessened (now (tails .entry)) h (now (to .entry)) (now (to .exit)) ⌝ }
 {
@@ -46,6 +64,28 @@ pub fn latest(tails: &[u32; screen::MOST_JOBS], h: u32, to: &mut [u32])
         to[i] = h - tails[i];
         i += 1;
     }
+}
+
+// The four lists of the jobs: earliest starts, latest ends, durations and demands.
+pub fn fill(
+    draft: Draft,
+    h: u32,
+    est: &mut [u32],
+    lct: &mut [u32],
+    dur: &mut [u32],
+    dem: &mut [u32],
+)
+    requires { ⌜ Drafted draft × ((j : ℕ) → draft .tails ! j ≤ h) × (length (now est) ≤ mostJobs) × (length (now lct) ≤ mostJobs) × (length (now dur) ≤ mostJobs) × (length (now dem) ≤ mostJobs) ⌝ }
+    ensures { λ _. ⌜ FilledFrom draft h (now (est .entry)) (now (lct .entry)) (now (dur .entry)) (now (dem .entry)) (now (est .exit)) (now (lct .exit)) (now (dur .exit)) (now (dem .exit)) ⌝ }
+{
+    let heads = draft.heads;
+    let tails = draft.tails;
+    let d = draft.dur;
+    let q = draft.dem;
+    windows::restore(&heads, est);
+    latest(&tails, h, lct);
+    windows::restore(&d, dur);
+    windows::restore(&q, dem);
 }
 
 // The pairs of the text, in its order, where there is room for them. Each turn takes a token.

@@ -1,5 +1,6 @@
 -- `lent::roomy` meets its contract, length by length.
 use mathlib.Core.Logic.{inl, inr}
+use borrow.Author.Needs.{needs}
 use Rattle.lent.proofs.roomy.Statement.{statement}
 use Rattle.lent.proofs.roomy.Tie as tie
 
@@ -22,7 +23,7 @@ returns-6 : tie.Need-returns-6
 returns-6 c = inr (inr (inr (inr (inr (c .if6 .taken)))))
 
 returns-7 : tie.Need-returns-7
-returns-7 c = record { est = c .before .before .before .before .before .if1 .left; lct = c .before .before .before .before .if2 .left; dur = c .before .before .before .if3 .left; dem = c .before .before .if4 .left; jobs = c .before .if5 .left; successors = c .if6 .left }
+returns-7 c = record { est = search needs; lct = search needs; dur = search needs; dem = search needs; jobs = search needs; successors = search needs }
 
 pub roomy-spec : {M : Type 1} → statement M
 roomy-spec = tie.close (tie.spec returns returns-2 returns-3 returns-4 returns-5 returns-6 returns-7)
