@@ -1,10 +1,26 @@
--- `listed::placed` meets its contract, branch by branch.
+-- `listed::placed` meets its contract, branch by branch: the pair is in range behind the second test, and has a next one behind the third.
+use Prim.Native.Nat.{_+_, _<_}
 use native.Mathlib.Omega.{arith}
 use mathlib.Core.Logic.{inl, inr}
+use lib.ListN.{length}
+use Rattle.chains.specs.Listed.{PairInRange}
 use Rattle.listed.proofs.Places.{comes-before, not-before}
 use borrow.Author.Needs.{needs}
 use Rattle.listed.proofs.placed.Statement.{statement}
 use Rattle.listed.proofs.placed.Tie as tie
+
+-- ---- behind the range, and behind the end of the lists
+
+abbrev started : tie.Else2 → tie.Start
+started e = e .before .before .before .before
+
+in-range : (e : tie.Else2) → let a = started e .args in PairInRange (a .n) (a .jobs .now) (a .successors .now) (a .i)
+in-range e = (omega (arith, e .before .if1 .left), omega (arith, e .if2 .left))
+
+next-there : (e : tie.Else3) → let a = started (e .before) .args in a .i + 1 < length (a .jobs .now)
+next-there e = omega (arith, e .if3 .left)
+
+-- ---- the needs
 
 mul-a : tie.Need-mul-a
 mul-a c = search needs
@@ -28,7 +44,7 @@ add-k : tie.Need-add-k
 add-k c = search needs
 
 returns-3 : tie.Need-returns-3
-returns-3 c = ((omega (arith, c .before .before .if1 .left), omega (arith, c .before .if2 .left)), λ h. absurd (omega (arith, c .if3 .taken)))
+returns-3 c = (in-range (c .before), λ h. absurd (omega (arith, c .if3 .taken)))
 
 mul-c : tie.Need-mul-c
 mul-c c = search needs
@@ -44,23 +60,27 @@ shared-slice-read-d c = search needs
 
 returns-4 : tie.Need-returns-4
 returns-4 c =
-    let a = c .before .before .before .before .before .before .before .before .args in
-    comes-before (a .n) (a .jobs .now) (a .successors .now) (a .i) (omega (arith, c .before .before .before .before .before .if1 .left), omega (arith, c .before .before .before .before .if2 .left)) (inl (omega (arith, c .if4 .taken)))
+    let e = c .before .before .before .before in
+    let a = started e .args in
+    comes-before (a .n) (a .jobs .now) (a .successors .now) (a .i) (in-range e) (inl (omega (arith, c .if4 .taken)))
 
 returns-5 : tie.Need-returns-5
 returns-5 c =
-    let a = c .before .before .before .before .before .before .before .before .before .args in
-    not-before (a .n) (a .jobs .now) (a .successors .now) (a .i) (omega (arith, c .before .before .before .before .if3 .left)) (inl (omega (arith, c .if5 .taken)))
+    let e = c .before .before .before .before in
+    let a = started (e .before) .args in
+    not-before (a .n) (a .jobs .now) (a .successors .now) (a .i) (next-there e) (inl (omega (arith, c .if5 .taken)))
 
 returns-6 : tie.Need-returns-6
 returns-6 c =
-    let a = c .before .before .before .before .before .before .before .before .before .before .args in
-    comes-before (a .n) (a .jobs .now) (a .successors .now) (a .i) (omega (arith, c .before .before .before .before .before .before .before .if1 .left), omega (arith, c .before .before .before .before .before .before .if2 .left)) (inr (omega (arith, c .before .before .if4 .left, c .before .if5 .left), omega (arith, c .if6 .taken)))
+    let e = c .before .before .before .before .before .before in
+    let a = started e .args in
+    comes-before (a .n) (a .jobs .now) (a .successors .now) (a .i) (in-range e) (inr (omega (arith, c .before .before .if4 .left, c .before .if5 .left), omega (arith, c .if6 .taken)))
 
 returns-7 : tie.Need-returns-7
 returns-7 c =
-    let a = c .before .before .before .before .before .before .before .before .before .before .args in
-    not-before (a .n) (a .jobs .now) (a .successors .now) (a .i) (omega (arith, c .before .before .before .before .before .if3 .left)) (inr (omega (arith, c .before .before .if4 .left, c .before .if5 .left), omega (arith, c .if6 .left)))
+    let e = c .before .before .before .before .before in
+    let a = started (e .before) .args in
+    not-before (a .n) (a .jobs .now) (a .successors .now) (a .i) (next-there e) (inr (omega (arith, c .before .before .if4 .left, c .before .if5 .left), omega (arith, c .if6 .left)))
 
 pub placed-spec : {M : Type 1} → statement M
 placed-spec =

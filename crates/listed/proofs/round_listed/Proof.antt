@@ -5,6 +5,7 @@ use native.Mathlib.Omega.{arith}
 use borrow.Author.Needs.{needs}
 use lib.ListN.{length}
 use Rattle.lists.specs.Lists.{_!_}
+use Rattle.chains.specs.Listed.{PairInRange}
 use Rattle.passes.proofs.Relaxing.{relaxing-start, relaxing-same, relaxing-changed}
 use Rattle.listed.proofs.Places.{Counting, place-kept, place-rose, place-over, from-end}
 use Rattle.listed.proofs.round_listed.Statement.{statement}
@@ -38,23 +39,40 @@ add-i c = search needs
 
 lift-requires : tie.Need-lift-requires Inv-loop μ-loop
 lift-requires c κs =
-    let q = c .before .before .before .before .before .before .before .pre in
     let l = c .before .before .before .before .loop in
-    let b : l .i < length (c .before .before .before .before .before .before .before .args .jobs .now) = omega (arith, c .before .before .before .loop-test .taken) in
-    let f = q .1 .0 (l .i) b in
-    (omega (arith, f .0, q .0 .0), omega (arith, f .1, q .0 .0), l .inv .long, omega (arith, l .inv .low (c .before .before .before .before .before .before .before .args .jobs .now ! l .i), q .0 .0), omega arith)
+    let s = c .before .before .before .before .before .before .before in
+    let few = s .pre .0 .0 in
+    let f = s .pre .1 .0 (l .i) (omega (arith, c .before .before .before .loop-test .taken)) in
+    (omega (arith, f .0, few), omega (arith, f .1, few), l .inv .long, omega (arith, l .inv .low (s .args .jobs .now ! l .i), few), omega arith)
+
+-- ---- behind a pair's step: the start of the call, the loop, and that the pair is one of the jobs
+
+abbrev Lifted : Type 0
+Lifted = tie.After-lift Inv-loop μ-loop
+
+abbrev started : Lifted → tie.Start Inv-loop μ-loop
+started e = e .before .before .before .before .before .before .before .before
+
+abbrev looped : Lifted → tie.At-loop Inv-loop μ-loop
+looped e = e .before .before .before .before .before
+
+here : (e : Lifted) → looped e .loop .i < length (started e .args .jobs .now)
+here e = omega (arith, e .before .before .before .before .loop-test .taken)
+
+in-range : (e : Lifted) → let a = started e .args in PairInRange (a .n) (a .jobs .now) (a .successors .now) (looped e .loop .i)
+in-range e = started e .pre .1 .0 (looped e .loop .i) (here e)
 
 enum-told : tie.Need-enum-told Inv-loop μ-loop
 enum-told c = search needs
 
 returns : tie.Need-returns Inv-loop μ-loop
 returns c =
-    let q = c .before .before .before .before .before .before .before .before .before .before .pre in
-    let a = c .before .before .before .before .before .before .before .before .before .before .args in
-    let l = c .before .before .before .before .before .before .before .loop in
-    let b : l .i < length (a .jobs .now) = omega (arith, c .before .before .before .before .before .before .loop-test .taken) in
-    let h = rw (c .enum-told .given .1) at (c .before .before .lift .ensures .0) in
-    (place-over (a .jobs .now) (a .successors .now) (q .0 .1) (a .n) (q .0 .0) (l .i) b (q .1 .0 (l .i) b) _ (l .v) _ _ (l .inv) (h .0, omega (arith, h .1)), c .before .before .lift .ensures .1)
+    let e = c .before .before in
+    let a = started e .args in
+    let q = started e .pre .0 in
+    let l = looped e .loop in
+    let h = rw (c .enum-told .given .1) at (e .lift .ensures .0) in
+    (place-over (a .jobs .now) (a .successors .now) (q .1) (a .n) (q .0) (l .i) (here e) (in-range e) _ (l .v) _ _ (l .inv) (h .0, omega (arith, h .1)), e .lift .ensures .1)
 
 enum-told-2 : tie.Need-enum-told-2 Inv-loop μ-loop
 enum-told-2 c = search needs
@@ -64,12 +82,12 @@ loop-less c = search needs
 
 loop-again : tie.Need-loop-again Inv-loop μ-loop
 loop-again c =
-    let q = c .before .before .before .before .before .before .before .before .before .before .pre in
-    let a = c .before .before .before .before .before .before .before .before .before .before .args in
-    let l = c .before .before .before .before .before .before .before .loop in
-    let b : l .i < length (a .jobs .now) = omega (arith, c .before .before .before .before .before .before .loop-test .taken) in
-    let h = rw (c .enum-told2 .given .1) at (c .before .before .lift .ensures .0) in
-    place-kept (a .jobs .now) (a .successors .now) (q .0 .1) (a .n) (q .0 .0) (l .i) b (q .1 .0 (l .i) b) _ (l .v) _ _ (l .inv) (h .0, omega (arith, h .1))
+    let e = c .before .before in
+    let a = started e .args in
+    let q = started e .pre .0 in
+    let l = looped e .loop in
+    let h = rw (c .enum-told2 .given .1) at (e .lift .ensures .0) in
+    place-kept (a .jobs .now) (a .successors .now) (q .1) (a .n) (q .0) (l .i) (here e) (in-range e) _ (l .v) _ _ (l .inv) (h .0, omega (arith, h .1))
 
 enum-told-3 : tie.Need-enum-told-3 Inv-loop μ-loop
 enum-told-3 c = search needs
@@ -79,24 +97,26 @@ loop-less-2 c = search needs
 
 loop-again-2 : tie.Need-loop-again-2 Inv-loop μ-loop
 loop-again-2 c =
-    let q = c .before .before .before .before .before .before .before .before .before .before .pre in
-    let a = c .before .before .before .before .before .before .before .before .before .before .args in
-    let l = c .before .before .before .before .before .before .before .loop in
-    let b : l .i < length (a .jobs .now) = omega (arith, c .before .before .before .before .before .before .loop-test .taken) in
-    let h = rw (c .enum-told3 .given .1) at (c .before .before .lift .ensures .0) in
-    place-rose (a .jobs .now) (a .successors .now) (q .0 .1) (a .n) (q .0 .0) (l .i) b (q .1 .0 (l .i) b) _ (l .v) _ _ (l .inv) (h .0, omega (arith, h .1), omega (arith, h .2))
+    let e = c .before .before in
+    let a = started e .args in
+    let q = started e .pre .0 in
+    let l = looped e .loop in
+    let h = rw (c .enum-told3 .given .1) at (e .lift .ensures .0) in
+    place-rose (a .jobs .now) (a .successors .now) (q .1) (a .n) (q .0) (l .i) (here e) (in-range e) _ (l .v) _ _ (l .inv) (h .0, omega (arith, h .1), omega (arith, h .2))
 
 returns-2 : tie.Need-returns-2 Inv-loop μ-loop
 returns-2 c =
     let l = c .before .before .loop in
-    let a = c .before .before .before .before .before .args in
-    (relaxing-changed _ _ _ _ _ _ _ _ (l .inv) (from-end (a .jobs .now) (a .successors .now) (c .before .before .before .before .before .pre .0 .1) (l .i) (omega (arith, c .before .loop-test .left))) (c .if1 .taken), l .inv .long)
+    let s = c .before .before .before .before .before in
+    let none = from-end (s .args .jobs .now) (s .args .successors .now) (s .pre .0 .1) (l .i) (omega (arith, c .before .loop-test .left)) in
+    (relaxing-changed _ _ _ _ _ _ _ _ (l .inv) none (c .if1 .taken), l .inv .long)
 
 returns-3 : tie.Need-returns-3 Inv-loop μ-loop
 returns-3 c =
     let l = c .before .before .loop in
-    let a = c .before .before .before .before .before .args in
-    (relaxing-same _ _ _ _ _ _ _ _ (l .inv) (from-end (a .jobs .now) (a .successors .now) (c .before .before .before .before .before .pre .0 .1) (l .i) (omega (arith, c .before .loop-test .left))) (c .if1 .left), l .inv .long)
+    let s = c .before .before .before .before .before in
+    let none = from-end (s .args .jobs .now) (s .args .successors .now) (s .pre .0 .1) (l .i) (omega (arith, c .before .loop-test .left)) in
+    (relaxing-same _ _ _ _ _ _ _ _ (l .inv) none (c .if1 .left), l .inv .long)
 
 pub round-listed-spec : {M : Type 1} → statement M
 round-listed-spec =

@@ -1,4 +1,5 @@
--- `precedence::rounds::relax` meets its contract: the pairs passed have made the values of the first ones, and the rest makes of them what all pairs make; the walk fits.
+-- `precedence::rounds::relax` meets its contract: the pairs passed have made the values of the first ones, and the rest makes of them what all pairs
+-- make; the walk fits.
 use Prim.Native.Nat.{_-_, _<_}
 use native.Mathlib.Omega.{arith}
 use borrow.Author.Needs.{needs}
@@ -27,7 +28,10 @@ Paired = tie.After-select2 Inv-loop μ-loop
 abbrev started : Paired → tie.Start Inv-loop μ-loop
 started e = e .before .before .before .before .before .before .before .before
 
-pulled : (e : Paired) → PullSays (started e .args .n) (started e .args .table) (started e .args .text .now) (e .before .before .before .before .before .before .loop .w) (Next (e .before .before .before .a .given .0 .0) (e .before .before .before .a .given .0 .1 .0) (e .before .before .before .a .given .0 .1 .1 .0))
+abbrev looped : Paired → tie.At-loop Inv-loop μ-loop
+looped e = e .before .before .before .before .before .before
+
+pulled : (e : Paired) → let a = started e .args in let g = e .before .before .before .a .given .0 in PullSays (a .n) (a .table) (a .text .now) (looped e .loop .w) (Next (g .0) (g .1 .0) (g .1 .1 .0))
 pulled e = rw (e .before .before .before .a .given .1) at (e .before .before .before .before .before .next-pair .ensures)
 
 ends : (e : Paired) → (e .before .select .result < mostJobs) × (e .select2 .result < mostJobs)
@@ -78,8 +82,9 @@ lift-requires : tie.Need-lift-requires Inv-loop μ-loop
 lift-requires c κs =
     let e = c .before .before in
     let m = started e .pre in
-    let g = e .before .before .before .before .before .before .loop .inv .1 in
-    (ends e .0, ends e .1, g .long, omega (arith, g .low (e .before .select .result), m .0 .3), omega (arith, m .1 .0 (e .before .select .result), m .1 .0 (e .select2 .result)))
+    let g = looped e .loop .inv .1 in
+    let i = e .before .select .result in
+    (ends e .0, ends e .1, g .long, omega (arith, g .low i, m .0 .3), omega (arith, m .1 .0 i))
 
 enum-told-2 : tie.Need-enum-told-2 Inv-loop μ-loop
 enum-told-2 c = search needs
@@ -92,7 +97,7 @@ loop-again c =
     let e = c .before .before .before .before .before in
     let t = pulled e in
     let h = rw (c .enum-told2 .given .1) at (c .before .before .lift .ensures .0) in
-    (t .1, relaxing-kept _ _ _ _ _ _ _ _ (e .before .before .before .before .before .before .loop .inv .1) _ _ _ (t .0) _ _ (e .before .select .ensures) (e .select2 .ensures) _ h)
+    (t .1, relaxing-kept _ _ _ _ _ _ _ _ (looped e .loop .inv .1) _ _ _ (t .0) _ _ (e .before .select .ensures) (e .select2 .ensures) _ h)
 
 enum-told-3 : tie.Need-enum-told-3 Inv-loop μ-loop
 enum-told-3 c = search needs
@@ -105,7 +110,7 @@ loop-again-2 c =
     let e = c .before .before .before .before .before in
     let t = pulled e in
     let h = rw (c .enum-told3 .given .1) at (c .before .before .lift .ensures .0) in
-    (t .1, relaxing-rose _ _ _ _ _ _ _ _ (e .before .before .before .before .before .before .loop .inv .1) _ _ _ (t .0) _ _ (e .before .select .ensures) (e .select2 .ensures) _ (ends e .1) h)
+    (t .1, relaxing-rose _ _ _ _ _ _ _ _ (looped e .loop .inv .1) _ _ _ (t .0) _ _ (e .before .select .ensures) (e .select2 .ensures) _ (ends e .1) h)
 
 enum-told-4 : tie.Need-enum-told-4 Inv-loop μ-loop
 enum-told-4 c = search needs
@@ -114,7 +119,7 @@ returns-3 : tie.Need-returns-3 Inv-loop μ-loop
 returns-3 c =
     let e = c .before .before .before .before .before in
     let h = rw (c .enum-told4 .given .1) at (c .before .before .lift .ensures .0) in
-    (relaxing-over _ _ _ _ _ _ _ _ (e .before .before .before .before .before .before .loop .inv .1) _ _ _ (pulled e .0) _ _ (e .before .select .ensures) (e .select2 .ensures) _ h, c .before .before .lift .ensures .1)
+    (relaxing-over _ _ _ _ _ _ _ _ (looped e .loop .inv .1) _ _ _ (pulled e .0) _ _ (e .before .select .ensures) (e .select2 .ensures) _ h, c .before .before .lift .ensures .1)
 
 pub relax-spec : {M : Type 1} → statement M
 relax-spec =

@@ -15,7 +15,9 @@ use Rattle.scribe.proofs.jobs.put_jobs.Statement.{statement}
 use Rattle.scribe.proofs.jobs.put_jobs.Tie as tie
 
 abbrev Inv-loop : tie.InvT-loop
-Inv-loop dry dur dem jobs successors at buffer₀ j₀ i₀ place₀ buffer j i place = (j ≤ length dur) × (length buffer ≡ length buffer₀) × Passed jobs j i × Going dry at (jobLines (rowsFrom 0 dur dem (paired jobs successors))) buffer₀ buffer place (jobLines (rowsFrom j (drop j dur) (drop j dem) (paired jobs successors)))
+Inv-loop dry dur dem jobs successors at buffer₀ j₀ i₀ place₀ buffer j i place =
+    (j ≤ length dur) × (length buffer ≡ length buffer₀) × Passed jobs j i
+    × Going dry at (jobLines (rowsFrom 0 dur dem (paired jobs successors))) buffer₀ buffer place (jobLines (rowsFrom j (drop j dur) (drop j dem) (paired jobs successors)))
 
 abbrev μ-loop : tie.MeasureT-loop
 μ-loop dry dur dem jobs successors at buffer₀ j₀ i₀ place₀ buffer j i place = length dur - j
@@ -41,12 +43,24 @@ mul-put-job-2 c = search needs
 shared-slice-read-put-job-2 : tie.Need-shared-slice-read-put-job-2 Inv-loop μ-loop
 shared-slice-read-put-job-2 c = omega (arith, c .before .before .before .before .before .before .before .before .before .before .pre .0 .demands, c .before .before .before .loop-test .taken)
 
+-- ---- behind the end of a job's run: the start of the call, and the loop
+
+abbrev Ended : Type 0
+Ended = tie.After-run-end Inv-loop μ-loop
+
+abbrev started : Ended → tie.Start Inv-loop μ-loop
+started e = e .before .before .before .before .before .before .before .before
+
+abbrev looped : Ended → tie.At-loop Inv-loop μ-loop
+looped e = e .before .before
+
 put-job-requires : tie.Need-put-job-requires Inv-loop μ-loop
 put-job-requires c κs =
-    let l = c .before .before .before .before .before .loop .inv in
-    let p = c .before .before .before .before .before .before .before .before .before .before .before .pre in
-    let e = c .before .before .before .run-end .ensures in
-    (stretch (p .0) (l .2) e, room-same (going-room _ _ (lines-step (p .0) (l .2) e (c .before .before .before .before .loop-test .taken)) (p .1) (l .3)) (omega arith) (job-same _ (omega arith) (omega arith) (omega arith)))
+    let e = c .before .before .before in
+    let l = looped e .loop .inv in
+    let p = started e .pre in
+    let line = lines-step (p .0) (l .2) (e .run-end .ensures) (e .before .loop-test .taken) in
+    (stretch (p .0) (l .2) (e .run-end .ensures), room-same (going-room _ _ line (p .1) (l .3)) (omega arith) (job-same _ (omega arith) (omega arith) (omega arith)))
 
 add-j : tie.Need-add-j Inv-loop μ-loop
 add-j c = search needs
@@ -56,10 +70,12 @@ loop-less c = search needs
 
 loop-again : tie.Need-loop-again Inv-loop μ-loop
 loop-again c =
-    let l = c .before .before .before .before .before .before .before .before .loop .inv in
-    let p = c .before .before .before .before .before .before .before .before .before .before .before .before .before .before .pre in
-    let e = c .before .before .before .before .before .before .run-end .ensures in
-    (omega (arith, c .before .before .before .before .before .before .before .loop-test .taken), c .before .before .put-job .kept .1 .1 .1 .1 .1 .1 .1 .0 ∙ l .1, passed-step (p .0) (l .2) e, going-step _ _ (lines-step (p .0) (l .2) e (c .before .before .before .before .before .before .before .loop-test .taken)) (p .1) (l .3) (c .before .before .put-job .ensures))
+    let e = c .before .before .before .before .before .before in
+    let l = looped e .loop .inv in
+    let p = started e .pre in
+    let line = lines-step (p .0) (l .2) (e .run-end .ensures) (e .before .loop-test .taken) in
+    let put = c .before .before .put-job in
+    (omega (arith, e .before .loop-test .taken), put .kept .1 .1 .1 .1 .1 .1 .1 .0 ∙ l .1, passed-step (p .0) (l .2) (e .run-end .ensures), going-step _ _ line (p .1) (l .3) (put .ensures))
 
 same-length : tie.Need-same-length Inv-loop μ-loop
 same-length c = c .before .loop .inv .1

@@ -12,7 +12,8 @@ use Rattle.scribe.proofs.jobs.put_successors.Statement.{statement}
 use Rattle.scribe.proofs.jobs.put_successors.Tie as tie
 
 abbrev Inv-loop : tie.InvT-loop
-Inv-loop dry successors from to at buffer₀ i₀ place₀ buffer i place = (i ≤ to) × (length buffer ≡ length buffer₀) × Going dry at (restOf (fromOne successors from to)) buffer₀ buffer place (restOf (fromOne successors i to))
+Inv-loop dry successors from to at buffer₀ i₀ place₀ buffer i place =
+    (i ≤ to) × (length buffer ≡ length buffer₀) × Going dry at (restOf (fromOne successors from to)) buffer₀ buffer place (restOf (fromOne successors i to))
 
 abbrev μ-loop : tie.MeasureT-loop
 μ-loop dry successors from to at buffer₀ i₀ place₀ buffer i place = to - i
@@ -35,12 +36,25 @@ add-mark-of c = search needs
 mark-of-requires : tie.Need-mark-of-requires Inv-loop μ-loop
 mark-of-requires c κs = search needs
 
+-- ---- behind the choice of the byte: the start of the call, and the loop
+
+abbrev Marked-byte : Type 0
+Marked-byte = tie.After-mark-of Inv-loop μ-loop
+
+abbrev started : Marked-byte → tie.Start Inv-loop μ-loop
+started e = e .before .before .before .before .before .before
+
+abbrev looped : Marked-byte → tie.At-loop Inv-loop μ-loop
+looped e = e .before .before .before
+
 put-requires : tie.Need-put-requires Inv-loop μ-loop
 put-requires c κs =
-    let l = c .before .before .before .before .loop in
-    let p = c .before .before .before .before .before .before .before .pre in
-    room-same (going-room _ _ (successors-step _ _ _ (c .before .before .before .loop-test .taken) (p .0 .within)) (p .1) (l .inv .2)) (omega arith)
-    (number-same (omega arith) (byte-same (l .i + 1) (c .before .before .before .before .before .before .before .args .to) (c .before .mark-of .ensures) (omega arith) (omega arith)))
+    let e = c .before in
+    let l = looped e .loop in
+    let s = started e in
+    let next = successors-step (s .args .successors .now) (l .i) (s .args .to) (e .before .before .loop-test .taken) (s .pre .0 .within) in
+    room-same (going-room _ _ next (s .pre .1) (l .inv .2)) (omega arith)
+    (number-same (omega arith) (byte-same (l .i + 1) (s .args .to) (e .mark-of .ensures) (omega arith) (omega arith)))
 
 add-i : tie.Need-add-i Inv-loop μ-loop
 add-i c = search needs
@@ -50,9 +64,12 @@ loop-less c = search needs
 
 loop-again : tie.Need-loop-again Inv-loop μ-loop
 loop-again c =
-    let l = c .before .before .before .before .before .before .before .loop in
-    let p = c .before .before .before .before .before .before .before .before .before .before .pre in
-    (omega arith, c .before .before .put .kept .1 .1 .1 .1 .0 ∙ l .inv .1, going-step _ _ (successors-step _ _ _ (c .before .before .before .before .before .before .loop-test .taken) (p .0 .within)) (p .1) (l .inv .2) (rw (c .before .before .before .before .mark-of .ensures .byte) at (c .before .before .put .ensures)))
+    let e = c .before .before .before .before in
+    let l = looped e .loop in
+    let s = started e in
+    let next = successors-step (s .args .successors .now) (l .i) (s .args .to) (e .before .before .loop-test .taken) (s .pre .0 .within) in
+    let put = c .before .before .put in
+    (omega arith, put .kept .1 .1 .1 .1 .0 ∙ l .inv .1, going-step _ _ next (s .pre .1) (l .inv .2) (rw (e .mark-of .ensures .byte) at (put .ensures)))
 
 same-length : tie.Need-same-length Inv-loop μ-loop
 same-length c = c .before .loop .inv .1
