@@ -1,7 +1,7 @@
 -- Pairs in two lists: they are the pairs that stand at the lists' places, and pairs in rising order and pairs that are not are never both there.
 use Prim.Native.Nat.{ℕ, zero, suc, _≤_, _<_}
 use native.Mathlib.Omega.{arith}
-use mathlib.Core.Path.{_≡_, refl, ap}
+use mathlib.Core.Path.{_≡_, refl, sym, ap, _∙_}
 use mathlib.Core.List.{List, [], _∷_, map}
 use mathlib.Core.Logic.{inl, inr}
 use lib.ListN.{length, drop, drop-of-length-le}
@@ -26,19 +26,25 @@ paired-successors [] (s ∷ ss) e = absurd (omega arith)
 paired-successors (j ∷ js) [] e = absurd (omega arith)
 paired-successors (j ∷ js) (s ∷ ss) e = let h : length ss ≡ length js = omega arith in ap (λ (l : List ℕ). s ∷ l) (paired-successors js ss h)
 
--- ---- one of the pairs
+-- ---- one of the pairs, and its place in the lists of their jobs and of their successors
 
-pub paired-listed : (js ss : List ℕ) (a b : ℕ) → Precedes (paired js ss) a b → Listed js ss (length js) a b
-paired-listed [] ss a b r = absurd r
-paired-listed (j ∷ js) [] a b r = absurd r
-paired-listed (j ∷ js) (s ∷ ss) a b (inl e) = (0, omega arith, e .0, e .1)
-paired-listed (j ∷ js) (s ∷ ss) a b (inr r) = let q = paired-listed js ss a b r in (suc (q .0), omega (arith, q .1), q .2, q .3)
+pub pair-listed : (ps : List Pair) (a b : ℕ) → Precedes ps a b → Listed (map (λ (p : Pair). p .job) ps) (map (λ (p : Pair). p .successor) ps) (length ps) a b
+pair-listed [] a b r = absurd r
+pair-listed (x ∷ ps) a b (inl e) = (0, omega arith, e .0, e .1)
+pair-listed (x ∷ ps) a b (inr r) = let q = pair-listed ps a b r in (suc (q .0), omega (arith, q .1), q .2, q .3)
 
-pub paired-below : (n : ℕ) (js ss : List ℕ) → ((i : ℕ) → i < length js → PairInRange n js ss i) → Below n (Precedes (paired js ss))
-paired-below n js ss f a b r =
-    let q = paired-listed js ss a b r in
-    let g = f (q .0) (q .1) in
-    (omega (arith, q .2, g .0), omega (arith, q .3, g .1))
+pub listed-pair : (ps : List Pair) (a b : ℕ) → Listed (map (λ (p : Pair). p .job) ps) (map (λ (p : Pair). p .successor) ps) (length ps) a b → Precedes ps a b
+listed-pair [] a b (i, h, p, q) = absurd (omega arith)
+listed-pair (x ∷ ps) a b (zero, h, p, q) = inl (p, q)
+listed-pair (x ∷ ps) a b (suc i, h, p, q) = inr (listed-pair ps a b (i, omega arith, p, q))
+
+pub paired-below : (n : ℕ) (js ss : List ℕ) → length ss ≡ length js → ((i : ℕ) → i < length js → PairInRange n js ss i) → Below n (Precedes (paired js ss))
+paired-below n js ss e f a b r =
+    let q = pair-listed (paired js ss) a b r in
+    let g = f (q .0) (omega (arith, q .1, paired-length js ss e)) in
+    let job : js ! q .0 ≡ a = ap (λ (l : List ℕ). l ! q .0) (sym (paired-jobs js ss e)) ∙ q .2 in
+    let successor : ss ! q .0 ≡ b = ap (λ (l : List ℕ). l ! q .0) (sym (paired-successors js ss e)) ∙ q .3 in
+    (omega (arith, job, g .0), omega (arith, successor, g .1))
 
 -- ---- the pairs from a place on
 

@@ -11,7 +11,7 @@ use Rattle.lists.specs.Lists.{_!_}
 use Rattle.joblist.specs.Limits.{mostTime, mostJobs}
 use Rattle.chains.specs.Paths.{Below, Longer, weight}
 use Rattle.chains.proofs.Chains.{chain-map}
-use Rattle.texts.specs.Readings.{Read, bad, good}
+use Rattle.texts.specs.Readings.{Read, bad}
 use Rattle.projects.specs.Projects.{Project, pairsOf}
 use Rattle.parsing.specs.Parsed.{Parsing, ParsedSays}
 use Rattle.parsing.specs.declared.Shape.{Shape}

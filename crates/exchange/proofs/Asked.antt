@@ -1,7 +1,7 @@
 -- Calls and refusals by name, and the first two tests of a call: the horizon, and what the text meets.
 use Prim.Native.Nat.{ℕ, zero, suc, _≤_, _<_}
 use mathlib.Core.Path.{_≡_, refl, sym, subst}
-use mathlib.Core.List.{List, [], _∷_}
+use mathlib.Core.List.{[], _∷_}
 use mathlib.Core.Logic.{inl, inr}
 use Rattle.answers.specs.Said.{Word, said}
 use Rattle.joblist.specs.Limits.{mostTime}

@@ -3,7 +3,7 @@ use Prim.Native.Nat.{ℕ, _≤_, _<_}
 use native.Mathlib.Omega.{arith}
 use mathlib.Core.Path.{_≡_, refl}
 use mathlib.Core.List.{List}
-use mathlib.Core.Logic.{inl, inr, _↔_}
+use mathlib.Core.Logic.{inr, _↔_}
 use Rattle.joblist.specs.Limits.{mostTime}
 use Rattle.texts.specs.Readings.{bad}
 use Rattle.projects.specs.Patterson.{patterson}

@@ -4,7 +4,6 @@ use Prim.Native.Nat.{ℕ, zero, suc, _+_, _≤_, _<_}
 use native.Mathlib.Omega.{arith}
 use mathlib.Core.Path.{_≡_, refl, sym, ap, _∙_, subst}
 use mathlib.Core.List.{List, [], _∷_, map}
-use mathlib.Core.Logic.{inl, inr}
 use lib.ListN.{length, length-map}
 use Rattle.lists.specs.Lists.{_!_}
 use Rattle.lists.proofs.Lists.{everywhere, front-at}
@@ -15,9 +14,10 @@ use Rattle.narrowing.specs.Windows.{Long}
 use Rattle.narrowing.specs.Schedules.{Schedule}
 use Rattle.joblist.specs.Limits.{jobs, mostTime, mostDemand, fourLists, supply}
 use Rattle.joblist.specs.GoodList.{GoodList}
-use Rattle.chains.specs.Paths.{Pair, Precedes, Below, Cycle, Back}
+use Rattle.chains.specs.Paths.{Pair, Below, Cycle, Back}
 use Rattle.chains.specs.Passes.{NoneRaises}
 use Rattle.chains.proofs.Cycles.{cycle-map}
+use Rattle.chains.proofs.Listed.{pair-listed, listed-pair}
 use Rattle.chains.proofs.Chains.{stable-most, stable-after, chain-on, chain-starts}
 use Rattle.texts.specs.Tokens.{Token}
 use Rattle.texts.specs.Readings.{good}
@@ -27,19 +27,6 @@ use Rattle.exchange.specs.Tests.{Refusal}
 use Rattle.exchange.specs.Table.{Filled, Taken, Leaves, Answered}
 use Rattle.exchange.specs.Promise.{windowsIn, ListedIn, RespectsPairs, Reads}
 use Rattle.exchange.proofs.Tests.{Passed, refusal-none}
-
--- a pair's place
-pub pair-place : (ps : List Pair) (a b : ℕ) → Precedes ps a b
-    → (i : ℕ) × (i < length ps) × (map (λ (p : Pair). p .job) ps ! i ≡ a) × (map (λ (p : Pair). p .successor) ps ! i ≡ b)
-pair-place [] a b r = absurd r
-pair-place (x ∷ ps) a b (inl e) = (0, omega arith, e .0, e .1)
-pair-place (x ∷ ps) a b (inr r) = let q = pair-place ps a b r in (suc (q .0), omega (arith, q .1), q .2, q .3)
-
--- and what stands at a place
-place-pair : (ps : List Pair) (a b i : ℕ) → i < length ps → map (λ (p : Pair). p .job) ps ! i ≡ a → map (λ (p : Pair). p .successor) ps ! i ≡ b → Precedes ps a b
-place-pair [] a b i h p q = absurd (omega arith)
-place-pair (x ∷ ps) a b zero h p q = inl (p, q)
-place-pair (x ∷ ps) a b (suc i) h p q = inr (place-pair ps a b i (omega arith) p q)
 
 -- ---- a text that was read
 
@@ -109,10 +96,10 @@ module _ (x : Project) (resource horizon : ℕ) (L K : Lent) (limits : WithinLim
   successors-at i b = ap (λ (l : List ℕ). l ! i) (f .successors) ∙ front-at (map (λ (p : Pair). p .successor) (pairsOf x)) _ i (omega (arith, length-map (pairsOf x) (λ (p : Pair). p .successor)))
 
   written : (a b : ℕ) → Order x a b → ListedIn K (length (pairsOf x)) a b
-  written a b r = let q = pair-place (pairsOf x) a b r in (q .0, q .1, jobs-at (q .0) (q .1) ∙ q .2, successors-at (q .0) (q .1) ∙ q .3)
+  written a b r = let q = pair-listed (pairsOf x) a b r in (q .0, q .1, jobs-at (q .0) (q .1) ∙ q .2, successors-at (q .0) (q .1) ∙ q .3)
 
   of-written : (a b : ℕ) → ListedIn K (length (pairsOf x)) a b → Order x a b
-  of-written a b (i, h, p, q) = place-pair (pairsOf x) a b i h (sym (jobs-at i h) ∙ p) (sym (successors-at i h) ∙ q)
+  of-written a b (i, h, p, q) = listed-pair (pairsOf x) a b (i, h, sym (jobs-at i h) ∙ p, sym (successors-at i h) ∙ q)
 
   pub filled-ordered : Below (length (K .dur)) (ListedIn K (length (pairsOf x))) × (Cycle (ListedIn K (length (pairsOf x))) → ⊥)
   filled-ordered = (

@@ -1,14 +1,13 @@
 -- Whole calls of the PSPLIB reader on a small text (`psplib: Cases`): whatever meets its contract gives these answers and leaves these lists.
-use Prim.Native.Nat.{ℕ, suc}
+use Prim.Native.Nat.{suc}
 use native.Mathlib.Omega.{arith}
 use mathlib.Core.Path.{_≡_, refl}
-use mathlib.Core.List.{List, [], _∷_}
+use mathlib.Core.List.{[], _∷_}
 use borrow.Author.Tests.{leb-true}
 use Rattle.lists.specs.Tests.{every}
 use Rattle.answers.specs.Said.{Word, said}
 use Rattle.joblist.specs.Limits.{mostTime}
 use Rattle.chains.specs.Passes.{longest, acyclic?}
-use Rattle.texts.specs.Readings.{good}
 use Rattle.projects.specs.Projects.{Project, pairsFrom}
 use Rattle.psplib.specs.Psplib.{psplib}
 use Rattle.psplib.proofs.Limits.{psplib-takes}

@@ -1,12 +1,12 @@
 -- The round trip (document 02, Item 13), over the answer tables of both calls: Item 1's reader, with any horizon that it takes, gives back the capacity, the
 -- durations, the demands and the pairs that the writer was given; and which horizons and lists it takes.
-use Prim.Native.Nat.{ℕ, _≤_, _<_}
+use Prim.Native.Nat.{ℕ, _<_}
 use native.Mathlib.Omega.{arith}
 use mathlib.Core.Path.{_≡_, sym, ap, _∙_}
-use mathlib.Core.List.{[], _∷_, _++_}
+use mathlib.Core.List.{[]}
 use mathlib.Core.Logic.{_↔_}
-use lib.ListN.{length, drop, length-map}
-use Rattle.answers.specs.Said.{Word, said}
+use lib.ListN.{length, length-map}
+use Rattle.answers.specs.Said.{Word}
 use Rattle.chains.specs.Paths.{Precedes, Cycle}
 use Rattle.chains.proofs.Listed.{paired-length, paired-jobs, paired-successors}
 use Rattle.texts.specs.Readings.{good}
@@ -15,7 +15,7 @@ use Rattle.projects.specs.Projects.{Row, Project, pairsOf}
 use Rattle.projects.specs.Patterson.{patterson}
 use Rattle.exchange.specs.Calls.{Lent, TextAfter}
 use Rattle.exchange.specs.Table.{Answered}
-use Rattle.exchange.specs.Write.{WriteCall, WriteAfter, pairsIn, SaysSame, textLeft, GivenBack, readAgain, TakenAgain}
+use Rattle.exchange.specs.Write.{WriteCall, WriteAfter, SaysSame, textLeft, GivenBack, readAgain, TakenAgain}
 use Rattle.exchange.specs.WriteWhen.{WritePassed}
 use Rattle.exchange.proofs.Tests.{none-tested, refusal-of, refusal-none}
 use Rattle.exchange.proofs.Meaning.{read-taken}

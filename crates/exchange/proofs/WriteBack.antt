@@ -15,7 +15,6 @@ use Rattle.chains.specs.Listed.{Rising, NotRising}
 use Rattle.texts.specs.Readings.{good}
 use Rattle.projects.specs.Projects.{Project, durations}
 use Rattle.projects.specs.Patterson.{patterson}
-use Rattle.projects.specs.Form.{projectText}
 use Rattle.projects.specs.Made.{made}
 use Rattle.scribe.proofs.Rows.{made-back, pairs-back, durations-back, demands-back}
 use Rattle.exchange.specs.Calls.{Lent, TextAfter}

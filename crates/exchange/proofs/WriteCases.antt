@@ -43,7 +43,7 @@ one-rising = record { range = one-range; order = λ i h. absurd (omega arith) }
 
 one-calm : Cycle (Precedes (paired (0 ∷ []) (1 ∷ []))) → ⊥
 unfolding acyclic? every
-one-calm = judged-acyclic (paired (0 ∷ []) (1 ∷ [])) 2 (paired-below 2 (0 ∷ []) (1 ∷ []) one-range) .passed refl
+one-calm = judged-acyclic (paired (0 ∷ []) (1 ∷ [])) 2 (paired-below 2 (0 ∷ []) (1 ∷ []) refl one-range) .passed refl
 
 -- two bytes more than are needed: they stay: `2 1\n5\n3 1 1 2\n4 2 0\n`
 pub one-written : (a : WriteAfter) → Writes (two (0 ∷ []) (1 ∷ []) (120 ∷ 120 ∷ 120 ∷ 120 ∷ 120 ∷ 120 ∷ 120 ∷ 120 ∷ 120 ∷ 120 ∷ 120 ∷ 120 ∷ 120 ∷ 120 ∷ 120 ∷ 120 ∷ 120 ∷ 120 ∷ 120 ∷ 120 ∷ 120 ∷ 120 ∷ [])) a → a ≡ record { says = said Word.written (20 ∷ []); buffer = 50 ∷ 32 ∷ 49 ∷ 10 ∷ 53 ∷ 10 ∷ 51 ∷ 32 ∷ 49 ∷ 32 ∷ 49 ∷ 32 ∷ 50 ∷ 10 ∷ 52 ∷ 32 ∷ 50 ∷ 32 ∷ 48 ∷ 10 ∷ 120 ∷ 120 ∷ [] }
@@ -79,7 +79,9 @@ self-range (suc i) h = absurd (omega arith)
 
 pub before-itself : (a : WriteAfter) → Writes (two (0 ∷ []) (0 ∷ []) []) a → a ≡ record { says = said Word.refused (33 ∷ []); buffer = [] }
 unfolding acyclic? every
-before-itself = by-pairs (0 ∷ []) (0 ∷ []) _ 33 (inr (refl, inr (record { range = self-range; order = λ i h. absurd (omega arith) }, inl (judged-acyclic (paired (0 ∷ []) (0 ∷ [])) 2 (paired-below 2 (0 ∷ []) (0 ∷ []) self-range) .failed refl, refl))))
+before-itself =
+    let cycle = judged-acyclic (paired (0 ∷ []) (0 ∷ [])) 2 (paired-below 2 (0 ∷ []) (0 ∷ []) refl self-range) .failed refl in
+    by-pairs (0 ∷ []) (0 ∷ []) _ 33 (inr (refl, inr (record { range = self-range; order = λ i h. absurd (omega arith) }, inl (cycle, refl))))
 
 -- 1 before 0 and 0 before 1, a cycle, in falling order: 32
 pub order-first : (a : WriteAfter) → Writes (two (1 ∷ 0 ∷ []) (0 ∷ 1 ∷ []) []) a → a ≡ record { says = said Word.refused (32 ∷ []); buffer = [] }

@@ -1,6 +1,6 @@
 -- A round so far: the values are those that the pairs passed have made of the first ones, and the rest of the pairs makes of them what all pairs
 -- make of the first.
-use Prim.Native.Nat.{ℕ, _+_, _-_, _≤_, _<_}
+use Prim.Native.Nat.{ℕ, _+_, _≤_, _<_}
 use native.Mathlib.Omega.{arith}
 use mathlib.Core.Path.{_≡_, refl, sym, ap, _∙_, subst}
 use mathlib.Core.Bool.{Bool, true, false, cond}

@@ -16,16 +16,19 @@ use Rattle.texts.specs.Readings.{Read, good}
 use Rattle.passes.specs.Rounds.{ChainOver, AtRest, Overrun}
 
 module _ (r : Read (List Pair)) (n : ℕ) (few : n ≤ mostJobs) (ps : List Pair) (end : List Token) (e : r ≡ good ps end) (range : Below n (Precedes ps)) where
-  one-each : (a b : ℕ) → Precedes ps a b → replicate mostJobs 1 ! a ≡ 1
+  abbrev ones : List ℕ
+  ones = replicate mostJobs 1
+
+  one-each : (a b : ℕ) → Precedes ps a b → ones ! a ≡ 1
   one-each a b q = getD-replicate mostJobs a 1 0 (omega (arith, range a b q .0))
 
-  pub says-33 : Overrun r (replicate mostJobs 1) false n → Cycle (Precedes ps)
+  pub says-33 : Overrun r ones false n → Cycle (Precedes ps)
   says-33 t =
-      let u : ChainOver ps (replicate mostJobs 1) n = subst (λ (l : List Pair). ChainOver l (replicate mostJobs 1) n) (flipped-false ps) (t .long ps end e) in
-      let c : Chain (Precedes ps) (λ i. 1) (u .at) (u .length) = chain-map (Precedes ps) (Precedes ps) (weight (replicate mostJobs 1)) (λ i. 1) (λ a b q. (q, one-each a b q)) (u .chain) in
+      let u : ChainOver ps ones n = subst (λ (l : List Pair). ChainOver l ones n) (flipped-false ps) (t .long ps end e) in
+      let c : Chain (Precedes ps) (λ i. 1) (u .at) (u .length) = chain-map (Precedes ps) (Precedes ps) (weight ones) (λ i. 1) (λ a b q. (q, one-each a b q)) (u .chain) in
       long-cycle (Precedes ps) n range (chain-inside (Precedes ps) n (λ i. 1) range (omega (arith, u .over)) c) (omega (arith, u .over)) c
 
-  pub no-33 : (v : List ℕ) → AtRest r n (replicate mostJobs 1) false n v → Cycle (Precedes ps) → ⊥
+  pub no-33 : (v : List ℕ) → AtRest r n ones false n v → Cycle (Precedes ps) → ⊥
   no-33 v t c =
-      let s : NoneRaises (Precedes ps) (weight (replicate mostJobs 1)) v = subst (λ (l : List Pair). NoneRaises (Precedes l) (weight (replicate mostJobs 1)) v) (flipped-false ps) (t .stable ps end e range) in
+      let s : NoneRaises (Precedes ps) (weight ones) v = subst (λ (l : List Pair). NoneRaises (Precedes l) (weight ones) v) (flipped-false ps) (t .stable ps end e range) in
       stable-acyclic (Precedes ps) (λ i. 1) v (λ a b q. omega (arith, s a b q, one-each a b q)) (λ i. omega arith) c

@@ -7,7 +7,7 @@ use native.Mathlib.Omega.{arith}
 use borrow.Author.Needs.{needs}
 use borrow.Author.Tests.{not-true, not-false}
 use lib.ListN.{length}
-use Rattle.joblist.specs.Limits.{mostTime, mostJobs}
+use Rattle.joblist.specs.Limits.{mostTime}
 use Rattle.parsing.specs.declared.Parsed.{Parsed}
 use Rattle.parsing.specs.declared.Shape.{Shape}
 use Rattle.parsing.proofs.Parsing.{parsing-range}

@@ -41,9 +41,10 @@ loop-less c = simp length-set (omega arith)
 
 loop-again : tie.Need-loop-again Inv-loop μ-loop
 loop-again c =
-    let g = c .before .before .loop .inv in
-    let h : c .before .before .loop .i < length (c .before .before .loop .to) = omega arith in
-    (omega arith, simp length-set (g .1), each-step (c .before .before .before .args .tails .now) (c .before .before .loop .to) (c .before .before .before .args .h) (c .before .before .loop .i) _ h (omega (arith, c .before .before .before .pre .2 (c .before .before .loop .i))) (g .2))
+    let l = c .before .before .loop in
+    let s = c .before .before .before in
+    let h : l .i < length (l .to) = omega arith in
+    (omega arith, simp length-set (l .inv .1), each-step (s .args .tails .now) (l .to) (s .args .h) (l .i) _ h (omega (arith, s .pre .2 (l .i))) (l .inv .2))
 
 same-length : tie.Need-same-length Inv-loop μ-loop
 same-length c = search needs

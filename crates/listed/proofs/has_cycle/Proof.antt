@@ -5,6 +5,8 @@ use mathlib.Core.Path.{refl}
 use mathlib.Core.Bool.{false}
 use lib.ListN.{replicate}
 use Rattle.joblist.specs.Limits.{mostJobs}
+use Rattle.chains.specs.Paths.{Precedes, Below}
+use Rattle.chains.specs.Listed.{paired}
 use Rattle.chains.proofs.Listed.{paired-below}
 use Rattle.passes.specs.Rounds.{sum}
 use Rattle.passes.proofs.Settling.{Settling, settling-start, settling-again, settling-less, settling-true, settling-false}
@@ -28,38 +30,53 @@ round-listed-requires c κs =
     let g = c .before .loop .inv in
     ((q .0 .0, q .0 .1, g .long), (q .1, g .low))
 
+-- ---- behind a round: the start of the call, the loop, and that the pairs are of the jobs
+
+abbrev Rounded : Type 0
+Rounded = tie.After-round-listed Inv-loop μ-loop
+
+abbrev started : Rounded → tie.Start Inv-loop μ-loop
+started e = e .before .before .before .before .before
+
+abbrev looped : Rounded → tie.At-loop Inv-loop μ-loop
+looped e = e .before .before
+
+below : (e : Rounded) → let a = started e .args in Below (a .n) (Precedes (paired (a .jobs .now) (a .successors .now)))
+below e = let s = started e in paired-below _ (s .args .jobs .now) (s .args .successors .now) (s .pre .0 .1) (s .pre .1)
+
 enum-told : tie.Need-enum-told Inv-loop μ-loop
 enum-told c = search needs
 
 returns : tie.Need-returns Inv-loop μ-loop
 returns c =
-    let q = c .before .before .before .before .before .before .before .pre in
-    let a = c .before .before .before .before .before .before .before .args in
-    let t = rw (c .enum-told .given .1) at (c .before .before .round-listed .ensures .0) in
-    no-33 _ _ (q .0 .0) _ _ refl (paired-below _ (a .jobs .now) (a .successors .now) (q .1)) _ (settling-true _ _ _ _ _ _ (c .before .before .before .before .loop .inv) _ (q .0 .0) t)
+    let e = c .before .before in
+    let few = started e .pre .0 .0 in
+    let t = rw (c .enum-told .given .1) at (e .round-listed .ensures .0) in
+    no-33 _ _ few _ _ refl (below e) _ (settling-true _ _ _ _ _ _ (looped e .loop .inv) _ few t)
 
 enum-told-2 : tie.Need-enum-told-2 Inv-loop μ-loop
 enum-told-2 c = search needs
 
 returns-2 : tie.Need-returns-2 Inv-loop μ-loop
 returns-2 c =
-    let q = c .before .before .before .before .before .before .before .pre in
-    let a = c .before .before .before .before .before .before .before .args in
-    let t = rw (c .enum-told2 .given .1) at (c .before .before .round-listed .ensures .0) in
-    says-33 _ _ (q .0 .0) _ _ refl (paired-below _ (a .jobs .now) (a .successors .now) (q .1)) (settling-false _ _ _ _ _ (c .before .before .before .before .loop .levels) (c .before .before .before .before .loop .inv) t)
+    let e = c .before .before in
+    let t = rw (c .enum-told2 .given .1) at (e .round-listed .ensures .0) in
+    says-33 _ _ (started e .pre .0 .0) _ _ refl (below e) (settling-false _ _ _ _ _ (looped e .loop .levels) (looped e .loop .inv) t)
 
 enum-told-3 : tie.Need-enum-told-3 Inv-loop μ-loop
 enum-told-3 c = search needs
 
 loop-less : tie.Need-loop-less Inv-loop μ-loop
 loop-less c =
-    let t = rw (c .enum-told3 .given .1) at (c .before .before .round-listed .ensures .0) in
-    settling-less _ _ _ _ _ _ (c .before .before .before .before .loop .inv) t
+    let e = c .before .before in
+    let t = rw (c .enum-told3 .given .1) at (e .round-listed .ensures .0) in
+    settling-less _ _ _ _ _ _ (looped e .loop .inv) t
 
 loop-again : tie.Need-loop-again Inv-loop μ-loop
 loop-again c =
-    let t = rw (c .enum-told3 .given .1) at (c .before .before .round-listed .ensures .0) in
-    settling-again _ _ _ _ _ _ (c .before .before .before .before .loop .inv) (c .before .before .round-listed .ensures .1) t
+    let e = c .before .before in
+    let t = rw (c .enum-told3 .given .1) at (e .round-listed .ensures .0) in
+    settling-again _ _ _ _ _ _ (looped e .loop .inv) (e .round-listed .ensures .1) t
 
 pub has-cycle-spec : {M : Type 1} → statement M
 has-cycle-spec =

@@ -1,5 +1,4 @@
 -- `precedence::next_pair` meets its contract: heads of rows are passed over, and the pairs still to come are the same.
-use Prim.Native.Nat.{_-_}
 use mathlib.Core.Path.{refl}
 use native.Mathlib.Omega.{arith}
 use borrow.Author.Needs.{needs}

@@ -12,7 +12,8 @@ use Rattle.scribe.proofs.put_project.Statement.{statement}
 use Rattle.scribe.proofs.put_project.Tie as tie
 
 -- there is room for the whole text, and it is not too long to be counted
-room : (k : tie.After-shared-slice-known2) → let a = k .before .before .args in RoomFor (a .dry) 0 (projectText (made (a .cap) (a .dur .now) (a .dem .now) (paired (a .jobs .now) (a .successors .now)))) (a .buffer .now)
+room : (k : tie.After-shared-slice-known2) → let a = k .before .before .args in
+    RoomFor (a .dry) 0 (projectText (made (a .cap) (a .dur .now) (a .dem .now) (paired (a .jobs .now) (a .successors .now)))) (a .buffer .now)
 room k =
     let s = k .before .before in
     whole-room _ (s .pre .0) (s .fits .cap .fits) (λ i. k .before .shared-slice-known .given i .fits) (λ i. k .shared-slice-known2 .given i .fits) (s .pre .1)
@@ -31,7 +32,9 @@ cast-put : tie.Need-cast-put
 cast-put c = search needs
 
 put-requires : tie.Need-put-requires
-put-requires c κs = room-same (first-room (write-parts _ (c .before .before .before .before .before .before .pre .0)) (room (c .before .before .before .before))) (omega arith) (number-same (omega arith) (omega arith))
+put-requires c κs =
+    let k = c .before .before .before .before in
+    room-same (first-room (write-parts _ (k .before .before .pre .0)) (room k)) (omega arith) (number-same (omega arith) (omega arith))
 
 put-requires-2 : tie.Need-put-requires-2
 put-requires-2 c κs =

@@ -8,6 +8,10 @@ use Rattle.lists.proofs.Sets.{clash}
 use Rattle.scribe.proofs.write.Statement.{statement}
 use Rattle.scribe.proofs.write.Tie as tie
 
+-- from the place behind the dry run to the start of the call
+abbrev started : tie.After-put-project → tie.Start
+started e = e .before .before .before .before .before .before .before
+
 put-project-requires : tie.Need-put-project-requires
 put-project-requires c κs = (c .before .before .before .before .before .before .pre, λ e. clash true refl e)
 
@@ -19,8 +23,9 @@ returns c = (omega (arith, c .before .before .before .put-project .ensures .coun
 
 put-project-requires-2 : tie.Need-put-project-requires-2
 put-project-requires-2 c κs =
-    let d = c .before .before .before .before .put-project .ensures in
-    (c .before .before .before .before .before .before .before .before .before .before .before .pre, λ e. omega (arith, d .count, ap length (d .bytes), c .before .if1 .left))
+    let dry = c .before .before .before .before in
+    let d = dry .put-project .ensures in
+    (started dry .pre, λ e. omega (arith, d .count, ap length (d .bytes), c .before .if1 .left))
 
 same-length-2 : tie.Need-same-length-2
 same-length-2 c = search needs

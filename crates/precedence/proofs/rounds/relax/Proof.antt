@@ -1,6 +1,6 @@
 -- `precedence::rounds::relax` meets its contract: the pairs passed have made the values of the first ones, and the rest makes of them what all pairs
 -- make; the walk fits.
-use Prim.Native.Nat.{_-_, _<_}
+use Prim.Native.Nat.{_<_}
 use native.Mathlib.Omega.{arith}
 use borrow.Author.Needs.{needs}
 use lib.ListN.{length, drop}

@@ -101,7 +101,8 @@ put-digits-store-requires-2 : (t : ℕ) → put-digits-lts.Need-store-requires-2
 ) (put-digits-at t) put-digits.Post
 put-digits-store-requires-2 t c κs =
     let s = c .before .before .before .before .before .before .before in
-    room-same (room-back _ _ (rw (decimal-more (s .args .v) (c .before .before .before .before .before .if1 .left)) at (s .pre .1)) (c .before .before .before .put-digits .ensures)) (omega arith) (ap (λ (b : ℕ). b ∷ []) (omega arith))
+    let d = decimal-more (s .args .v) (c .before .before .before .before .before .if1 .left) in
+    room-same (room-back _ _ (rw d at (s .pre .1)) (c .before .before .before .put-digits .ensures)) (omega arith) (ap (λ (b : ℕ). b ∷ []) (omega arith))
 
 put-digits-same-length-2 : (t : ℕ) → put-digits-lts.Need-same-length-2 (
   store-reads.Asked,
