@@ -3,7 +3,7 @@ use Prim.Native.Nat.{ℕ, _≤_, _<_}
 use native.Mathlib.Omega.{arith}
 use mathlib.Core.Path.{_≡_, refl, sym, _∙_, subst}
 use mathlib.Core.List.{List}
-use mathlib.Core.Logic.{inl, inr}
+use mathlib.Core.Logic.{_⊎_, inl, inr, ⊎-elim}
 use lib.ListN.{length}
 use Rattle.joblist.specs.Limits.{mostTime}
 use Rattle.chains.specs.Paths.{Cycle}
@@ -52,6 +52,17 @@ refusal-one c =
     unless-alone 31 (c .horizon ≤ mostTime) (mostTime < c .horizon) (Met (c .text) (c .resource) (c .horizon) (c .lent)) (λ f g. omega arith)
     (met-alone (c .text) (c .resource) (c .horizon) (c .lent))
 
+-- ---- one test
+
+module _ {k c : ℕ} {Fact Fault N : Type 0} (t : (Fault × (c ≡ k)) ⊎ (Fact × N)) where
+  -- the number is another: the fact holds, and the number comes from what is next
+  pub past : (c ≡ k → ⊥) → Fact × N
+  past f = ⊎-elim (λ p. absurd (f (p .1))) (λ p. p) t
+
+  -- what is next does not give the number: the fault is there
+  pub at-fault : (N → ⊥) → Fault
+  at-fault f = ⊎-elim (λ p. p .0) (λ p. absurd (f (p .1))) t
+
 -- ---- a text that says x
 
 -- what the tests have let through
@@ -62,11 +73,11 @@ pub record Passed (x : Project) (resource horizon : ℕ) (L : Lent) : Type 0 whe
   pub short : TooLong x horizon → ⊥
 
 pub tested-none : (x : Project) (resource horizon : ℕ) (L : Lent) → Tested x resource horizon L 0 → Passed x resource horizon L
-tested-none x resource horizon L (inl p) = absurd (omega (arith, p .1))
-tested-none x resource horizon L (inr (a, inl p)) = absurd (omega (arith, p .1))
-tested-none x resource horizon L (inr (a, inr (b, inl p))) = absurd (omega (arith, p .1))
-tested-none x resource horizon L (inr (a, inr (b, inr (d, inl p)))) = absurd (omega (arith, p .1))
-tested-none x resource horizon L (inr (a, inr (b, inr (d, inr (e, p))))) = record { chosen = a; fits = b; acyclic = d; short = e }
+tested-none x resource horizon L t =
+    let a = past t (λ z. omega (arith, z)) in
+    let b = past (a .1) (λ z. omega (arith, z)) in
+    let d = past (b .1) (λ z. omega (arith, z)) in
+    record { chosen = a .0; fits = b .0; acyclic = d .0; short = past (d .1) (λ z. omega (arith, z)) .0 }
 
 pub none-tested : (x : Project) (resource horizon : ℕ) (L : Lent) → Passed x resource horizon L → Tested x resource horizon L 0
 none-tested x resource horizon L p = inr (p .chosen, inr (p .fits, inr (p .acyclic, inr (p .short, refl))))

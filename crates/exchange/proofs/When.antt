@@ -15,7 +15,7 @@ use Rattle.exchange.specs.Calls.{TextCall, TextAfter}
 use Rattle.exchange.specs.Tests.{Tested, Met, Refusal}
 use Rattle.exchange.specs.Table.{Leaves, Answered}
 use Rattle.exchange.specs.When.{Meets, AboveLimit, Says, NoResource, NoRoom, Cyclic, ChainTooLong, Readable}
-use Rattle.exchange.proofs.Tests.{Passed, tested-none, refusal-one, refusal-of}
+use Rattle.exchange.proofs.Tests.{Passed, past, at-fault, tested-none, refusal-one, refusal-of}
 
 -- ---- an answer and the number of the first test that fails
 
@@ -126,41 +126,34 @@ module _ (c : TextCall) where
     when-37 e = (λ r. to (behind r), λ n. of-tested k (n .says) (inl (n .none, e)))
       where
         to : (s : Says c) × Tested (s .x) (c .resource) (c .horizon) (c .lent) k → NoResource c
-        to (s, inl p) = record { says = s; none = p .0 }
-        to (s, inr (u, inl p)) = absurd (omega (arith, p .1))
-        to (s, inr (u, inr (v, inl p))) = absurd (omega (arith, p .1))
-        to (s, inr (u, inr (v, inr (w, inl p)))) = absurd (omega (arith, p .1))
-        to (s, inr (u, inr (v, inr (w, inr (y, p))))) = absurd (omega (arith, p))
+        to (s, t) = record { says = s; none = at-fault t (λ r. omega (arith, past (past (past r (λ z. omega (arith, z)) .1) (λ z. omega (arith, z)) .1) (λ z. omega (arith, z)) .1)) }
 
     pub when-38 : k ≡ 38 → Refusal c k ↔ NoRoom c
     when-38 e = (λ r. to (behind r), λ n. of-tested k (n .says) (inr (n .chosen, inl (n .unfit, e))))
       where
         to : (s : Says c) × Tested (s .x) (c .resource) (c .horizon) (c .lent) k → NoRoom c
-        to (s, inl p) = absurd (omega (arith, p .1))
-        to (s, inr (u, inl p)) = record { says = s; chosen = u; unfit = p .0 }
-        to (s, inr (u, inr (v, inl p))) = absurd (omega (arith, p .1))
-        to (s, inr (u, inr (v, inr (w, inl p)))) = absurd (omega (arith, p .1))
-        to (s, inr (u, inr (v, inr (w, inr (y, p))))) = absurd (omega (arith, p))
+        to (s, t) =
+            let u = past t (λ z. omega (arith, z)) in
+            record { says = s; chosen = u .0; unfit = at-fault (u .1) (λ r. omega (arith, past (past r (λ z. omega (arith, z)) .1) (λ z. omega (arith, z)) .1)) }
 
     pub when-33 : k ≡ 33 → Refusal c k ↔ Cyclic c
     when-33 e = (λ r. to (behind r), λ n. of-tested k (n .says) (inr (n .chosen, inr (n .fits, inl (n .cycle, e)))))
       where
         to : (s : Says c) × Tested (s .x) (c .resource) (c .horizon) (c .lent) k → Cyclic c
-        to (s, inl p) = absurd (omega (arith, p .1))
-        to (s, inr (u, inl p)) = absurd (omega (arith, p .1))
-        to (s, inr (u, inr (v, inl p))) = record { says = s; chosen = u; fits = v; cycle = p .0 }
-        to (s, inr (u, inr (v, inr (w, inl p)))) = absurd (omega (arith, p .1))
-        to (s, inr (u, inr (v, inr (w, inr (y, p))))) = absurd (omega (arith, p))
+        to (s, t) =
+            let u = past t (λ z. omega (arith, z)) in
+            let v = past (u .1) (λ z. omega (arith, z)) in
+            record { says = s; chosen = u .0; fits = v .0; cycle = at-fault (v .1) (λ r. omega (arith, past r (λ z. omega (arith, z)) .1)) }
 
     pub when-34 : k ≡ 34 → Refusal c k ↔ ChainTooLong c
     when-34 e = (λ r. to (behind r), λ n. of-tested k (n .says) (inr (n .chosen, inr (n .fits, inr (n .acyclic, inl (n .long, e))))))
       where
         to : (s : Says c) × Tested (s .x) (c .resource) (c .horizon) (c .lent) k → ChainTooLong c
-        to (s, inl p) = absurd (omega (arith, p .1))
-        to (s, inr (u, inl p)) = absurd (omega (arith, p .1))
-        to (s, inr (u, inr (v, inl p))) = absurd (omega (arith, p .1))
-        to (s, inr (u, inr (v, inr (w, inl p)))) = record { says = s; chosen = u; fits = v; acyclic = w; long = p .0 }
-        to (s, inr (u, inr (v, inr (w, inr (y, p))))) = absurd (omega (arith, p))
+        to (s, t) =
+            let u = past t (λ z. omega (arith, z)) in
+            let v = past (u .1) (λ z. omega (arith, z)) in
+            let w = past (v .1) (λ z. omega (arith, z)) in
+            record { says = s; chosen = u .0; fits = v .0; acyclic = w .0; long = at-fault (w .1) (λ r. omega (arith, r)) }
 
   -- nothing is refused: the text meets no 0, which is no refusal's number
   pub when-read : (c .text ≡ bad 0 → ⊥) → Refusal c 0 ↔ Readable c
