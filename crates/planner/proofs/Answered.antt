@@ -1,11 +1,10 @@
 -- The call's answer is the answer table's: a refusal by tests 1 to 3, a clash where a window is too short, else what the work leaves, with the windows
 -- as submitted unless it settled, and the log cleared where the room is short.
-use Prim.Native.Nat.{ℕ, zero, suc}
+use Prim.Native.Nat.{ℕ, zero, suc, _≤_}
 use native.Mathlib.Omega.{arith}
 use mathlib.Core.Path.{_≡_, refl, sym, ap, ap₂, subst, _∙_}
-use mathlib.Core.List.{List, [], _∷_}
-use lib.ListN.{length}
-use lib.Seq.{take-all}
+use mathlib.Core.List.{List, [], _∷_, _++_}
+use lib.ListN.{length, drop, length-append, length-drop}
 use Rattle.narrowing.specs.Windows.{Win, win}
 use Rattle.narrowing.specs.Run.{Out, settled, clash, short}
 use Rattle.answers.specs.declared.Answer.{Answer}
@@ -13,7 +12,6 @@ use Rattle.answers.specs.Said.{Word, said, says}
 use Rattle.journal.specs.Journal.{cleared}
 use Rattle.joblist.specs.Limits.{jobs, fourLists, supply}
 use Rattle.joblist.specs.GoodList.{refusal}
-use Rattle.windows.proofs.Copies.{over, over-whole}
 use Rattle.timetable.specs.Search.{leanMember}
 use Rattle.timetable.specs.Table.{Call, call, Good, TooShort, refusalOf, leaves, ended, tabled, narrowed, narrowedBy}
 use Rattle.timetable.specs.Promise.{Narrows}
@@ -33,9 +31,9 @@ logBy c (Answer.Settled n) log = log
 logBy c (Answer.Clash n j) log = log
 logBy c (Answer.Refused k) log = cleared (c .log)
 
--- a list copied over one of its length
-pub copied-over : (from to : List ℕ) → length from ≡ length to → over from to ≡ from
-copied-over from to h = over-whole from to (omega arith) ∙ take-all (length to) from (omega arith)
+-- a copy keeps its length where its front of n words becomes `out`
+pub kept-length : (n m : ℕ) (kept out : List ℕ) → length kept ≡ m → n ≤ m → length out ≡ n → length (out ++ drop n kept) ≡ m
+kept-length n m kept out h k e = simp (length-append, length-drop) (omega arith)
 
 -- a cleared log is known by its length
 pub cleared-same : (a b : List ℕ) → length a ≡ length b → cleared a ≡ cleared b

@@ -1,36 +1,86 @@
 -- `planner::narrow` meets its contract: a refusal by its number, a clash where a window is too short, else the work on copies, which are the caller's
--- windows at the front of two arrays.
-use Prim.Native.Nat.{_≤_}
+-- windows at the front of two arrays. Settled windows come back from there; the caller's are else untouched, and a log that is short of room is cleared.
+use Prim.Native.Nat.{ℕ, _≤_}
 use native.Mathlib.Omega.{arith}
-use mathlib.Core.Path.{_≡_, refl, sym}
+use mathlib.Core.Path.{_≡_, refl, sym, ap, _∙_}
+use mathlib.Core.List.{List}
 use borrow.Author.Needs.{needs}
-use lib.ListN.{length}
-use lib.Seq.{length-take-le}
+use lib.ListN.{length, take, drop}
+use lib.Seq.{take-at}
 use Rattle.narrowing.specs.Windows.{win}
+use Rattle.answers.specs.declared.Answer.{Answer}
+use Rattle.answers.specs.Said.{says}
 use Rattle.joblist.specs.Limits.{mostJobs}
 use Rattle.windows.proofs.Copies.{saved-back}
 use Rattle.windows.proofs.TooShort.{answer-too-short, answer-long}
-use Rattle.timetable.specs.Table.{Call, call, Good, Workable}
-use Rattle.planner.proofs.Answered.{accepted, refused, clashed}
+use Rattle.timetable.specs.Table.{Call, call, leaves, Good, Workable}
+use Rattle.timetable.specs.Promise.{Narrows}
+use Rattle.timetable.proofs.Good.{ends-sized}
+use Rattle.planner.proofs.Answered.{winBy, logBy, cleared-same, kept-length, accepted, refused, clashed, worked}
 use Rattle.planner.proofs.narrow.Statement.{statement}
 use Rattle.planner.proofs.narrow.Tie as tie
 
--- ---- past the tests 1 to 3, and past the test for windows that are too short
+-- ---- the places that are gone back to: past the tests 1 to 3, past the test for short windows, the windows saved, the work done
 
-abbrev called : tie.Else1 → Call
-called d = let s = d .before .before .before .before .before .before .before .before .before .args in call (win (s .est .now) (s .lct .now)) (s .dur .now) (s .dem .now) (s .cap) (s .log .now)
+abbrev begun : tie.Else1 → tie.Start
+begun d = d .before .before .before .before .before .before .before .before .before
 
-good : (d : tie.Else1) → Good (called d)
-good d = accepted (called d) _ (d .before .refusal .ensures) (d .if1 .left)
+abbrev passed : tie.Else2 → tie.Else1
+passed d = d .before .before .before .before
 
-workable : (d : tie.Else2) → Workable (called (d .before .before .before .before))
-workable d = record { good = good (d .before .before .before .before); long = answer-long _ _ _ _ (d .before .lowest-too-short .ensures) (d .if2 .left) }
+abbrev long : tie.After-save2 → tie.Else2
+long d = d .before .before .before .before .before .before
 
-few : (d : tie.Else2) → length (d .before .before .before .before .before .before .before .before .before .before .before .before .before .args .est .now) ≤ mostJobs
+abbrev saved : tie.After-work → tie.After-save2
+saved d = d .before .before .before .before
+
+-- ---- the call, and what the tests have shown
+
+abbrev called : tie.Start → Call
+called s = let a = s .args in call (win (a .est .now) (a .lct .now)) (a .dur .now) (a .dem .now) (a .cap) (a .log .now)
+
+good : (d : tie.Else1) → Good (called (begun d))
+good d = accepted (called (begun d)) _ (d .before .refusal .ensures) (d .if1 .left)
+
+workable : (d : tie.Else2) → Workable (called (begun (passed d)))
+workable d = record { good = good (passed d); long = answer-long _ _ _ _ (d .before .lowest-too-short .ensures) (d .if2 .left) }
+
+few : (d : tie.Else2) → length (begun (passed d) .args .est .now) ≤ mostJobs
 few d = workable d .good .few
 
-ends-sized : (d : tie.Else2) → length (d .before .before .before .before .before .before .before .before .before .before .before .before .before .args .lct .now) ≡ length (d .before .before .before .before .before .before .before .before .before .before .before .before .before .args .est .now)
-ends-sized d = workable d .good .sized .1 .0
+same : (d : tie.Else2) → length (begun (passed d) .args .est .now) ≡ length (begun (passed d) .args .lct .now)
+same d = sym (ends-sized (workable d .good))
+
+-- ---- once both lists are saved: the fronts of the copies
+
+abbrev origin : tie.After-save2 → tie.Start
+origin d = begun (passed (long d))
+
+abbrev starts : tie.After-save2 → List ℕ
+starts d = d .before .before .before .save .last .1 .0
+
+abbrev ends : tie.After-save2 → List ℕ
+ends d = d .save2 .last .1 .0
+
+starts-front : (d : tie.After-save2) → take (length (origin d .args .est .now)) (starts d) ≡ origin d .args .est .now
+starts-front d = saved-back (origin d .args .est .now) _ (starts d) _ (d .before .before .before .save .ensures .0) refl
+
+ends-front : (d : tie.After-save2) → take (length (origin d .args .est .now)) (ends d) ≡ origin d .args .lct .now
+ends-front d = saved-back (origin d .args .lct .now) _ (ends d) _ (d .save2 .ensures .0) (same (long d))
+
+-- ---- after the work: the lengths of what it made of the fronts, and the promise for each answer
+
+starts-length : (d : tie.After-work) → length (d .work .last .0) ≡ length (origin (saved d) .args .est .now)
+starts-length d = d .work .kept .0 ∙ ap length (starts-front (saved d))
+
+ends-length : (d : tie.After-work) → length (d .work .last .1 .0) ≡ length (origin (saved d) .args .est .now)
+ends-length d = d .work .kept .1 .0 ∙ ap length (ends-front (saved d)) ∙ sym (same (long (saved d)))
+
+done : (d : tie.After-work) (a : Answer) → d .work .result ≡ a
+    → let C = called (origin (saved d)) in Narrows C (leaves (says a) (winBy C a (win (d .work .last .0) (d .work .last .1 .0))) (logBy C a (d .work .last .1 .1 .1 .1 .1 .0)))
+done d a e =
+    let s = saved d in
+    worked (called (origin s)) (good (passed (long s))) a _ _ _ _ (starts-front s) (ends-front s) (rw e at (d .work .ensures))
 
 -- ---- the needs
 
@@ -56,34 +106,54 @@ same-length-4 : tie.Need-same-length-4
 same-length-4 c = search needs
 
 returns-2 : tie.Need-returns-2
-returns-2 c = clashed (called (c .before .before .before .before)) (good (c .before .before .before .before)) _ (answer-too-short _ _ _ _ (c .before .lowest-too-short .ensures) (c .if2 .taken))
+returns-2 c =
+    let d = c .before .before .before .before in
+    clashed (called (begun d)) (good d) _ (answer-too-short _ _ _ _ (c .before .lowest-too-short .ensures) (c .if2 .taken))
 
 save-requires : tie.Need-save-requires
 save-requires c κs = (few (c .before .before), search needs)
 
 save-requires-2 : tie.Need-save-requires-2
-save-requires-2 c κs = (omega (arith, few (c .before .before .before .before .before), ends-sized (c .before .before .before .before .before)), search needs)
+save-requires-2 c κs = let d = c .before .before .before .before .before in (omega (arith, few d, same d), search needs)
 
 array-borrow-prefix-e : tie.Need-array-borrow-prefix-e
-array-borrow-prefix-e c = omega (arith, few (c .before .before .before .before .before .before .before .before), c .before .before .before .before .before .save .ensures .1)
+array-borrow-prefix-e c = omega (arith, few (long c), c .before .before .before .save .ensures .1)
 
-slice-aggregate-narrow-good : tie.Need-slice-aggregate-narrow-good
-slice-aggregate-narrow-good c = sym (length-take-le _ _ (omega (arith, few (c .before .before .before .before .before .before .before .before .before), c .before .before .before .before .before .before .save .ensures .1)))
+slice-aggregate-work : tie.Need-slice-aggregate-work
+slice-aggregate-work c = ap length (sym (starts-front (c .before)))
 
 array-borrow-prefix-l : tie.Need-array-borrow-prefix-l
-array-borrow-prefix-l c = omega (arith, few (c .before .before .before .before .before .before .before .before .before), c .before .before .before .save2 .ensures .1)
+array-borrow-prefix-l c = omega (arith, few (long (c .before)), c .before .save2 .ensures .1)
 
-slice-aggregate-narrow-good-2 : tie.Need-slice-aggregate-narrow-good-2
-slice-aggregate-narrow-good-2 c = sym (length-take-le _ _ (omega (arith, few (c .before .before .before .before .before .before .before .before .before .before), c .before .before .before .before .save2 .ensures .1)))
+slice-aggregate-work-2 : tie.Need-slice-aggregate-work-2
+slice-aggregate-work-2 c = same (long (c .before .before)) ∙ ap length (sym (ends-front (c .before .before)))
 
-narrow-good-requires : tie.Need-narrow-good-requires
-narrow-good-requires c κs =
-    let s = c .before .before .before .before .before .before .before .before .before .before .before .before .before .before .before .before .before .before .before .before .before .before .before .before .args in
-    let n = length (s .est .now) in (
-      workable (c .before .before .before .before .before .before .before .before .before .before .before),
-      saved-back (s .est .now) _ (c .before .before .before .before .before .before .before .before .save .last .1 .0) n (c .before .before .before .before .before .before .before .before .save .ensures .0) refl,
-      saved-back (s .lct .now) _ (c .before .before .before .before .before .save2 .last .1 .0) n (c .before .before .before .before .before .save2 .ensures .0) (sym (ends-sized (c .before .before .before .before .before .before .before .before .before .before .before))),
-    )
+work-requires : tie.Need-work-requires
+work-requires c κs = let d = c .before .before .before in rw (starts-front d, ends-front d) (workable (long d))
+
+enum-known-end : tie.Need-enum-known-end
+enum-known-end c = search needs
+
+restore-requires : tie.Need-restore-requires
+restore-requires c κs =
+    let d = c .before .before .before .before .before .before .before .before .before in
+    let f = few (long (saved d)) in
+    (f, kept-length _ mostJobs (starts (saved d)) (d .work .last .0) (saved d .before .before .before .save .ensures .1) f (starts-length d))
+
+restore-requires-2 : tie.Need-restore-requires-2
+restore-requires-2 c κs =
+    let d = c .before .before .before .before .before .before .before .before .before .before .before .before .before .before in
+    let f = few (long (saved d)) in
+    (omega (arith, f, same (long (saved d))), kept-length _ mostJobs (ends (saved d)) (d .work .last .1 .0) (saved d .save2 .ensures .1) f (ends-length d))
+
+enum-known-end-2 : tie.Need-enum-known-end-2
+enum-known-end-2 c = search needs
+
+enum-known-end-3 : tie.Need-enum-known-end-3
+enum-known-end-3 c = search needs
+
+clear-requires : tie.Need-clear-requires
+clear-requires c κs = search needs
 
 same-length-5 : tie.Need-same-length-5
 same-length-5 c = search needs
@@ -95,7 +165,41 @@ same-length-7 : tie.Need-same-length-7
 same-length-7 c = search needs
 
 returns-3 : tie.Need-returns-3
-returns-3 c = c .before .before .before .before .before .before .before .before .narrow-good .ensures
+returns-3 c =
+    let back = c .before .before in
+    let d = back .before .before .before .before .before .before .before .before .before .before .before .before .before .before .before in
+    let a = origin (saved d) .args in
+    let n = length (a .est .now) in
+    let e = back .before .before .before .before .before .restore .ensures ∙ take-at (d .work .last .0) (drop n (starts (saved d))) n (starts-length d) in
+    let l = back .restore2 .ensures ∙ take-at (d .work .last .1 .0) (drop n (ends (saved d))) (length (a .lct .now)) (ends-length d ∙ same (long (saved d))) in
+    rw (e, l) (done d _ (back .before .before .before .before .before .before .before .before .before .end .given .1))
+
+same-length-8 : tie.Need-same-length-8
+same-length-8 c = search needs
+
+same-length-9 : tie.Need-same-length-9
+same-length-9 c = search needs
+
+same-length-10 : tie.Need-same-length-10
+same-length-10 c = search needs
+
+returns-4 : tie.Need-returns-4
+returns-4 c = done (c .before .before .before .before .before .before .before) _ (c .before .end2 .given .1)
+
+same-length-11 : tie.Need-same-length-11
+same-length-11 c = search needs
+
+same-length-12 : tie.Need-same-length-12
+same-length-12 c = search needs
+
+same-length-13 : tie.Need-same-length-13
+same-length-13 c = search needs
+
+returns-5 : tie.Need-returns-5
+returns-5 c =
+    let erased = c .before .before in
+    let d = erased .before .before .before .before .before .before .before .before .before in
+    rw (erased .clear .ensures ∙ cleared-same _ (origin (saved d) .args .log .now) (d .work .kept .1 .1 .1 .1 .1 .0)) (done d _ (erased .before .before .before .end3 .given .1))
 
 pub narrow-spec : {M : Type 1} → statement M
 narrow-spec =
@@ -112,11 +216,25 @@ narrow-spec =
     save-requires
     save-requires-2
     array-borrow-prefix-e
-    slice-aggregate-narrow-good
+    slice-aggregate-work
     array-borrow-prefix-l
-    slice-aggregate-narrow-good-2
-    narrow-good-requires
+    slice-aggregate-work-2
+    work-requires
+    enum-known-end
+    restore-requires
+    restore-requires-2
+    enum-known-end-2
+    enum-known-end-3
+    clear-requires
     same-length-5
     same-length-6
     same-length-7
-    returns-3)
+    returns-3
+    same-length-8
+    same-length-9
+    same-length-10
+    returns-4
+    same-length-11
+    same-length-12
+    same-length-13
+    returns-5)
