@@ -23,15 +23,15 @@ use Rattle.profile.specs.declared.kept.Outline.{Outline}
 use Rattle.loads.specs.Loads.{fullLoad, Loaded}
 use Rattle.loads.proofs.Full.{load-full}
 use Rattle.searches.specs.declared.Found.{Found}
-use Rattle.searches.specs.Found.{found, nextTime}
+use Rattle.searches.specs.Found.{asFound, nextTime}
 use Rattle.searches.specs.Busy.{Busy, DemandIn, LastBusy, FirstBusy}
 
 -- an answer, taken back
-pub found-some : (x : Option ℕ) (t : ℕ) → found x ≡ Found.At t → x ≡ some t
+pub found-some : (x : Option ℕ) (t : ℕ) → asFound x ≡ Found.At t → x ≡ some t
 found-some none t h = cc
 found-some (some u) t h = cc
 
-pub found-none : (x : Option ℕ) → found x ≡ Found.Nothing → x ≡ none
+pub found-none : (x : Option ℕ) → asFound x ≡ Found.Nothing → x ≡ none
 found-none none h = refl
 found-none (some u) h = cc
 
@@ -50,15 +50,15 @@ module _ (e l p r : List ℕ) (cap j : ℕ) where
   Is late x = Least (Crowded J (win e l) j) s (p ! j) x
 
   -- what has been found is what the definition finds
-  answers : (side : ℕ) (v : Side) → sideOf side ≡ v → (x : Option ℕ) → Is v x → found x ≡ found (nextTime (asked e l p r cap) j (sideOf side))
-  answers side early q x h = rw q (ap found (greatest-one (Crowded J (win e l) j) (e ! j) (p ! j) x (best J (win e l) j early) h (greatest-crowded J (win e l) j)))
-  answers side late q x h = rw q (ap found (least-one (Crowded J (win e l) j) s (p ! j) x (best J (win e l) j late) h (least-crowded J (win e l) j)))
+  answers : (side : ℕ) (v : Side) → sideOf side ≡ v → (x : Option ℕ) → Is v x → asFound x ≡ asFound (nextTime (asked e l p r cap) j (sideOf side))
+  answers side early q x h = rw q (ap asFound (greatest-one (Crowded J (win e l) j) (e ! j) (p ! j) x (best J (win e l) j early) h (greatest-crowded J (win e l) j)))
+  answers side late q x h = rw q (ap asFound (least-one (Crowded J (win e l) j) s (p ! j) x (best J (win e l) j late) h (least-crowded J (win e l) j)))
 
   -- nothing is crowded for the job
-  pub rests : (side : ℕ) → ((t : ℕ) → Crowded J (win e l) j t → ⊥) → Found.Nothing ≡ found (nextTime (asked e l p r cap) j (sideOf side))
+  pub rests : (side : ℕ) → ((t : ℕ) → Crowded J (win e l) j t → ⊥) → Found.Nothing ≡ asFound (nextTime (asked e l p r cap) j (sideOf side))
   rests side h = go (sideOf side) refl
     where
-      go : (v : Side) → sideOf side ≡ v → Found.Nothing ≡ found (nextTime (asked e l p r cap) j (sideOf side))
+      go : (v : Side) → sideOf side ≡ v → Found.Nothing ≡ asFound (nextTime (asked e l p r cap) j (sideOf side))
       go early q = answers side early q none (λ t i. h t (i .has))
       go late q = answers side late q none (λ t i. h t (i .has))
 
@@ -92,10 +92,10 @@ module _ (e l p r : List ℕ) (cap j : ℕ) where
           last : LastWith (Crowded J (win e l) j) (e ! j) f x
           last = last-as crowds busies (b (fullLoad p r (win e l)) (L .keeps) demand-in)
 
-          pub early-rests : x ≤ e ! j → Found.Nothing ≡ found (nextTime (asked e l p r cap) j (sideOf side))
+          pub early-rests : x ≤ e ! j → Found.Nothing ≡ asFound (nextTime (asked e l p r cap) j (sideOf side))
           early-rests h = answers side early (side-early side q) none (last-none last h)
 
-          pub early-moves : e ! j < x → Found.At (x - 1) ≡ found (nextTime (asked e l p r cap) j (sideOf side))
+          pub early-moves : e ! j < x → Found.At (x - 1) ≡ asFound (nextTime (asked e l p r cap) j (sideOf side))
           early-moves h = answers side early (side-early side q) (some (x - 1)) (last-some last (x - 1) (omega arith) (omega arith))
 
         module _ (q : side ≡ 0 → ⊥) (b : FirstBusy ts ld k cap (r ! j) s f s (l ! j) x) where
@@ -105,8 +105,8 @@ module _ (e l p r : List ℕ) (cap j : ℕ) where
           first : FirstWith (Crowded J (win e l) j) s (s + p ! j) x
           first = rw stretch (first-as crowds busies (b (fullLoad p r (win e l)) (L .keeps) demand-in))
 
-          pub late-rests : l ! j ≤ x → Found.Nothing ≡ found (nextTime (asked e l p r cap) j (sideOf side))
+          pub late-rests : l ! j ≤ x → Found.Nothing ≡ asFound (nextTime (asked e l p r cap) j (sideOf side))
           late-rests h = answers side late (side-late side q) none (first-none first (omega (arith, stretch)))
 
-          pub late-moves : x < l ! j → Found.At x ≡ found (nextTime (asked e l p r cap) j (sideOf side))
+          pub late-moves : x < l ! j → Found.At x ≡ asFound (nextTime (asked e l p r cap) j (sideOf side))
           late-moves h = answers side late (side-late side q) (some x) (first-some first (omega (arith, stretch)))

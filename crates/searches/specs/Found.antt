@@ -12,6 +12,6 @@ abbrev pub nextTime : Call → ℕ → Side → Option ℕ
 nextTime c j s = best (jobsOf c) (c .win) j s
 
 -- the answer that stands for it
-abbrev pub found : Option ℕ → Found
-found none = Nothing
-found (some t) = At t
+abbrev pub asFound : Option ℕ → Found
+asFound none = Nothing
+asFound (some t) = At t

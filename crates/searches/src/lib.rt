@@ -8,7 +8,7 @@ ghost use Rattle.profile.specs.Steps.{behindAll, Points};
 ghost use Rattle.crowding.specs.Asked.{asked};
 ghost use Rattle.timetable.specs.Table.{Workable};
 ghost use Rattle.loads.specs.Loads.{Loaded};
-ghost use Rattle.searches.specs.Found.{found, nextTime};
+ghost use Rattle.searches.specs.Found.{asFound, nextTime};
 ghost use Rattle.searches.specs.Busy.{LastBusy, FirstBusy};
 
 // The time found, if any.
@@ -66,7 +66,7 @@ pub fn next_time(
     kept: Outline,
 ) -> Found
     requires { ⌜ Workable (asked (now est) (now lct) (now dur) (now dem) cap) × (job < length (now dur)) × Loaded (win (now est) (now lct)) (now dur) (now dem) (now ts) (now ld) kept ⌝ }
-    ensures { λ x. ⌜ x ≡ found (nextTime (asked (now (est .entry)) (now (lct .entry)) (now (dur .entry)) (now (dem .entry)) cap) job (sideOf side)) ⌝ }
+    ensures { λ x. ⌜ x ≡ asFound (nextTime (asked (now (est .entry)) (now (lct .entry)) (now (dur .entry)) (now (dem .entry)) cap) job (sideOf side)) ⌝ }
 {
     let r = dem[job];
     let p = dur[job];

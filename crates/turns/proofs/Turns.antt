@@ -10,7 +10,7 @@ use Rattle.journal.specs.Journal.{roomOf, rewritten}
 use Rattle.timetable.specs.Time.{bound}
 use Rattle.timetable.specs.Table.{Call, call, Workable}
 use Rattle.searches.specs.declared.Found.{Found}
-use Rattle.searches.specs.Found.{found}
+use Rattle.searches.specs.Found.{asFound}
 use Rattle.crowding.specs.Asked.{asked}
 use Rattle.timetable.proofs.Moves.{best-applies, time-small}
 use Rattle.searches.proofs.Answers.{found-some}
@@ -22,7 +22,7 @@ module _ (e l p r : List ℕ) (cap : ℕ) (log : List ℕ) (at : Place) (t : ℕ
   abbrev here : Call
   here = call (win e l) p r cap log
 
-  module _ (h : x ≡ found (timeAt here at)) (f : x ≡ Found.At t) where
+  module _ (h : x ≡ asFound (timeAt here at)) (f : x ≡ Found.At t) where
     found-time : timeAt here at ≡ some t
     found-time = found-some (timeAt here at) t (sym h ∙ f)
 
