@@ -1,6 +1,6 @@
 -- `loads::build` meets its contract. The loop's invariant: the lists keep the load of the jobs below k, in at most 2 k + 1 points (`Building`). What falls
 -- is the number of jobs left.
-use Prim.Native.Nat.{_-_}
+use Prim.Native.Nat.{_-_, _<_}
 use native.Mathlib.Omega.{arith}
 use lib.ListN.{length}
 use borrow.Author.Needs.{needs}
@@ -15,15 +15,31 @@ Inv-loop est lct dur dem ts₀ ld₀ kept₀ k₀ ts ld kept k = Building est lc
 abbrev μ-loop : tie.MeasureT-loop
 μ-loop est lct dur dem ts₀ ld₀ kept₀ k₀ ts ld kept k = length est - k
 
+-- ---- the places that are gone back to: the start of the call, the lists begun, the loop's test before a job that draws something
+
+abbrev begun : tie.After-start Inv-loop μ-loop → tie.Start Inv-loop μ-loop
+begun d = d .before .before .before .before .before .before .before .before .before
+
+abbrev started : tie.At-loop Inv-loop μ-loop → tie.After-start Inv-loop μ-loop
+started d = d .before .before .before .before .before
+
+abbrev looped : tie.Then1 Inv-loop μ-loop → tie.At-loop Inv-loop μ-loop
+looped d = d .before .before .before .before
+
+left : (d : tie.Then1 Inv-loop μ-loop) → looped d .loop .k < length (begun (started (looped d)) .args .est .now)
+left d = d .before .before .before .loop-test .taken
+
+-- ---- the needs
+
 start-requires : tie.Need-start-requires Inv-loop μ-loop
 start-requires c κs = (omega arith, c .before .before .before .before .before .before .before .before .pre .2)
 
 loop-holds : tie.Need-loop-holds Inv-loop μ-loop
 loop-holds c =
-    let at-start = c .before .before .before .before in
-    let s = at-start .before .before .before .before .before .before .before .before .before in
+    let d = c .before .before .before .before in
+    let s = begun d in
     let a = s .args in
-    building-start (a .est .now) (a .lct .now) (a .dur .now) (a .dem .now) (s .pre .0) (s .pre .1) (at-start .start .ensures)
+    building-start (a .est .now) (a .lct .now) (a .dur .now) (a .dem .now) (s .pre .0) (s .pre .1) (d .start .ensures)
 
 add-k : tie.Need-add-k Inv-loop μ-loop
 add-k c = search needs
@@ -44,10 +60,10 @@ mul-grow : tie.Need-mul-grow Inv-loop μ-loop
 mul-grow c = search needs
 
 shared-slice-read-grow : tie.Need-shared-slice-read-grow Inv-loop μ-loop
-shared-slice-read-grow c = omega (arith, ends-sized (c .before .before .before .before .before .before .before .loop .inv .workable .good))
+shared-slice-read-grow c = omega (arith, ends-sized (looped (c .before .before .before) .loop .inv .workable .good))
 
 sub-grow : tie.Need-sub-grow Inv-loop μ-loop
-sub-grow c = omega (arith, ends-within (c .before .before .before .before .before .before .before .loop .inv) (c .before .before .before .before .before .before .loop-test .taken))
+sub-grow c = let d = c .before .before .before in omega (arith, ends-within (looped d .loop .inv) (left d))
 
 mul-grow-2 : tie.Need-mul-grow-2 Inv-loop μ-loop
 mul-grow-2 c = search needs
@@ -56,17 +72,19 @@ shared-slice-read-grow-2 : tie.Need-shared-slice-read-grow-2 Inv-loop μ-loop
 shared-slice-read-grow-2 c = search needs
 
 add-grow : tie.Need-add-grow Inv-loop μ-loop
-add-grow c = omega (arith, ends-within (c .before .before .before .before .before .before .before .before .loop .inv) (c .before .before .before .before .before .before .before .loop-test .taken))
+add-grow c = let d = c .before .before .before .before in omega (arith, ends-within (looped d .loop .inv) (left d))
 
 grow-requires : tie.Need-grow-requires Inv-loop μ-loop
-grow-requires c κs =
-    building-asks (c .before .before .before .before .before .before .before .before .loop .inv) (c .before .before .before .before .before .before .before .loop-test .taken)
+grow-requires c κs = let d = c .before .before .before .before in building-asks (looped d .loop .inv) (left d)
 
 loop-less : tie.Need-loop-less Inv-loop μ-loop
 loop-less c = search needs
 
 loop-again : tie.Need-loop-again Inv-loop μ-loop
-loop-again c = building-step (c .before .before .before .before .before .before .before .before .before .before .before .before .before .loop .inv) (c .before .before .before .before .before .before .before .before .before .before .before .before .loop-test .taken) (c .before .before .before .before .grow .ensures)
+loop-again c =
+    let grown = c .before .before .before .before in
+    let d = grown .before .before .before .before .before in
+    building-step (looped d .loop .inv) (left d) (grown .grow .ensures)
 
 loop-less-2 : tie.Need-loop-less-2 Inv-loop μ-loop
 loop-less-2 c = search needs
@@ -75,13 +93,16 @@ loop-again-2 : tie.Need-loop-again-2 Inv-loop μ-loop
 loop-again-2 c = building-pass (c .before .before .before .before .loop .inv) (c .before .before .before .loop-test .taken) (c .if1 .left)
 
 same-length : tie.Need-same-length Inv-loop μ-loop
-same-length c = omega (arith, c .before .loop .inv .size, c .before .before .before .before .before .before .start .ensures .size)
+same-length c = omega (arith, c .before .loop .inv .size, started (c .before) .start .ensures .size)
 
 same-length-2 : tie.Need-same-length-2 Inv-loop μ-loop
-same-length-2 c = omega (arith, c .before .loop .inv .size, c .before .before .before .before .before .before .start .ensures .size, c .before .loop .inv .keeps .points .beside, c .before .before .before .before .before .before .before .before .before .before .before .before .before .before .before .pre .2)
+same-length-2 c =
+    let d = started (c .before) in
+    let i = c .before .loop .inv in
+    omega (arith, i .size, d .start .ensures .size, i .keeps .points .beside, begun d .pre .2)
 
 returns : tie.Need-returns Inv-loop μ-loop
-returns c = building-end (c .before .loop .inv) _ (c .before .before .before .before .before .before .start .ensures .size) (c .loop-test .left)
+returns c = building-end (c .before .loop .inv) _ (started (c .before) .start .ensures .size) (c .loop-test .left)
 
 pub build-spec : {M : Type 1} → statement M
 build-spec =

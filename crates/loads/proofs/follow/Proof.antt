@@ -80,9 +80,11 @@ add-grow c = omega (arith, within (moved-early (c .before .before .before)))
 
 grow-requires : tie.Need-grow-requires
 grow-requires c κs =
-    let s = moved-early (c .before .before .before) in
+    let d = c .before .before .before in
+    let s = moved-early d in
     let a = s .args in
-    follow-asks (s .pre .0) _ (s .pre .1) (sideOf (s .args .side)) (s .args .old) (s .pre .4) (a .est .now ! a .job + a .dur .now ! a .job) (omega (arith, c .before .before .before .before .before .before .before .before .if1 .left)) (omega (arith, within s))
+    follow-asks (s .pre .0) _ (s .pre .1) (sideOf (a .side)) (a .old) (s .pre .4) (a .est .now ! a .job + a .dur .now ! a .job)
+    (omega (arith, d .before .before .before .before .before .if1 .left)) (omega (arith, within s))
 
 same-length-3 : tie.Need-same-length-3
 same-length-3 c = search needs
@@ -92,10 +94,12 @@ same-length-4 c = search needs
 
 returns-2 : tie.Need-returns-2
 returns-2 c =
-    let s = moved-early (c .before .before .before .before .before .before .before .before) in
-    let zero-side = side-early _ (c .before .before .before .before .before .before .before .before .if2 .taken) in
-    let m = c .before .before .before .before .before .before .before .greater .ensures in
-    followed-early (s .pre .0) _ (s .pre .1) (s .args .old) (rw zero-side at (s .pre .4)) (rw zero-side at (s .pre .2)) _ m (c .before .before .before .before .grow .ensures)
+    let grown = c .before .before .before .before in
+    let d = grown .before .before .before .before in
+    let s = moved-early d in
+    let zero-side = side-early _ (d .if2 .taken) in
+    followed-early (s .pre .0) _ (s .pre .1) (s .args .old) (rw zero-side at (s .pre .4)) (rw zero-side at (s .pre .2)) _
+    (grown .before .before .before .greater .ensures) (grown .grow .ensures)
 
 sub-lesser : tie.Need-sub-lesser
 sub-lesser c = omega (arith, within (moved-late c), was-later (moved-late c) (c .if2 .left))
@@ -111,8 +115,11 @@ sub-grow c = omega (arith, within (moved-late (c .before .before .before)))
 
 grow-requires-2 : tie.Need-grow-requires-2
 grow-requires-2 c κs =
-    let s = moved-late (c .before .before .before) in
-    follow-asks (s .pre .0) _ (s .pre .1) (sideOf (s .args .side)) (s .args .old) (s .pre .4) (c .before .before .lesser .result) (omega (arith, c .before .before .before .before .before .before .before .before .if1 .left)) (omega (arith, within s, c .before .before .lesser .ensures .1))
+    let d = c .before .before .before in
+    let s = moved-late d in
+    let hi = c .before .before .lesser in
+    follow-asks (s .pre .0) _ (s .pre .1) (sideOf (s .args .side)) (s .args .old) (s .pre .4) (hi .result)
+    (omega (arith, d .before .before .before .before .before .if1 .left)) (omega (arith, within s, hi .ensures .1))
 
 same-length-5 : tie.Need-same-length-5
 same-length-5 c = search needs
@@ -122,9 +129,11 @@ same-length-6 c = search needs
 
 returns-3 : tie.Need-returns-3
 returns-3 c =
-    let s = moved-late (c .before .before .before .before .before .before .before .before) in
-    let m = c .before .before .before .before .before .before .before .lesser .ensures in
-    followed-late (s .pre .0) _ (s .pre .1) (s .args .old) (rw (side-late _ (c .before .before .before .before .before .before .before .before .if2 .left)) at (s .pre .4)) (was-later s (c .before .before .before .before .before .before .before .before .if2 .left)) _ m (c .before .before .before .before .grow2 .ensures)
+    let grown = c .before .before .before .before in
+    let d = grown .before .before .before .before in
+    let s = moved-late d in
+    followed-late (s .pre .0) _ (s .pre .1) (s .args .old) (rw (side-late _ (d .if2 .left)) at (s .pre .4)) (was-later s (d .if2 .left)) _
+    (grown .before .before .before .lesser .ensures) (grown .grow2 .ensures)
 
 pub follow-spec : {M : Type 1} → statement M
 follow-spec =

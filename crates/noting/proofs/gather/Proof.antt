@@ -30,12 +30,21 @@ Inv-loop est lct dur dem cap job t set₀ left₀ k₀ set left k =
 abbrev μ-loop : tie.MeasureT-loop
 μ-loop est lct dur dem cap job t set₀ left₀ k₀ set left k = length est - k
 
--- the jobs and windows lent
+-- ---- the start, from the loop's test and from the set and the load before it; the jobs and windows lent
+
+abbrev begun : tie.At-loop Inv-loop μ-loop → tie.Start Inv-loop μ-loop
+begun d = d .before .before .before .before .before .before .before .before
+
+abbrev loaded : tie.After-load-at Inv-loop μ-loop → tie.Start Inv-loop μ-loop
+loaded d = d .before .before .before .before .before .before
+
 abbrev theJobs : tie.Start Inv-loop μ-loop → Jobs
 theJobs s = let a = s .args in jobsOf (asked (a .est .now) (a .lct .now) (a .dur .now) (a .dem .now) (a .cap))
 
 abbrev theWindows : tie.Start Inv-loop μ-loop → Win
 theWindows s = let a = s .args in win (a .est .now) (a .lct .now)
+
+-- ---- the needs
 
 empty-requires : tie.Need-empty-requires Inv-loop μ-loop
 empty-requires c κs = search needs
@@ -47,20 +56,21 @@ mul-left : tie.Need-mul-left Inv-loop μ-loop
 mul-left c = search needs
 
 shared-slice-read-left : tie.Need-shared-slice-read-left Inv-loop μ-loop
-shared-slice-read-left c = let s = c .before .before .before .before .before .before .before in omega (arith, s .pre .1, demands-sized (s .pre .0))
+shared-slice-read-left c = let s = loaded (c .before) in omega (arith, s .pre .1, demands-sized (s .pre .0))
 
 add-left : tie.Need-add-left Inv-loop μ-loop
 add-left c =
-    let s = c .before .before .before .before .before .before .before in
+    let s = loaded (c .before) in
     let g = s .pre .0 in
     omega (arith, c .before .load-at .ensures, load-small (good-cap _ _ _ _ _ g) (s .args .job) (s .args .t), demand-most g (s .args .job))
 
 loop-holds : tie.Need-loop-holds Inv-loop μ-loop
 loop-holds c =
-    let a = c .before .before .before .before .before .before .before .args in (
+    let a = loaded (c .before) .args in (
       omega arith,
       c .before .before .empty .ensures ∙ sym (below-none setWords _),
-      ap (λ (x : ℕ). x + a .dem .now ! a .job) (c .before .load-at .ensures) ∙ still-first (a .est .now) (a .lct .now) (a .dur .now) (a .dem .now) (a .cap) (a .job) (a .t),
+      ap (λ (x : ℕ). x + a .dem .now ! a .job) (c .before .load-at .ensures)
+          ∙ still-first (a .est .now) (a .lct .now) (a .dur .now) (a .dem .now) (a .cap) (a .job) (a .t),
     )
 
 mul-is-member : tie.Need-mul-is-member Inv-loop μ-loop
@@ -90,7 +100,7 @@ shared-slice-read-is-member-4 c = search needs
 is-member-requires : tie.Need-is-member-requires Inv-loop μ-loop
 is-member-requires c κs =
     let looped = c .before .before .before .before .before in
-    let s = looped .before .before .before .before .before .before .before .before in
+    let s = begun looped in
     let g = s .pre .0 .within in
     let k = looped .loop .k in
     (g .0 k, g .1 .1 .0 k, s .pre .2)
@@ -104,7 +114,7 @@ shared-slice-read-rest c = search needs
 sub-rest : tie.Need-sub-rest Inv-loop μ-loop
 sub-rest c =
     let looped = c .before .before .before .before .before .before .before .before in
-    let s = looped .before .before .before .before .before .before .before .before in
+    let s = begun looped in
     let l = looped .loop in
     let m = member-at (theJobs s) (theWindows s) (s .args .job) (s .args .t) (l .k) (omega arith) ∙ sym (c .before .before .is-member .ensures) in
     omega (arith, l .inv .2, named-yet (theJobs s) (theWindows s) (s .args .job) (s .args .t) (omega (arith, s .pre .0 .few)) (l .k) (omega arith) (m ∙ c .before .if1 .taken))
@@ -126,7 +136,7 @@ loop-less c = search needs
 loop-again : tie.Need-loop-again Inv-loop μ-loop
 loop-again c =
     let looped = c .before .before .before .before .before .before .before in
-    let s = looped .before .before .before .before .before .before .before .before in
+    let s = begun looped in
     let l = looped .loop in
     let J = theJobs s in
     let W = theWindows s in

@@ -1,6 +1,7 @@
 -- `searches::next_time` meets its contract: without a demand or a duration nothing is crowded; else the last, or the first, crowded time of the stretch is the
 -- one that the definition finds.
 use Prim.Native.Nat.{_+_, _≤_}
+use mathlib.Core.Path.{_≡_}
 use Rattle.lists.specs.Lists.{_!_}
 use Rattle.joblist.specs.Limits.{mostTime}
 use native.Mathlib.Omega.{arith}
@@ -16,6 +17,19 @@ on-early d = d .before .before .before .before .before .before .before .before .
 
 abbrev on-late : tie.Else3 → tie.Start
 on-late d = d .before .before .before .before .before .before .before .before .before .before .before .before .before
+
+-- what the tests before it have shown: the job lasts, and draws something
+early-lasts : (d : tie.Then3) → let a = on-early d .args in (a .dur .now ! a .job ≡ 0 → ⊥)
+early-lasts d = d .before .before .before .if2 .left
+
+early-takes : (d : tie.Then3) → let a = on-early d .args in (a .dem .now ! a .job ≡ 0 → ⊥)
+early-takes d = d .before .before .before .before .if1 .left
+
+late-lasts : (d : tie.Else3) → let a = on-late d .args in (a .dur .now ! a .job ≡ 0 → ⊥)
+late-lasts d = d .before .before .before .if2 .left
+
+late-takes : (d : tie.Else3) → let a = on-late d .args in (a .dem .now ! a .job ≡ 0 → ⊥)
+late-takes d = d .before .before .before .before .if1 .left
 
 -- the job's earliest end, its latest end and the limit, in order
 within : (s : tie.Start) → let a = s .args in ((a .est .now ! a .job + a .dur .now ! a .job ≤ a .lct .now ! a .job) × (a .lct .now ! a .job ≤ mostTime))
@@ -71,13 +85,15 @@ sub-t27 c = search needs
 
 returns-3 : tie.Need-returns-3
 returns-3 c =
-    let p = on-early (c .before .before) .pre in
-    early-moves _ _ _ _ _ _ (p .0) (p .1) (c .before .before .before .before .before .if2 .left) (c .before .before .before .before .before .before .if1 .left) _ (p .2) _ (c .before .before .if3 .taken) (c .before .early .ensures) (c .if4 .taken)
+    let d = c .before .before in
+    let p = on-early d .pre in
+    early-moves _ _ _ _ _ _ (p .0) (p .1) (early-lasts d) (early-takes d) _ (p .2) _ (d .if3 .taken) (c .before .early .ensures) (c .if4 .taken)
 
 returns-4 : tie.Need-returns-4
 returns-4 c =
-    let p = on-early (c .before .before) .pre in
-    early-rests _ _ _ _ _ _ (p .0) (p .1) (c .before .before .before .before .before .if2 .left) (c .before .before .before .before .before .before .if1 .left) _ (p .2) _ (c .before .before .if3 .taken) (c .before .early .ensures) (c .if4 .left)
+    let d = c .before .before in
+    let p = on-early d .pre in
+    early-rests _ _ _ _ _ _ (p .0) (p .1) (early-lasts d) (early-takes d) _ (p .2) _ (d .if3 .taken) (c .before .early .ensures) (c .if4 .left)
 
 sub-late : tie.Need-sub-late
 sub-late c = omega (arith, within (on-late c))
@@ -92,13 +108,15 @@ late-requires c κs =
 
 returns-5 : tie.Need-returns-5
 returns-5 c =
-    let p = on-late (c .before .before) .pre in
-    late-moves _ _ _ _ _ _ (p .0) (p .1) (c .before .before .before .before .before .if2 .left) (c .before .before .before .before .before .before .if1 .left) _ (p .2) _ (c .before .before .if3 .left) (c .before .late .ensures) (c .if5 .taken)
+    let d = c .before .before in
+    let p = on-late d .pre in
+    late-moves _ _ _ _ _ _ (p .0) (p .1) (late-lasts d) (late-takes d) _ (p .2) _ (d .if3 .left) (c .before .late .ensures) (c .if5 .taken)
 
 returns-6 : tie.Need-returns-6
 returns-6 c =
-    let p = on-late (c .before .before) .pre in
-    late-rests _ _ _ _ _ _ (p .0) (p .1) (c .before .before .before .before .before .if2 .left) (c .before .before .before .before .before .before .if1 .left) _ (p .2) _ (c .before .before .if3 .left) (c .before .late .ensures) (c .if5 .left)
+    let d = c .before .before in
+    let p = on-late d .pre in
+    late-rests _ _ _ _ _ _ (p .0) (p .1) (late-lasts d) (late-takes d) _ (p .2) _ (d .if3 .left) (c .before .late .ensures) (c .if5 .left)
 
 pub next-time-spec : {M : Type 1} → statement M
 next-time-spec =
