@@ -1,10 +1,10 @@
 -- The call's answer is the answer table's: a refusal by tests 1 to 3, a clash where a window is too short, else what the work leaves, with the windows
 -- as submitted unless it settled, and the log cleared where the room is short.
-use Prim.Native.Nat.{ℕ, zero, suc, _≤_}
+use Prim.Native.Nat.{ℕ, zero, suc}
 use native.Mathlib.Omega.{arith}
 use mathlib.Core.Path.{_≡_, refl, sym, ap, ap₂, subst, _∙_}
-use mathlib.Core.List.{List, [], _∷_, _++_}
-use lib.ListN.{length, drop, length-append, length-drop}
+use mathlib.Core.List.{List, [], _∷_}
+use lib.ListN.{length}
 use Rattle.narrowing.specs.Windows.{Win, win}
 use Rattle.narrowing.specs.Run.{Out, settled, clash, short}
 use Rattle.answers.specs.declared.Answer.{Answer}
@@ -18,7 +18,7 @@ use Rattle.timetable.specs.Promise.{Narrows}
 use Rattle.timetable.proofs.Calls.{good-call, call-good}
 use Rattle.timetable.proofs.Meaning.{narrows}
 use Rattle.timetable.proofs.TooShort.{too-short-row}
-use Rattle.rounds.specs.Work.{EndsAs, ran, Works}
+use Rattle.rounds.specs.Work.{EndsAs, outcome, Works}
 
 -- what narrowing leaves, by the work's answer: the windows, and the log
 abbrev pub winBy : Call → Answer → Win → Win
@@ -31,10 +31,6 @@ logBy c (Answer.Settled n) log = log
 logBy c (Answer.Clash n j) log = log
 logBy c (Answer.Refused k) log = cleared (c .log)
 
--- a copy keeps its length where its front of n words becomes `out`
-pub kept-length : (n m : ℕ) (kept out : List ℕ) → length kept ≡ m → n ≤ m → length out ≡ n → length (out ++ drop n kept) ≡ m
-kept-length n m kept out h k e = simp (length-append, length-drop) (omega arith)
-
 -- a cleared log is known by its length
 pub cleared-same : (a b : List ℕ) → length a ≡ length b → cleared a ≡ cleared b
 unfolding cleared
@@ -46,8 +42,8 @@ module _ (c : Call) where
   by-refusal zero h = absurd (h refl)
   by-refusal (suc k) h = refl
 
-  by-run : (k : ℕ) → k ≡ 0 → tabled leanMember c k ≡ ended leanMember c (ran c)
-  unfolding tabled ran
+  by-run : (k : ℕ) → k ≡ 0 → tabled leanMember c k ≡ ended leanMember c (outcome c)
+  unfolding tabled outcome
   by-run k h = rw h
 
   -- the code's refusal, in the table's words
@@ -74,7 +70,7 @@ module _ (c : Call) where
   -- the work is done
   pub finished : Good c → (a : Answer) (W : Win) (log : List ℕ) → Works c a W log → Narrows c (leaves (says a) (winBy c a W) (logBy c a log))
   unfolding narrowedBy ended
-  finished g a W log h = subst (Narrows c) (by-run (refusalOf c) (call-good c g) ∙ go (ran c) h) (narrows c)
+  finished g a W log h = subst (Narrows c) (by-run (refusalOf c) (call-good c g) ∙ go (outcome c) h) (narrows c)
     where
       go : (o : Out) → EndsAs c o a W log → ended leanMember c o ≡ leaves (says a) (winBy c a W) (logBy c a log)
       go (settled U ms) x = rw (x .0, x .1, x .2)

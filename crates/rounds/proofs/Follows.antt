@@ -3,22 +3,23 @@ use Prim.Native.Nat.{ℕ, suc, _≤_, _<_}
 use native.Mathlib.Omega.{arith}
 use mathlib.Core.Path.{_≡_, sym, ap, subst, _∙_}
 use mathlib.Core.List.{List}
+use lib.ListN.{length}
 use lib.Seq.{set-set, set-getD, getD-set-same}
 use Rattle.lists.specs.Lists.{_!_}
 use Rattle.narrowing.specs.Windows.{Win, win, Side, early, late, moved, sideOf, Respects}
-use Rattle.narrowing.proofs.Moves.{side-early, side-late}
 use Rattle.joblist.specs.Limits.{jobs, mostTime}
 use Rattle.timetable.specs.Time.{Applies, bound}
 use Rattle.timetable.specs.Table.{Call, call, jobsOf, Workable}
+use Rattle.windows.specs.Bounds.{boundAt}
 use Rattle.crowding.specs.Asked.{asked}
-use Rattle.timetable.proofs.Good.{ends-sized, start-most, end-most}
+use Rattle.timetable.proofs.Good.{durations-sized, ends-sized, start-most, end-most}
 use Rattle.timetable.proofs.Moves.{best-applies}
 use Rattle.crowding.proofs.Steps.{good-cap}
 use Rattle.profile.specs.declared.kept.Outline.{Outline}
 use Rattle.loads.specs.Loads.{Loaded}
 use Rattle.turns.specs.declared.Place.{Place}
-use Rattle.rounds.specs.Work.{boundAt}
-use Rattle.turns.specs.Moves.{Moves}
+use Rattle.turns.specs.declared.Turn.{Turn}
+use Rattle.turns.specs.Moves.{Moves, TurnSays}
 
 put-back : (W : Win) (j : ℕ) (s : Side) (b : ℕ) → moved (moved W j s b) j s (boundAt W j s) ≡ W
 put-back W j early b = ap (λ (e : List ℕ). win e (W .l)) (set-set (W .e) j b (W .e ! j) ∙ set-getD (W .e) j 0)
@@ -37,28 +38,36 @@ bound-most : (W : Win) (p r : List ℕ) (cap : ℕ) (log : List ℕ) → Workabl
 bound-most W p r cap log w j early = start-most (w .good) j
 bound-most W p r cap log w j late = end-most (w .good) j
 
--- what following a move asks
-module _ (c : Call) (at : Place) (count t : ℕ) (W′ : Win) (log′ : List ℕ) (m : Moves c at count t W′ log′) (w : Workable c) (b : at .job < jobs (c .win)) where
-  abbrev old : ℕ
-  old = boundAt (c .win) (at .job) (sideOf (at .side))
+-- ---- after a move from the bound that was there
 
-  pub kept-tight : Respects W′ (at .job) (sideOf (at .side)) old
+module _ (c : Call) (at : Place) (count t : ℕ) (W′ : Win) (log′ : List ℕ) (m : Moves c at count t W′ log′) (w : Workable c) (b : at .job < jobs (c .win)) where
+  abbrev was : ℕ
+  was = boundAt (c .win) (at .job) (sideOf (at .side))
+
+  kept-tight : Respects W′ (at .job) (sideOf (at .side)) was
   kept-tight =
-      subst (λ (U : Win). Respects U (at .job) (sideOf (at .side)) old) (sym (m .windows))
+      subst (λ (U : Win). Respects U (at .job) (sideOf (at .side)) was) (sym (m .windows))
       (tightens (c .win) (c .p) (c .r) (c .cap) (c .log) w (at .job) (sideOf (at .side)) t b (best-applies c w (at .job) (sideOf (at .side)) b t (m .found)))
 
-  pub kept-small : old ≤ mostTime
+  kept-small : was ≤ mostTime
   kept-small = bound-most (c .win) (c .p) (c .r) (c .cap) (c .log) w (at .job) (sideOf (at .side))
 
-  pub kept-before : {ts ld : List ℕ} {k : Outline} → Loaded (c .win) (c .p) (c .r) ts ld k → Loaded (moved W′ (at .job) (sideOf (at .side)) old) (c .p) (c .r) ts ld k
+  kept-before : {ts ld : List ℕ} {k : Outline} → Loaded (c .win) (c .p) (c .r) ts ld k
+      → Loaded (moved W′ (at .job) (sideOf (at .side)) was) (c .p) (c .r) ts ld k
   kept-before {ts} {ld} {k} L =
       subst (λ (U : Win). Loaded U (c .p) (c .r) ts ld k)
-      (sym (ap (λ (U : Win). moved U (at .job) (sideOf (at .side)) old) (m .windows) ∙ put-back (c .win) (at .job) (sideOf (at .side)) (bound (sideOf (at .side)) t))) L
+      (sym (ap (λ (U : Win). moved U (at .job) (sideOf (at .side)) was) (m .windows) ∙ put-back (c .win) (at .job) (sideOf (at .side)) (bound (sideOf (at .side)) t))) L
 
--- ---- the bound, by the number of its side
-
-pub bound-early : (e l : List ℕ) (j side : ℕ) → side ≡ 0 → e ! j ≡ boundAt (win e l) j (sideOf side)
-bound-early e l j side h = rw (side-early side h)
-
-pub bound-late : (e l : List ℕ) (j side : ℕ) → (side ≡ 0 → ⊥) → l ! j ≡ boundAt (win e l) j (sideOf side)
-bound-late e l j side h = rw (side-late side h)
+-- what following it asks
+pub follow-ready : (c : Call) (at : Place) (count old : ℕ) (W′ : Win) (log′ : List ℕ) → TurnSays c at count W′ log′ (Turn.Moved old) → Workable c
+    → at .job < jobs (c .win) → Workable (call W′ (c .p) (c .r) (c .cap) log′)
+    → {ts ld : List ℕ} {k : Outline} → Loaded (c .win) (c .p) (c .r) ts ld k
+    → Workable (asked (W′ .e) (W′ .l) (c .p) (c .r) 0) × (at .job < length (c .p)) × Respects W′ (at .job) (sideOf (at .side)) old × (old ≤ mostTime)
+    × Loaded (moved W′ (at .job) (sideOf (at .side)) old) (c .p) (c .r) ts ld k
+follow-ready c at count old W′ log′ h w b v L = (
+  workable-free v,
+  omega (arith, durations-sized (w .good)),
+  rw (h .3) (kept-tight c at count (h .0) W′ log′ (h .1) w b),
+  rw (h .3) (kept-small c at count (h .0) W′ log′ (h .1) w b),
+  rw (h .3) (kept-before c at count (h .0) W′ log′ (h .1) w b L),
+)

@@ -14,7 +14,8 @@ use Rattle.narrowing.specs.Windows.{Win, early, late, closes, sideOf, Long}
 use Rattle.narrowing.specs.Search.{Search, Move, move, after}
 use Rattle.narrowing.specs.Run.{first, resume, settled, clash, short, push, ends, work, run}
 use Rattle.narrowing.proofs.TooShort.{run-long}
-use Rattle.narrowing.proofs.Walk.{made, resume-early, resume-late, resume-end, resume-start, walk-early, walk-late, walk-round, walk-end, walk-move-early, walk-move-late, written, written-push, written-settled, written-clash, written-more}
+use Rattle.narrowing.proofs.Walk.{made, resume-early, resume-late, resume-end, resume-start, walk-early, walk-late, walk-round, walk-end, walk-move-early, walk-move-late}
+use Rattle.narrowing.proofs.Walk.{written, written-push, written-settled, written-clash, written-more}
 use Rattle.turns.specs.declared.Place.{Place}
 use Rattle.turns.specs.Places.{place, pickPlace, firstPlace, onwardOf}
 
@@ -24,7 +25,7 @@ pub record Going (R : Search) (room : ℕ) (W₀ W : Win) (at : Place) (ms : Lis
   pub one-side : at .side ≤ 1
   pub quota : length ms ≤ room
   pub same : written ms (work R (room - length ms) W (at .job) (sideOf (at .side))) ≡ run R room W₀
-  -- a round that has changed nothing so far: what is left of it is all that the fullLoad round has
+  -- a round that has changed nothing so far: what is left of it is all that the whole round has
   pub quiet : at .changed ≡ false → first R W (R .n) 0 ≡ resume R W (at .job) (sideOf (at .side))
   -- no job is left only where the round has changed nothing
   pub over : at .job ≡ R .n → (at .changed ≡ false) × (at .side ≡ 0)

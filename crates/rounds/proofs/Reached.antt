@@ -15,13 +15,14 @@ use Rattle.journal.specs.Journal.{roomOf, logged}
 use Rattle.journal.proofs.Records.{room-length, logged-none, rewritten-length}
 use Rattle.timetable.specs.Time.{Jobs, bound}
 use Rattle.timetable.specs.Search.{best, search, leanMember, entry}
-use Rattle.timetable.specs.Table.{Call, call, jobsOf, Workable}
+use Rattle.timetable.specs.Table.{Call, call, jobsOf, Good, Workable}
+use Rattle.timetable.proofs.Good.{ends-sized}
 use Rattle.timetable.proofs.Moves.{moved-size, best-applies, workable-after}
 use Rattle.turns.specs.declared.Place.{Place}
 use Rattle.turns.specs.declared.Turn.{Turn}
 use Rattle.turns.specs.Places.{place, firstPlace, onwardOf}
 use Rattle.turns.specs.Moves.{Moves, TurnSays}
-use Rattle.rounds.specs.Work.{EndsAs, ran, Works}
+use Rattle.rounds.specs.Work.{EndsAs, outcome, Works}
 use Rattle.rounds.proofs.Going.{Going, going-start, going-rest, going-end, going-short, going-closed, going-on}
 use Rattle.timetable.proofs.Entries.{entry-length}
 use Rattle.rounds.proofs.Written.{entry-more}
@@ -51,8 +52,12 @@ reached-start c w =
       log-is = sym (logged-none (c .log));
     }
 
-leaves-as : (c : Call) (o : Out) (a : Answer) (W : Win) (log : List ℕ) → ran c ≡ o → EndsAs c o a W log → Works c a W log
+leaves-as : (c : Call) (o : Out) (a : Answer) (W : Win) (log : List ℕ) → outcome c ≡ o → EndsAs c o a W log → Works c a W log
 leaves-as c o a W log e h = subst (λ (x : Out). EndsAs c x a W log) (sym e) h
+
+-- as many words as at first
+pub ends-kept : {c : Call} {W : Win} {log : List ℕ} {at : Place} {count : ℕ} → Reached c W log at count → Good c → length (W .l) ≡ length (c .win .l)
+ends-kept S g = omega (arith, ends-sized (S .workable .good), S .size, ends-sized g)
 
 module _ (c : Call) (W : Win) (log : List ℕ) (at : Place) (count : ℕ) (S : Reached c W log at count) where
   same-jobs : jobsOf (on c W log) ≡ jobsOf c
@@ -66,7 +71,7 @@ module _ (c : Call) (W : Win) (log : List ℕ) (at : Place) (count : ℕ) (S : R
 
   -- no job is left
   pub reached-end : jobs (c .win) ≤ at .job → Works c (Answer.Settled count) W log
-  unfolding ran
+  unfolding outcome
   reached-end b =
       leaves-as c (settled W (S .ms)) _ W log (going-end (search (jobsOf c)) (roomOf (c .log)) (c .win) W (S .ms) at (S .going) b)
       (ap Answer.Settled (sym (S .counted)), refl, S .log-is)
@@ -88,7 +93,7 @@ module _ (c : Call) (W : Win) (log : List ℕ) (at : Place) (count : ℕ) (S : R
 
     -- there is no room
     pub reached-full : TurnSays (on c W log) at count W′ log′ Turn.Full → Works c (Answer.Refused 5) W′ log′
-    unfolding ran
+    unfolding outcome
     reached-full h =
         leaves-as c short _ W′ log′
         (going-short (search (jobsOf c)) (roomOf (c .log)) (c .win) W (S .ms) at (S .going) (h .0) b (best-same (some (h .0)) (h .1)) (omega (arith, same-room, S .counted, h .2)))
@@ -122,16 +127,16 @@ module _ (c : Call) (W : Win) (log : List ℕ) (at : Place) (count : ℕ) (S : R
       closes-same z e = subst (λ (U : Win). closes (c .p) U (at .job) ≡ z) (m .windows) e
 
       -- the move closes the window
-      pub reached-closed : closes (c .p) W′ (at .job) ≡ true → Works c (Answer.Clash (count + 1) (at .job)) W′ log′
-      unfolding ran
-      reached-closed e =
+      closed-at : closes (c .p) W′ (at .job) ≡ true → Works c (Answer.Clash (count + 1) (at .job)) W′ log′
+      unfolding outcome
+      closed-at e =
           leaves-as c (clash (at .job) (S .ms ++ one ∷ [])) _ W′ log′
           (going-closed (search (jobsOf c)) (roomOf (c .log)) (c .win) W (S .ms) at (S .going) t b found-same left (closes-same true e))
           (ap (λ (k : ℕ). Answer.Clash k (at .job)) (sym counted-more), log-more)
 
       -- it does not
-      pub reached-moved : closes (c .p) W′ (at .job) ≡ false → Reached c W′ log′ (place (at .job) (at .side) true) (count + 1)
-      reached-moved e =
+      moved-at : closes (c .p) W′ (at .job) ≡ false → Reached c W′ log′ (place (at .job) (at .side) true) (count + 1)
+      moved-at e =
           let a = best-applies (on c W log) (S .workable) (at .job) (sideOf (at .side)) (omega (arith, S .size)) t (m .found) in
           record {
             workable = subst (λ (U : Win). Workable (on c U log′)) (sym (m .windows))
@@ -144,3 +149,9 @@ module _ (c : Call) (W : Win) (log : List ℕ) (at : Place) (count : ℕ) (S : R
                 (going-on (search (jobsOf c)) (roomOf (c .log)) (c .win) W (S .ms) at (S .going) t b found-same left (closes-same false e));
             log-is = log-more;
           }
+
+    pub reached-closed : TurnSays (on c W log) at count W′ log′ Turn.Closed → Works c (Answer.Clash (count + 1) (at .job)) W′ log′
+    reached-closed h = closed-at (h .0) (h .1) (h .2)
+
+    pub reached-moved : (old : ℕ) → TurnSays (on c W log) at count W′ log′ (Turn.Moved old) → Reached c W′ log′ (place (at .job) (at .side) true) (count + 1)
+    reached-moved old h = moved-at (h .0) (h .1) (h .2)

@@ -1,20 +1,14 @@
--- What the fullLoad work leaves, by how the defined run ends.
+-- What the work leaves, by how the defined run ends.
 use Prim.Native.Nat.{ℕ}
 use mathlib.Core.Path.{_≡_}
 use mathlib.Core.List.{List, map}
 use lib.ListN.{length}
-use Rattle.lists.specs.Lists.{_!_}
-use Rattle.narrowing.specs.Windows.{Win, Side, early, late}
+use Rattle.narrowing.specs.Windows.{Win}
 use Rattle.narrowing.specs.Run.{Out, settled, clash, short, run}
 use Rattle.answers.specs.declared.Answer.{Answer}
 use Rattle.journal.specs.Journal.{roomOf, logged}
 use Rattle.timetable.specs.Search.{search, entry}
 use Rattle.timetable.specs.Table.{Call, jobsOf}
-
--- the bound of job j's side
-abbrev pub boundAt : Win → ℕ → Side → ℕ
-boundAt W j early = W .e ! j
-boundAt W j late = W .l ! j
 
 -- what the work leaves of the lists lent to it, where the run ends so: after a clash the windows, and short of room the log too, are not told
 abbrev pub EndsAs : Call → Out → Answer → Win → List ℕ → Type 0
@@ -23,10 +17,10 @@ EndsAs c (clash j ms) a W log = (a ≡ Answer.Clash (length ms) j) × (log ≡ l
 EndsAs c short a W log = a ≡ Answer.Refused 5
 
 -- how the defined run of a call ends
-unfoldable pub ran : Call → Out
+unfoldable pub outcome : Call → Out
 unfolding run roomOf
-ran c = run (search (jobsOf c)) (roomOf (c .log)) (c .win)
+outcome c = run (search (jobsOf c)) (roomOf (c .log)) (c .win)
 
 -- the work's answer, windows and log are those of the defined run
 abbrev pub Works : Call → Answer → Win → List ℕ → Type 0
-Works c a W log = EndsAs c (ran c) a W log
+Works c a W log = EndsAs c (outcome c) a W log

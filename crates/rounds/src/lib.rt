@@ -2,12 +2,9 @@
 use answers::Answer;
 use turns::Place;
 use turns::Turn;
-ghost use mathlib.Core.Path.{_≡_};
-ghost use Prim.Native.Nat.{_<_};
-ghost use lib.ListN.{length};
-ghost use Rattle.narrowing.specs.Windows.{win, sideOf};
+ghost use Rattle.narrowing.specs.Windows.{win};
 ghost use Rattle.timetable.specs.Table.{call, Workable};
-ghost use Rattle.rounds.specs.Work.{boundAt, Works};
+ghost use Rattle.rounds.specs.Work.{Works};
 
 // The refusal where the work needs more records than the log has room for.
 const SHORT: u32 = 5;
@@ -15,17 +12,6 @@ const SHORT: u32 = 5;
 // The points that the kept load has room for: about twice as many as the windows of any list need. A move adds two at most, and none is taken away until
 // the load is built anew.
 const POINTS: usize = 4 * screen::MOST_JOBS;
-
-// The earliest start for side 0, the latest end for side 1.
-fn bound_at(est: &[u32], lct: &[u32], job: usize, side: u32) -> u32
-    requires { ⌜ (job < length (now est)) × (job < length (now lct)) ⌝ }
-    ensures { λ x. ⌜ x ≡ boundAt (win (now (est .entry)) (now (lct .entry))) job (sideOf side) ⌝ }
-{
-    if side == 0 {
-        return est[job];
-    }
-    lct[job]
-}
 
 // The work of a good list whose windows are long enough: turns until a round has changed nothing, a move closes a window, or there is no room. The load of
 // all jobs is kept from move to move. What falls with each turn is the room left, then whether another round is to follow, then what is left of this one.
@@ -51,15 +37,14 @@ pub fn work(
     };
     let mut count = 0;
     while at.job < n {
-        let job = at.job;
-        let side = at.side;
-        let old = bound_at(est, lct, job, side);
         let turn = turns::take_turn(est, lct, dur, dem, cap, log, at, count, &ts, &ld, kept);
         match turn {
             Turn::Rests => {
                 at = turns::onward(at, n);
             }
-            Turn::Moved => {
+            Turn::Moved(old) => {
+                let job = at.job;
+                let side = at.side;
                 kept = loads::follow(est, lct, dur, dem, job, side, old, &mut ts, &mut ld, kept);
                 at = Place {
                     job: job,
@@ -69,7 +54,7 @@ pub fn work(
                 count += 1;
             }
             Turn::Closed => {
-                return Answer::Clash(count + 1, job);
+                return Answer::Clash(count + 1, at.job);
             }
             Turn::Full => {
                 return Answer::Refused(SHORT);

@@ -17,10 +17,10 @@ pub struct Place {
     pub changed: bool,
 }
 
-// What a turn at a place comes to: its side rests, it moved, the move closed the window, or there is no room for its record.
+// What a turn at a place comes to: its side rests, it moved from a bound, the move closed the window, or there is no room for its record.
 pub enum Turn {
     Rests,
-    Moved,
+    Moved(u32),
     Closed,
     Full,
 }
@@ -87,11 +87,11 @@ pub fn take_turn(
                 return Turn::Full;
             }
             noting::note(est, lct, dur, dem, cap, job, side, t, log, count);
-            windows::shift(est, lct, job, side, t);
+            let old = windows::shift(est, lct, job, side, t);
             if windows::closed(est, lct, dur, job) {
                 return Turn::Closed;
             }
-            Turn::Moved
+            Turn::Moved(old)
         }
     }
 }

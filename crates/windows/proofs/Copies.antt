@@ -4,7 +4,7 @@ use native.Mathlib.Omega.{arith}
 use native.Mathlib.Numerals.{add-one}
 use mathlib.Core.Path.{_≡_, refl, sym, ap}
 use mathlib.Core.List.{List, [], _∷_, _++_, append-nil}
-use lib.ListN.{length, take, drop, getD, set, drop-of-length-le}
+use lib.ListN.{length, take, drop, getD, set, drop-of-length-le, length-append, length-drop}
 use lib.Seq.{take-all, take-at}
 
 -- after i turns
@@ -48,3 +48,7 @@ over-whole from to h = rw (drop-of-length-le to h, append-nil)
 -- what was saved comes back
 pub saved-back : (from to kept : List ℕ) (n : ℕ) → kept ≡ from ++ drop (length from) to → n ≡ length from → take n kept ≡ from
 saved-back from to kept n h e = rw h (take-at from (drop (length from) to) n (sym e))
+
+-- a copy keeps its length where its front of n words becomes `out`
+pub kept-length : (n m : ℕ) (kept out : List ℕ) → length kept ≡ m → n ≤ m → length out ≡ n → length (out ++ drop n kept) ≡ m
+kept-length n m kept out h k e = simp (length-append, length-drop) (omega arith)

@@ -11,6 +11,7 @@ ghost use Rattle.lists.specs.Searches.{foundOr};
 ghost use Rattle.narrowing.specs.Windows.{win, closes, lowestTooShort, moved, sideOf};
 ghost use Rattle.joblist.specs.Limits.{mostJobs, mostTime};
 ghost use Rattle.timetable.specs.Time.{bound};
+ghost use Rattle.windows.specs.Bounds.{boundAt};
 
 // Whether the job's window is too short for the job. It makes no sum, so no number is too large for it.
 pub fn closed(est: &[u32], lct: &[u32], dur: &[u32], job: usize) -> bool
@@ -71,17 +72,21 @@ pub fn restore(from: &[u32; screen::MOST_JOBS], to: &mut [u32])
     copy(from, to);
 }
 
-// The move of a rule at a time: on side 0 the earliest start becomes the time after it, on side 1 the latest end becomes the time.
-pub fn shift(est: &mut [u32], lct: &mut [u32], job: usize, side: u32, time: u32)
+// The move of a rule at a time: on side 0 the earliest start becomes the time after it, on side 1 the latest end becomes the time. It
+// returns the bound that was there.
+pub fn shift(est: &mut [u32], lct: &mut [u32], job: usize, side: u32, time: u32) -> u32
     requires { ⌜ (job < length (now est)) × (job < length (now lct)) × (time ≤ mostTime) ⌝ }
-    ensures { λ _. ⌜ win (now (est .exit)) (now (lct .exit)) ≡ moved (win (now (est .entry)) (now (lct .entry))) job (sideOf side) (bound (sideOf side) time) ⌝ }
+    ensures { λ r. ⌜ (win (now (est .exit)) (now (lct .exit)) ≡ moved (win (now (est .entry)) (now (lct .entry))) job (sideOf side) (bound (sideOf side) time)) × (r ≡ boundAt (win (now (est .entry)) (now (lct .entry))) job (sideOf side)) ⌝ }
 {
     let after = time + 1;
     if side == 0 {
+        let start = est[job];
         est[job] = after;
-        return;
+        return start;
     }
+    let end = lct[job];
     lct[job] = time;
+    end
 }
 
 // The lower limit t - p + 1 of a start. It may lie below zero; it is signed, and then no restriction.

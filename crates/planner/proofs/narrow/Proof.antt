@@ -11,12 +11,12 @@ use Rattle.narrowing.specs.Windows.{win}
 use Rattle.answers.specs.declared.Answer.{Answer}
 use Rattle.answers.specs.Said.{says}
 use Rattle.joblist.specs.Limits.{mostJobs}
-use Rattle.windows.proofs.Copies.{saved-back}
+use Rattle.windows.proofs.Copies.{saved-back, kept-length}
 use Rattle.windows.proofs.TooShort.{answer-too-short, answer-long}
 use Rattle.timetable.specs.Table.{Call, call, leaves, Good, Workable}
 use Rattle.timetable.specs.Promise.{Narrows}
 use Rattle.timetable.proofs.Good.{ends-sized}
-use Rattle.planner.proofs.Answered.{winBy, logBy, cleared-same, kept-length, accepted, refused, clashed, worked}
+use Rattle.planner.proofs.Answered.{winBy, logBy, cleared-same, accepted, refused, clashed, worked}
 use Rattle.planner.proofs.narrow.Statement.{statement}
 use Rattle.planner.proofs.narrow.Tie as tie
 
@@ -82,28 +82,13 @@ done d a e =
     let s = saved d in
     worked (called (origin s)) (good (passed (long s))) a _ _ _ _ (starts-front s) (ends-front s) (rw e at (d .work .ensures))
 
--- ---- the needs
-
-refusal-requires : tie.Need-refusal-requires
-refusal-requires c κs = search needs
-
-same-length : tie.Need-same-length
-same-length c = search needs
-
-same-length-2 : tie.Need-same-length-2
-same-length-2 c = search needs
+-- ---- the needs; those that the search closes are answered in the list at the end
 
 returns : tie.Need-returns
 returns c = refused _ _ (c .before .refusal .ensures) (c .if1 .taken)
 
 lowest-too-short-requires : tie.Need-lowest-too-short-requires
 lowest-too-short-requires c κs = let g = good (c .before .before) in (g .sized .1 .0, g .sized .1 .1 .0)
-
-same-length-3 : tie.Need-same-length-3
-same-length-3 c = search needs
-
-same-length-4 : tie.Need-same-length-4
-same-length-4 c = search needs
 
 returns-2 : tie.Need-returns-2
 returns-2 c =
@@ -131,9 +116,6 @@ slice-aggregate-work-2 c = same (long (c .before .before)) ∙ ap length (sym (e
 work-requires : tie.Need-work-requires
 work-requires c κs = let d = c .before .before .before in rw (starts-front d, ends-front d) (workable (long d))
 
-enum-known-end : tie.Need-enum-known-end
-enum-known-end c = search needs
-
 restore-requires : tie.Need-restore-requires
 restore-requires c κs =
     let d = c .before .before .before .before .before .before .before .before .before in
@@ -146,24 +128,6 @@ restore-requires-2 c κs =
     let f = few (long (saved d)) in
     (omega (arith, f, same (long (saved d))), kept-length _ mostJobs (ends (saved d)) (d .work .last .1 .0) (saved d .save2 .ensures .1) f (ends-length d))
 
-enum-known-end-2 : tie.Need-enum-known-end-2
-enum-known-end-2 c = search needs
-
-enum-known-end-3 : tie.Need-enum-known-end-3
-enum-known-end-3 c = search needs
-
-clear-requires : tie.Need-clear-requires
-clear-requires c κs = search needs
-
-same-length-5 : tie.Need-same-length-5
-same-length-5 c = search needs
-
-same-length-6 : tie.Need-same-length-6
-same-length-6 c = search needs
-
-same-length-7 : tie.Need-same-length-7
-same-length-7 c = search needs
-
 returns-3 : tie.Need-returns-3
 returns-3 c =
     let back = c .before .before in
@@ -174,26 +138,8 @@ returns-3 c =
     let l = back .restore2 .ensures ∙ take-at (d .work .last .1 .0) (drop n (ends (saved d))) (length (a .lct .now)) (ends-length d ∙ same (long (saved d))) in
     rw (e, l) (done d _ (back .before .before .before .before .before .before .before .before .before .end .given .1))
 
-same-length-8 : tie.Need-same-length-8
-same-length-8 c = search needs
-
-same-length-9 : tie.Need-same-length-9
-same-length-9 c = search needs
-
-same-length-10 : tie.Need-same-length-10
-same-length-10 c = search needs
-
 returns-4 : tie.Need-returns-4
 returns-4 c = done (c .before .before .before .before .before .before .before) _ (c .before .end2 .given .1)
-
-same-length-11 : tie.Need-same-length-11
-same-length-11 c = search needs
-
-same-length-12 : tie.Need-same-length-12
-same-length-12 c = search needs
-
-same-length-13 : tie.Need-same-length-13
-same-length-13 c = search needs
 
 returns-5 : tie.Need-returns-5
 returns-5 c =
@@ -205,13 +151,13 @@ pub narrow-spec : {M : Type 1} → statement M
 narrow-spec =
     tie.close
     (tie.spec
-    refusal-requires
-    same-length
-    same-length-2
+    (λ c κs. search needs)
+    (λ c. search needs)
+    (λ c. search needs)
     returns
     lowest-too-short-requires
-    same-length-3
-    same-length-4
+    (λ c. search needs)
+    (λ c. search needs)
     returns-2
     save-requires
     save-requires-2
@@ -220,21 +166,21 @@ narrow-spec =
     array-borrow-prefix-l
     slice-aggregate-work-2
     work-requires
-    enum-known-end
+    (λ c. search needs)
     restore-requires
     restore-requires-2
-    enum-known-end-2
-    enum-known-end-3
-    clear-requires
-    same-length-5
-    same-length-6
-    same-length-7
+    (λ c. search needs)
+    (λ c. search needs)
+    (λ c κs. search needs)
+    (λ c. search needs)
+    (λ c. search needs)
+    (λ c. search needs)
     returns-3
-    same-length-8
-    same-length-9
-    same-length-10
+    (λ c. search needs)
+    (λ c. search needs)
+    (λ c. search needs)
     returns-4
-    same-length-11
-    same-length-12
-    same-length-13
+    (λ c. search needs)
+    (λ c. search needs)
+    (λ c. search needs)
     returns-5)

@@ -145,7 +145,7 @@ returns-2 : tie.Need-returns-2 Inv-loop μ-loop
 returns-2 c =
     let m = shifted (c .before .before) in
     let d = shown (passed m) in
-    going-more (looped d .loop .inv) (d .show-record .result .now) (d .show-record .ensures) (d .before .loop-test .taken) (taken (passed m)) (after m) (m .shift .ensures)
+    going-more (looped d .loop .inv) (d .show-record .result .now) (d .show-record .ensures) (d .before .loop-test .taken) (taken (passed m)) (after m) (m .shift .ensures .0)
     (sym (c .before .before .closed .ensures) ∙ c .before .if2 .taken) (c .if3 .taken)
 
 same-length-5 : tie.Need-same-length-5 Inv-loop μ-loop
@@ -158,7 +158,7 @@ returns-3 : tie.Need-returns-3 Inv-loop μ-loop
 returns-3 c =
     let m = shifted (c .before .before) in
     let d = shown (passed m) in
-    going-last (looped d .loop .inv) (d .show-record .result .now) (d .show-record .ensures) (d .before .loop-test .taken) (taken (passed m)) (after m) (m .shift .ensures)
+    going-last (looped d .loop .inv) (d .show-record .result .now) (d .show-record .ensures) (d .before .loop-test .taken) (taken (passed m)) (after m) (m .shift .ensures .0)
     (sym (c .before .before .closed .ensures) ∙ c .before .if2 .taken) (c .if3 .left)
 
 loop-less : tie.Need-loop-less Inv-loop μ-loop
@@ -168,7 +168,7 @@ loop-again : tie.Need-loop-again Inv-loop μ-loop
 loop-again c =
     let m = shifted (c .before) in
     let d = shown (passed m) in
-    going-on (looped d .loop .inv) (d .show-record .result .now) (d .show-record .ensures) (d .before .loop-test .taken) (taken (passed m)) (after m) (m .shift .ensures)
+    going-on (looped d .loop .inv) (d .show-record .result .now) (d .show-record .ensures) (d .before .loop-test .taken) (taken (passed m)) (after m) (m .shift .ensures .0)
     (sym (c .before .closed .ensures) ∙ c .if2 .left)
 
 same-length-7 : tie.Need-same-length-7 Inv-loop μ-loop
