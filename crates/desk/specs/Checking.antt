@@ -4,8 +4,8 @@ pub use Rattle.codes.specs.Facts.{side, InRange, TakesPart, Partners, OwnTrue, 
 pub use Rattle.codes.specs.Faults.{OutOfRange, Idle, BadPartner, OwnFalse, Untrue, Idles, HasSpare, OnlySpare}
 pub use Rattle.codes.specs.Codes.{Coded}
 pub use Rattle.verdicts.specs.Replay.{Verdict, holds, clashes, rejected, Checked, finds}
-unfoldable pub use Rattle.replay.specs.Replay.{changed, checked}
-pub use Rattle.replay.specs.Replay.{ReasonedOn, trial}
-pub use Rattle.replay.specs.Fate.{nth, reached, Takes, Open, Shut, Fate}
-pub use Rattle.replay.specs.Promise.{Reasoned, RefusedRow, Claimed, Exactly, TakesLogs, Checks}
+unfoldable pub use Rattle.checks.specs.Replay.{changed, checked}
+pub use Rattle.checks.specs.Replay.{ReasonedOn, trial}
+pub use Rattle.checks.specs.Fate.{nth, reached, Takes, Open, Shut, Fate}
+pub use Rattle.checks.specs.Promise.{Reasoned, RefusedRow, Claimed, Exactly, TakesLogs, Checks}
 pub use Rattle.verdicts.specs.Promise.{takenBy, taken}

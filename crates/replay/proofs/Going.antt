@@ -19,7 +19,7 @@ use Rattle.timetable.proofs.Good.{durations-sized, end-most}
 use Rattle.timetable.proofs.Moves.{moved-good}
 use Rattle.codes.specs.Facts.{side, InRange}
 use Rattle.codes.specs.Codes.{code}
-use Rattle.replay.specs.Replay.{changed, Verdict, holds, clashes, rejected, closing, orBad, orClosed, replay}
+use Rattle.checks.specs.Replay.{changed, Verdict, holds, clashes, rejected, closing, orBad, orClosed, replay}
 use Rattle.exam.specs.Lent.{jobsIn}
 use Rattle.codes.proofs.Codes.{good-record}
 

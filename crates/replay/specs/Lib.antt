@@ -1,4 +1,1 @@
-pub mod Replay
-pub mod Fate
-pub mod Promise
 pub mod Ended

@@ -1,30 +1,27 @@
-// The checker (document 01, 'Answer table'; document 02, Item 3): it replays a log from the submitted windows, and rewrites them only where the log holds.
-use answers::CheckAnswer;
+// The replay of a log (document 01, 'Answer table'; document 02, Item 3): its records in turn, each judged on the windows reached.
 ghost use mathlib.Core.Path.{_≡_};
 ghost use mathlib.Core.List.{[]};
 ghost use Prim.Native.Nat.{_≤_};
 ghost use lib.ListN.{length};
 ghost use Rattle.narrowing.specs.Windows.{win};
-ghost use Rattle.answers.specs.Said.{saysCheck};
 ghost use Rattle.journal.specs.Journal.{roomOf, records};
 ghost use Rattle.timetable.specs.Table.{call, Good};
-ghost use Rattle.replay.specs.Replay.{replay, finds, judged};
-ghost use Rattle.replay.specs.Promise.{Checks};
+ghost use Rattle.checks.specs.Replay.{replay};
 ghost use Rattle.exam.specs.Lent.{jobsIn};
 ghost use Rattle.replay.specs.Ended.{verdict};
 
 // The code of a record where a window was closed before it.
-const CLOSED: u32 = 20;
+pub const CLOSED: u32 = 20;
 
 // How a replay ends: all records are taken; the last one closed the window of a job; the place and code of the first bad one.
-enum Ended {
+pub enum Ended {
     Holds,
     Clashes(usize),
     Rejected(usize, u32),
 }
 
 // Takes the records in turn, each on the windows that those before it have left. It ends since each turn takes one of the claimed records.
-fn replayed(
+pub fn replayed(
     est: &mut [u32],
     lct: &mut [u32],
     dur: &[u32],
@@ -60,66 +57,4 @@ fn replayed(
         }
     }
     Ended::Holds
-}
-
-// The replay on copies of the windows: the caller's are rewritten only where the log holds.
-fn on_copies(
-    est: &mut [u32],
-    lct: &mut [u32],
-    dur: &[u32],
-    dem: &[u32],
-    cap: u32,
-    log: &[u32],
-    count: usize,
-) -> CheckAnswer
-    requires { ⌜ Good (call (win (now est) (now lct)) (now dur) (now dem) cap []) × (count ≤ roomOf (now log)) ⌝ }
-    ensures { λ r. ⌜ finds (saysCheck r) (win (now (est .exit)) (now (lct .exit))) ≡ judged (call (win (now (est .entry)) (now (lct .entry))) (now (dur .entry)) (now (dem .entry)) cap (now (log .entry))) count (replay (jobsIn (length (now (dur .entry))) (now (dur .entry)) (now (dem .entry)) cap) (win (now (est .entry)) (now (lct .entry))) 0 (records (now (log .entry)) 0 count)) ⌝ }
-{
-    let n = est.len();
-    let mut starts = [0u32; screen::MOST_JOBS];
-    let mut ends = [0u32; screen::MOST_JOBS];
-    windows::save(est, &mut starts);
-    windows::save(lct, &mut ends);
-    let end = replayed(&mut starts[..n], &mut ends[..n], dur, dem, cap, log, count);
-    match end {
-        Ended::Holds => {
-            windows::restore(&starts, est);
-            windows::restore(&ends, lct);
-            CheckAnswer::Holds(count)
-        }
-        Ended::Clashes(job) => CheckAnswer::Clash(count, job),
-        Ended::Rejected(place, code) => CheckAnswer::Rejected(place, code),
-    }
-}
-
-// What a log comes to, replayed from the submitted windows. 1 to 3 and 6 refuse the call. Where a window is too short, the answer is a clash of the
-// lowest such job if no record is claimed, else the first is rejected with code 20. Where none is, the first bad record is rejected with its place and
-// code, and a last record that closes a window is a clash; if there is neither, the log holds, and the windows become those that it reaches. Any number
-// may be claimed: it is compared, and never multiplied.
-pub fn check_log(
-    est: &mut [u32],
-    lct: &mut [u32],
-    dur: &[u32],
-    dem: &[u32],
-    cap: u32,
-    log: &[u32],
-    count: usize,
-) -> CheckAnswer
-    ensures { λ r. ⌜ Checks (call (win (now (est .entry)) (now (lct .entry))) (now (dur .entry)) (now (dem .entry)) cap (now (log .entry))) count (finds (saysCheck r) (win (now (est .exit)) (now (lct .exit)))) ⌝ }
-{
-    let number = screen::refusal(est, lct, dur, dem, cap);
-    if number != 0 {
-        return CheckAnswer::Refused(number);
-    }
-    if logbook::room(log) < count {
-        return CheckAnswer::Refused(6);
-    }
-    let short = windows::lowest_too_short(est, lct, dur);
-    if short < est.len() {
-        if 0 < count {
-            return CheckAnswer::Rejected(0, CLOSED);
-        }
-        return CheckAnswer::Clash(0, short);
-    }
-    on_copies(est, lct, dur, dem, cap, log, count)
 }

@@ -17,9 +17,9 @@ use Rattle.timetable.specs.Reason.{namedDrawn}
 use Rattle.timetable.specs.Table.{Call, call, After}
 use Rattle.timetable.specs.Promise.{Narrows}
 use Rattle.verdicts.specs.Fate as fate
-use Rattle.replay.specs.Replay.{changed, Checked, checked}
-use Rattle.replay.specs.Promise.{taken, Reasoned, Exactly, TakesLogs}
-use Rattle.replay.proofs.Rows.{facts-answer}
+use Rattle.checks.specs.Replay.{changed, Checked, checked}
+use Rattle.checks.specs.Promise.{taken, Reasoned, Exactly, TakesLogs}
+use Rattle.checks.proofs.Rows.{facts-answer}
 use Rattle.worked.specs.Rows.{job, noted}
 use Rattle.worked.specs.Runs.{lent}
 use Rattle.worked.specs.Checks.{example}

@@ -4,8 +4,8 @@ use mathlib.Core.Path.{refl, _∙_}
 use mathlib.Core.List.{List}
 use Rattle.lists.specs.Lists.{Every}
 use Rattle.lists.proofs.Every.{every-map}
-use Rattle.replay.specs.Replay.{checked}
-use Rattle.replay.proofs.Rows.{facts-answer}
+use Rattle.checks.specs.Replay.{checked}
+use Rattle.checks.proofs.Rows.{facts-answer}
 use Rattle.worked.specs.Logs.{Log, Due, Pinned}
 use Rattle.worked.specs.Checks.{checks}
 

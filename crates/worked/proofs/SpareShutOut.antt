@@ -14,8 +14,8 @@ use Rattle.timetable.specs.Search.{member, naming}
 use Rattle.timetable.specs.Table.{Call, jobsOf, After, narrowedBy}
 use Rattle.timetable.specs.Reason.{LeanRecord}
 use Rattle.timetable.specs.Reasons.{Reasons, fullyNamed, Unmoved}
-use Rattle.replay.specs.Replay.{Checked}
-use Rattle.replay.specs.Promise.{taken, Reasoned}
+use Rattle.checks.specs.Replay.{Checked}
+use Rattle.checks.specs.Promise.{taken, Reasoned}
 use Rattle.worked.specs.Rows.{noted}
 use Rattle.worked.specs.Runs.{lent}
 use Rattle.worked.specs.Cases.{crowd}

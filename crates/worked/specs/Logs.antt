@@ -6,8 +6,8 @@ use mathlib.Core.List.{List, [], _∷_}
 use Rattle.narrowing.specs.Windows.{Win}
 use Rattle.answers.specs.Said.{Word, Said, said}
 use Rattle.timetable.specs.Table.{Call, call}
-use Rattle.replay.specs.Replay.{Checked, finds, checked}
-use Rattle.replay.specs.Promise.{Exactly}
+use Rattle.checks.specs.Replay.{Checked, finds, checked}
+use Rattle.checks.specs.Promise.{Exactly}
 use Rattle.worked.specs.Rows.{Job, windowsOf, durationsOf, demandsOf, Span, spans}
 
 abbrev pub with : ℕ → List Job → List ℕ → Call

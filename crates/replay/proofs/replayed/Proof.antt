@@ -80,7 +80,7 @@ starts-moved d = shifted d .shift .kept .0 ∙ starts-kept (looped (shown (passe
 ends-moved : (d : tie.After-closed Inv-loop μ-loop) → length (shifted d .shift .last .1 .0) ≡ length (begun (looped (shown (passed (shifted d)))) .args .lct .now)
 ends-moved d = shifted d .shift .kept .1 .0 ∙ ends-kept (looped (shown (passed (shifted d))))
 
--- ---- the needs
+-- ---- the needs; those that the search closes, and the lengths kept, are answered in the list at the end
 
 loop-holds : tie.Need-loop-holds Inv-loop μ-loop
 loop-holds c =
@@ -88,17 +88,8 @@ loop-holds c =
     let a = start .args in
     going-start (a .dur .now) (a .dem .now) (a .cap) (a .log .now) (a .count) (win (a .est .now) (a .lct .now)) (start .pre .0)
 
-show-record-requires : tie.Need-show-record-requires Inv-loop μ-loop
-show-record-requires c κs = search needs
-
 code-of-requires : tie.Need-code-of-requires Inv-loop μ-loop
 code-of-requires c κs = let d = c .before .before in (looped d .loop .inv .good, shown-length d)
-
-same-length : tie.Need-same-length Inv-loop μ-loop
-same-length c = starts-kept (c .before .before .before .before .before .before)
-
-same-length-2 : tie.Need-same-length-2 Inv-loop μ-loop
-same-length-2 c = ends-kept (c .before .before .before .before .before .before)
 
 returns : tie.Need-returns Inv-loop μ-loop
 returns c =
@@ -125,21 +116,12 @@ shift-requires c κs =
     let g = looped (shown d) .loop .inv .good in
     (omega (arith, f .job, durations-sized g), omega (arith, f .job, durations-sized g, ends-sized g), f .time)
 
-add-i : tie.Need-add-i Inv-loop μ-loop
-add-i c = search needs
-
 closed-requires : tie.Need-closed-requires Inv-loop μ-loop
 closed-requires c κs =
     let m = c .before .before .before .before .before .before in
     let f = in-range (passed m) in
     let g = looped (shown (passed m)) .loop .inv .good in
     (omega (arith, f .job, durations-sized g, m .shift .kept .0), omega (arith, f .job, durations-sized g, ends-sized g, m .shift .kept .1), f .job)
-
-same-length-3 : tie.Need-same-length-3 Inv-loop μ-loop
-same-length-3 c = starts-moved (c .before .before)
-
-same-length-4 : tie.Need-same-length-4 Inv-loop μ-loop
-same-length-4 c = ends-moved (c .before .before)
 
 returns-2 : tie.Need-returns-2 Inv-loop μ-loop
 returns-2 c =
@@ -148,12 +130,6 @@ returns-2 c =
     going-more (looped d .loop .inv) (d .show-record .result .now) (d .show-record .ensures) (d .before .loop-test .taken) (taken (passed m)) (after m) (m .shift .ensures .0)
     (sym (c .before .before .closed .ensures) ∙ c .before .if2 .taken) (c .if3 .taken)
 
-same-length-5 : tie.Need-same-length-5 Inv-loop μ-loop
-same-length-5 c = starts-moved (c .before .before)
-
-same-length-6 : tie.Need-same-length-6 Inv-loop μ-loop
-same-length-6 c = ends-moved (c .before .before)
-
 returns-3 : tie.Need-returns-3 Inv-loop μ-loop
 returns-3 c =
     let m = shifted (c .before .before) in
@@ -161,21 +137,12 @@ returns-3 c =
     going-last (looped d .loop .inv) (d .show-record .result .now) (d .show-record .ensures) (d .before .loop-test .taken) (taken (passed m)) (after m) (m .shift .ensures .0)
     (sym (c .before .before .closed .ensures) ∙ c .before .if2 .taken) (c .if3 .left)
 
-loop-less : tie.Need-loop-less Inv-loop μ-loop
-loop-less c = search needs
-
 loop-again : tie.Need-loop-again Inv-loop μ-loop
 loop-again c =
     let m = shifted (c .before) in
     let d = shown (passed m) in
     going-on (looped d .loop .inv) (d .show-record .result .now) (d .show-record .ensures) (d .before .loop-test .taken) (taken (passed m)) (after m) (m .shift .ensures .0)
     (sym (c .before .closed .ensures) ∙ c .if2 .left)
-
-same-length-7 : tie.Need-same-length-7 Inv-loop μ-loop
-same-length-7 c = starts-kept (c .before)
-
-same-length-8 : tie.Need-same-length-8 Inv-loop μ-loop
-same-length-8 c = ends-kept (c .before)
 
 returns-4 : tie.Need-returns-4 Inv-loop μ-loop
 returns-4 c = going-end (c .before .loop .inv) (c .loop-test .left)
@@ -187,26 +154,26 @@ replayed-spec =
     Inv-loop
     μ-loop
     loop-holds
-    show-record-requires
+    (λ c κs. search needs)
     code-of-requires
-    same-length
-    same-length-2
+    (λ c. starts-kept (c .before .before .before .before .before .before))
+    (λ c. ends-kept (c .before .before .before .before .before .before))
     returns
     shared-slice-read-job
     cast-job
     shared-slice-read-shift
     shared-slice-read-shift-2
     shift-requires
-    add-i
+    (λ c. search needs)
     closed-requires
-    same-length-3
-    same-length-4
+    (λ c. starts-moved (c .before .before))
+    (λ c. ends-moved (c .before .before))
     returns-2
-    same-length-5
-    same-length-6
+    (λ c. starts-moved (c .before .before))
+    (λ c. ends-moved (c .before .before))
     returns-3
-    loop-less
+    (λ c. search needs)
     loop-again
-    same-length-7
-    same-length-8
+    (λ c. starts-kept (c .before))
+    (λ c. ends-kept (c .before))
     returns-4)

@@ -29,7 +29,7 @@ use Rattle.timetable.proofs.Lean.{members-load}
 use Rattle.codes.specs.Facts.{side, OwnTrue, Tightens, Passes, GoodRecord}
 use Rattle.codes.proofs.Codes.{code-exactly, good-record, record-good}
 use Rattle.verdicts.specs.Promise.{Judges}
-use Rattle.replay.specs.Replay.{changed, ReasonedOn, trial}
+use Rattle.checks.specs.Replay.{changed, ReasonedOn, trial}
 
 module _ (J : Jobs) (W : Win) (x : List ℕ) (g : Passes J W x) where
   -- ---- a rule's move

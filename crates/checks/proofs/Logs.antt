@@ -4,10 +4,10 @@ use mathlib.Core.List.{List}
 use Rattle.timetable.specs.Table.{Call, call, jobsOf, asks}
 use Rattle.timetable.proofs.Meaning.{grounds, by-rules}
 use Rattle.verdicts.proofs.Taken as general
-use Rattle.replay.specs.Replay.{trial, checked}
-use Rattle.replay.specs.Promise.{TakesLogs}
-use Rattle.replay.proofs.Sound.{judging}
-use Rattle.replay.proofs.Taken.{writes}
+use Rattle.checks.specs.Replay.{trial, checked}
+use Rattle.checks.specs.Promise.{TakesLogs}
+use Rattle.checks.proofs.Sound.{judging}
+use Rattle.checks.proofs.Taken.{writes}
 
 -- the same call with another log
 abbrev after : Call → List ℕ → Call

@@ -4,10 +4,10 @@ use mathlib.Core.Path.{_≡_, refl}
 use Rattle.timetable.specs.Table.{Call, jobsOf, asks}
 use Rattle.verdicts.specs.Replay as verdicts
 use Rattle.verdicts.proofs.Meaning as general
-use Rattle.replay.specs.Replay.{trial, Checked, checked}
-use Rattle.replay.specs.Promise.{Checks}
-use Rattle.replay.proofs.Logs.{takes-logs}
-use Rattle.replay.proofs.Sound.{judging}
+use Rattle.checks.specs.Replay.{trial, Checked, checked}
+use Rattle.checks.specs.Promise.{Checks}
+use Rattle.checks.proofs.Logs.{takes-logs}
+use Rattle.checks.proofs.Sound.{judging}
 
 -- the answer is the general one
 pub by-trial : (c : Call) (count : ℕ) (a : Checked) → Checks c count a → a ≡ verdicts.checked (trial (jobsOf c)) (asks c) count

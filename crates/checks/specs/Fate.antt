@@ -5,7 +5,7 @@ use mathlib.Core.List.{List}
 use Rattle.narrowing.specs.Windows.{Win}
 use Rattle.timetable.specs.Table.{Call, jobsOf, asks}
 use Rattle.verdicts.specs.Fate as fate
-use Rattle.replay.specs.Replay.{trial, Verdict}
+use Rattle.checks.specs.Replay.{trial, Verdict}
 
 -- record i of the call's log
 abbrev pub nth : Call → ℕ → List ℕ

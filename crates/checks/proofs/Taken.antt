@@ -19,7 +19,7 @@ use Rattle.timetable.proofs.Entries.{entry-length}
 use Rattle.timetable.proofs.Lean.{lean-member, entry-lean}
 use Rattle.codes.specs.Facts.{side, OwnTrue, Tightens, GoodRecord}
 use Rattle.verdicts.specs.Promise.{WritesGood}
-use Rattle.replay.specs.Replay.{changed, trial}
+use Rattle.checks.specs.Replay.{changed, trial}
 
 number-most : (s : Side) → number s ≤ 1
 number-most early = omega arith

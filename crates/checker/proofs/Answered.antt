@@ -1,25 +1,25 @@
 -- The rows of the answer table as the code comes to them: from the end of a replay on copies of the windows, and from the tests before it.
 use Prim.Native.Nat.{ℕ, zero, suc, _≤_, _<_}
-use native.Mathlib.Omega.{arith}
 use mathlib.Core.Path.{_≡_, refl, sym, subst}
-use mathlib.Core.List.{List, [], _∷_, _++_}
+use mathlib.Core.List.{[], _∷_}
 use mathlib.Core.Option.{none}
-use lib.ListN.{length, drop, length-append, length-drop}
+use lib.ListN.{length}
 use borrow.Author.Tests.{lt-ltb}
 use Rattle.narrowing.specs.Windows.{Win}
 use Rattle.narrowing.proofs.TooShort.{finds-too-short}
 use Rattle.joblist.specs.Limits.{jobs}
 use Rattle.answers.specs.Said.{Word, said}
 use Rattle.journal.specs.Journal.{roomOf, records}
-use Rattle.timetable.specs.Table.{Call, Good, AllLong, refusalOf}
+use Rattle.timetable.specs.Table.{Call, Good, TooShort, AllLong, refusalOf}
 use Rattle.timetable.proofs.Good.{durations-sized}
 use Rattle.replay.specs.declared.Ended.{Ended}
-use Rattle.replay.specs.Replay.{Verdict, holds, clashes, rejected, replay, verdictOn, Checked, finds, judged, refuses, rows, checked}
-use Rattle.replay.specs.Promise.{Checks}
+use Rattle.checks.specs.Replay.{Verdict, holds, clashes, rejected, replay, verdictOn, Checked, finds, judged, refuses, rows, checked}
+use Rattle.checks.specs.Promise.{Checks}
 use Rattle.exam.specs.Lent.{jobsIn}
 use Rattle.replay.specs.Ended.{verdict}
-use Rattle.replay.proofs.Meaning.{checks}
-use Rattle.replay.proofs.Rows.{good-judged}
+use Rattle.checks.proofs.Meaning.{checks}
+use Rattle.checks.proofs.Rows.{good-judged}
+use Rattle.checks.proofs.TooShort.{too-short-unclaimed, too-short-claimed}
 
 -- ---- the end of a replay that left the windows U
 
@@ -32,10 +32,6 @@ module _ (c : Call) (count : ℕ) (v : Verdict) (r : Ended) (U : Win) (h : verdi
 
   pub row-rejected : (i k : ℕ) → r ≡ Ended.Rejected i k → finds (said Word.rejected (i ∷ k ∷ [])) (c .win) ≡ judged c count v
   row-rejected i k q = let z : rejected i k ≡ v = rw q at h in rw (← z)
-
--- a copy keeps its length where its front of n words becomes `out`
-pub kept-length : (n m : ℕ) (kept out : List ℕ) → length kept ≡ m → n ≤ m → length out ≡ n → length (out ++ drop n kept) ≡ m
-kept-length n m kept out h k e = simp (length-append, length-drop) (omega arith)
 
 -- ---- the tests before it
 
@@ -52,6 +48,13 @@ module _ (c : Call) (count : ℕ) where
   pub row-six : refusalOf c ≡ 0 → roomOf (c .log) < count → refuses c 6 ≡ checked c count
   unfolding checked rows
   row-six e h = rw (e, lt-ltb (roomOf (c .log)) count h)
+
+  -- a window is too short
+  pub row-short-claimed : (j : ℕ) → Good c → TooShort c j → 0 < count → count ≤ roomOf (c .log) → finds (said Word.rejected (0 ∷ 20 ∷ [])) (c .win) ≡ checked c count
+  row-short-claimed j g s b r = sym (too-short-claimed c count (checked c count) (checks c count) g j s b r)
+
+  pub row-short-unclaimed : (j : ℕ) → Good c → TooShort c j → count ≡ 0 → finds (said Word.clash (0 ∷ j ∷ [])) (c .win) ≡ checked c count
+  row-short-unclaimed j g s e = sym (too-short-unclaimed c count (checked c count) (checks c count) g j s e)
 
   -- no window is too short: the verdict is the replay's
   pub row-judged : Good c → count ≤ roomOf (c .log) → AllLong c

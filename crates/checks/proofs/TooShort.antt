@@ -8,9 +8,9 @@ use mathlib.Core.Logic.{inl}
 use Rattle.answers.specs.Said.{Word, said}
 use Rattle.journal.specs.Journal.{roomOf}
 use Rattle.timetable.specs.Table.{Call, Good, TooShort}
-use Rattle.replay.specs.Replay.{clashes, rejected, Checked, finds}
-use Rattle.replay.specs.Promise.{Checks}
-use Rattle.replay.proofs.Rows.{fate-answers}
+use Rattle.checks.specs.Replay.{clashes, rejected, Checked, finds}
+use Rattle.checks.specs.Promise.{Checks}
+use Rattle.checks.proofs.Rows.{fate-answers}
 
 module _ (c : Call) (count : ℕ) (a : Checked) (h : Checks c count a) (g : Good c) (j : ℕ) (s : TooShort c j) where
   pub too-short-unclaimed : count ≡ 0 → a ≡ finds (said Word.clash (0 ∷ j ∷ [])) (c .win)

@@ -24,12 +24,12 @@ use Rattle.timetable.proofs.Again.{same-jobs, good-again, long-again, word}
 use Rattle.codes.specs.Codes.{Coded}
 use Rattle.codes.specs.Facts.{side, OwnTrue, StatedTrue, Passes, GoodRecord}
 use Rattle.codes.specs.Faults.{Idles}
-use Rattle.replay.specs.Replay.{rejected, Checked, finds}
+use Rattle.checks.specs.Replay.{rejected, Checked, finds}
 use Rattle.verdicts.specs.Fate as fate
-use Rattle.replay.specs.Fate.{reached, nth}
-use Rattle.replay.specs.Promise.{Checks}
-use Rattle.replay.proofs.Taken.{entry-good}
-use Rattle.replay.proofs.Rows.{fate-answers}
+use Rattle.checks.specs.Fate.{reached, nth}
+use Rattle.checks.specs.Promise.{Checks}
+use Rattle.checks.proofs.Taken.{entry-good}
+use Rattle.checks.proofs.Rows.{fate-answers}
 
 -- a record that passed on W, on windows U inside W that respect its change: its facts are still true, and it tightens nothing
 module _ (J : Jobs) (W U : Win) (i : Inside (J .n) U W) (x : List ℕ) (g : Passes J W x) where

@@ -15,11 +15,11 @@ use Rattle.timetable.specs.Table.{Call, jobsOf, asks, Good}
 use Rattle.codes.specs.Facts.{side}
 use Rattle.verdicts.proofs.Rows as general
 use Rattle.verdicts.proofs.Firm as firm
-use Rattle.replay.specs.Replay.{changed, trial, Verdict, verdictOn, Checked, finds, judged, checked}
-use Rattle.replay.specs.Fate.{Fate}
-use Rattle.replay.specs.Promise.{Exactly, Checks}
-use Rattle.replay.proofs.Sound.{judging}
-use Rattle.replay.proofs.Meaning.{by-trial}
+use Rattle.checks.specs.Replay.{changed, trial, Verdict, verdictOn, Checked, finds, judged, checked}
+use Rattle.checks.specs.Fate.{Fate}
+use Rattle.checks.specs.Promise.{Exactly, Checks}
+use Rattle.checks.proofs.Sound.{judging}
+use Rattle.checks.proofs.Meaning.{by-trial}
 
 pub checks-same : (c : Call) (count : ℕ) (a b : Checked) → Checks c count a → Checks c count b → a ≡ b
 checks-same c count a b f g = f .answered ∙ sym (g .answered)

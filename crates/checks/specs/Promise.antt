@@ -7,8 +7,8 @@ use Rattle.timetable.specs.Table.{Call, call, jobsOf, asks, After}
 use Rattle.timetable.specs.Promise.{Scheduled, Narrows}
 pub use Rattle.verdicts.specs.Promise.{takenBy, taken}
 use Rattle.verdicts.specs.Promise as promise
-use Rattle.replay.specs.Replay.{ReasonedOn, trial, Checked, finds, checked}
-use Rattle.replay.specs.Fate.{nth, reached}
+use Rattle.checks.specs.Replay.{ReasonedOn, trial, Checked, finds, checked}
+use Rattle.checks.specs.Fate.{nth, reached}
 
 -- record i implies its own change from the facts that it names, for any whole starts; the facts hold of all starts in the windows reached; and it names
 -- no member that it could do without

@@ -9,9 +9,9 @@ use Rattle.answers.specs.Said.{Word, said}
 use Rattle.timetable.specs.Table.{Call, jobsOf}
 use Rattle.codes.specs.Faults.{OnlySpare}
 use Rattle.codes.proofs.Codes.{spare-exactly}
-use Rattle.replay.specs.Replay.{Checked, rejected}
-use Rattle.replay.specs.Fate.{nth, reached, Open, Fate}
-use Rattle.replay.specs.Promise.{Claimed, Exactly}
+use Rattle.checks.specs.Replay.{Checked, rejected}
+use Rattle.checks.specs.Fate.{nth, reached, Open, Fate}
+use Rattle.checks.specs.Promise.{Claimed, Exactly}
 
 module _ (c : Call) (count : ℕ) (a : Checked) (h : Exactly c count a) where
   pub spare-rejected : (i : ℕ)
