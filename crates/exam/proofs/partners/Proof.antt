@@ -19,6 +19,16 @@ Inv-loop dur dem words job set k₀ k = (k ≤ 32 * length set) × (every (partn
 abbrev μ-loop : tie.MeasureT-loop
 μ-loop dur dem words job set k₀ k = 32 * length set - k
 
+-- ---- the start and the set's length, from the loop's test
+
+abbrev begun : tie.At-loop Inv-loop μ-loop → tie.Start Inv-loop μ-loop
+begun d = d .before .before .before .before .before .before .before .before
+
+set-length : (d : tie.At-loop Inv-loop μ-loop) → length (d .before .set-of .result .now) ≡ length (begun d .args .words .now) - headWords
+set-length d = ap length (d .before .set-of .ensures) ∙ length-drop headWords (begun d .args .words .now)
+
+-- ---- the needs
+
 shared-slice-read-job : tie.Need-shared-slice-read-job Inv-loop μ-loop
 shared-slice-read-job c = search needs
 
@@ -31,7 +41,9 @@ takes-part-requires c κs = search needs
 returns : tie.Need-returns Inv-loop μ-loop
 returns c =
     let a = c .before .before .before .before .before .before .args in
-    sym (partners-own (a .dur .now) (a .dem .now) (a .words .now) (setOfRecord (a .words .now)) refl (sym (c .before .takes-part .ensures) ∙ not-true _ (c .if1 .taken)))
+    sym
+    (partners-own (a .dur .now) (a .dem .now) (a .words .now) (setOfRecord (a .words .now)) refl
+    (sym (c .before .takes-part .ensures) ∙ not-true _ (c .if1 .taken)))
 
 set-of-requires : tie.Need-set-of-requires Inv-loop μ-loop
 set-of-requires c κs = search needs
@@ -40,29 +52,42 @@ loop-holds : tie.Need-loop-holds Inv-loop μ-loop
 loop-holds c = (omega arith, every-none _)
 
 mul-loop : tie.Need-mul-loop Inv-loop μ-loop
-mul-loop c = omega (arith, length-drop headWords (c .before .before .before .before .before .before .before .before .args .words .now), ap length (c .before .set-of .ensures))
+mul-loop c = omega (arith, set-length c)
 
 partner-requires : tie.Need-partner-requires Inv-loop μ-loop
 partner-requires c κs = search needs
 
 returns-2 : tie.Need-returns-2 Inv-loop μ-loop
 returns-2 c =
-    let a = c .before .before .before .before .before .before .before .before .before .before .before .args in
-    sym (partners-fault (a .dur .now) (a .dem .now) (a .words .now) (c .before .before .before .before .set-of .result .now) (c .before .before .before .before .set-of .ensures) (c .before .before .before .loop .k) (c .before .before .loop-test .taken) (sym (c .before .partner .ensures) ∙ not-true _ (c .if2 .taken)))
+    let d = c .before .before .before in
+    let a = begun d .args in
+    let set = d .before .set-of in
+    sym
+    (partners-fault (a .dur .now) (a .dem .now) (a .words .now) (set .result .now) (set .ensures) (d .loop .k) (c .before .before .loop-test .taken)
+    (sym (c .before .partner .ensures) ∙ not-true _ (c .if2 .taken)))
 
 add-k : tie.Need-add-k Inv-loop μ-loop
-add-k c = omega (arith, length-drop headWords (c .before .before .before .before .before .before .before .before .before .before .before .args .words .now), ap length (c .before .before .before .before .set-of .ensures))
+add-k c = omega (arith, set-length (c .before .before .before))
 
 loop-less : tie.Need-loop-less Inv-loop μ-loop
 loop-less c = search needs
 
 loop-again : tie.Need-loop-again Inv-loop μ-loop
-loop-again c = (omega arith, every-more _ (c .before .before .before .loop .k) (c .before .before .before .loop .inv .1) (sym (c .before .partner .ensures) ∙ not-false _ (c .if2 .left)))
+loop-again c =
+    let l = c .before .before .before .loop in
+    (omega arith, every-more _ (l .k) (l .inv .1) (sym (c .before .partner .ensures) ∙ not-false _ (c .if2 .left)))
 
 returns-3 : tie.Need-returns-3 Inv-loop μ-loop
 returns-3 c =
-    let a = c .before .before .before .before .before .before .before .before .before .args in
-    sym (partners-all (a .dur .now) (a .dem .now) (a .words .now) (c .before .before .set-of .result .now) (c .before .before .set-of .ensures) (sym (c .before .before .before .before .takes-part .ensures) ∙ not-false _ (c .before .before .before .if1 .left)) (every-end _ (32 * length (c .before .before .set-of .result .now)) (c .before .loop .k) (c .before .loop .inv .0) (c .loop-test .left) (c .before .loop .inv .1)))
+    let d = c .before in
+    let a = begun d .args in
+    let l = d .loop in
+    let set = d .before .set-of in
+    let passed = d .before .before in
+    sym
+    (partners-all (a .dur .now) (a .dem .now) (a .words .now) (set .result .now) (set .ensures)
+    (sym (passed .before .takes-part .ensures) ∙ not-false _ (passed .if1 .left))
+    (every-end _ (32 * length (set .result .now)) (l .k) (l .inv .0) (c .loop-test .left) (l .inv .1)))
 
 pub partners-spec : {M : Type 1} → statement M
 partners-spec =

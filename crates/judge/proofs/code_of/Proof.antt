@@ -18,11 +18,11 @@ use Rattle.judge.proofs.code_of.Tie as tie
 
 -- what was lent, and its code
 abbrev codeAt : tie.Start → ℕ
-codeAt s = code (jobsIn (length (s .args .dur .now)) (s .args .dur .now) (s .args .dem .now) (s .args .cap)) (win (s .args .est .now) (s .args .lct .now)) (s .args .words .now)
+codeAt s = let a = s .args in code (jobsIn (length (a .dur .now)) (a .dur .now) (a .dem .now) (a .cap)) (win (a .est .now) (a .lct .now)) (a .words .now)
 
 -- the chain from a code on, of what was lent
 abbrev On : (ℕ → Win → List ℕ → List ℕ → List ℕ → ℕ) → tie.Start → ℕ
-On from s = from (s .args .cap) (win (s .args .est .now) (s .args .lct .now)) (s .args .dur .now) (s .args .dem .now) (s .args .words .now)
+On from s = let a = s .args in from (a .cap) (win (a .est .now) (a .lct .now)) (a .dur .now) (a .dem .now) (a .words .now)
 
 chain : (s : tie.Start) → codeAt s ≡ On from21 s
 chain s =
@@ -79,7 +79,8 @@ in-range d = ranged _ _ (range-passed d)
 placed-in : (d : tie.Else2) → LetThrough (length (start2 d .args .dur .now)) (start2 d .args .words .now)
 placed-in d =
     let a = start2 d .args in
-    placed (length (a .dur .now)) (a .dur .now) (a .dem .now) (a .words .now) (range-passed (d .before .before)) (sym (d .before .partners .ensures) ∙ not-false _ (d .if2 .left)) (start2 d .pre .1)
+    placed (length (a .dur .now)) (a .dur .now) (a .dem .now) (a .words .now) (range-passed (d .before .before))
+    (sym (d .before .partners .ensures) ∙ not-false _ (d .if2 .left)) (start2 d .pre .1)
 
 draws : (s : tie.Start) → Drawn (s .args .dem .now)
 draws s = let a = s .args in drawn (win (a .est .now) (a .lct .now)) (a .dur .now) (a .dem .now) (a .cap) (s .pre .0)

@@ -12,7 +12,9 @@ returns : tie.Need-returns
 returns c = rw (sym (c .before .has .ensures) ∙ not-true _ (c .if1 .taken))
 
 sure-requires : tie.Need-sure-requires
-sure-requires c κs = (c .before .before .before .before .before .before .pre .0, c .before .before .before .before .before .before .pre .1 (sym (c .before .has .ensures) ∙ not-false _ (c .if1 .left)), c .before .before .before .before .before .before .pre .2)
+sure-requires c κs =
+    let p = c .before .before .before .before .before .before .pre in
+    (p .0, p .1 (sym (c .before .has .ensures) ∙ not-false _ (c .if1 .left)), p .2)
 
 returns-2 : tie.Need-returns-2
 returns-2 c = c .sure .ensures ∙ rw (sym (c .before .before .has .ensures) ∙ not-false _ (c .before .if1 .left))

@@ -19,9 +19,7 @@ shared-slice-read-no-earlier-2 : tie.Need-shared-slice-read-no-earlier-2
 shared-slice-read-no-earlier-2 c = search needs
 
 no-earlier-requires : tie.Need-no-earlier-requires
-no-earlier-requires c κs =
-    let g = c .before .before .before .before .before .before .pre .0 .within in
-    (g .0 (c .before .before .before .before .before .before .args .job), c .before .before .before .before .before .before .pre .2, g .1 .1 .0 (c .before .before .before .before .before .before .args .job))
+no-earlier-requires c κs = let s = c .before .before .before .before .before .before in (s .pre .0 .within .0 (s .args .job), s .pre .2, s .pre .0 .within .1 .1 .0 (s .args .job))
 
 returns : tie.Need-returns
 returns c =
@@ -41,7 +39,7 @@ shared-slice-read-no-later-2 : tie.Need-shared-slice-read-no-later-2
 shared-slice-read-no-later-2 c = search needs
 
 no-later-requires : tie.Need-no-later-requires
-no-later-requires c κs = (c .before .before .before .before .before .before .pre .2, c .before .before .before .before .before .before .pre .0 .within .1 .1 .0 (c .before .before .before .before .before .before .args .job))
+no-later-requires c κs = let s = c .before .before .before .before .before .before in (s .pre .2, s .pre .0 .within .1 .1 .0 (s .args .job))
 
 returns-2 : tie.Need-returns-2
 returns-2 c =

@@ -20,6 +20,16 @@ Inv-loop est lct dur words t job set k₀ k = (k ≤ 32 * length set) × (every 
 abbrev μ-loop : tie.MeasureT-loop
 μ-loop est lct dur words t job set k₀ k = 32 * length set - k
 
+-- ---- the start and the set's length, from the loop's test
+
+abbrev begun : tie.At-loop Inv-loop μ-loop → tie.Start Inv-loop μ-loop
+begun d = d .before .before .before .before .before .before .before .before .before .before .before
+
+set-length : (d : tie.At-loop Inv-loop μ-loop) → length (d .before .set-of .result .now) ≡ length (begun d .args .words .now) - headWords
+set-length d = ap length (d .before .set-of .ensures) ∙ length-drop headWords (begun d .args .words .now)
+
+-- ---- the needs
+
 shared-slice-read-t : tie.Need-shared-slice-read-t Inv-loop μ-loop
 shared-slice-read-t c = omega (arith, c .before .before .before .before .before .pre .1 .words)
 
@@ -33,12 +43,14 @@ shared-slice-read-own-true : tie.Need-shared-slice-read-own-true Inv-loop μ-loo
 shared-slice-read-own-true c = search needs
 
 own-true-requires : tie.Need-own-true-requires Inv-loop μ-loop
-own-true-requires c κs = (c .before .before .before .before .before .before .before .pre .0, c .before .before .before .before .before .before .before .pre .1 .job, c .before .before .before .before .before .before .before .pre .1 .time)
+own-true-requires c κs = let p = c .before .before .before .before .before .before .before .pre in (p .0, p .1 .job, p .1 .time)
 
 returns : tie.Need-returns Inv-loop μ-loop
 returns c =
     let a = c .before .before .before .before .before .before .before .before .before .args in
-    sym (stated-own (a .dur .now) (win (a .est .now) (a .lct .now)) (a .words .now) (setOfRecord (a .words .now)) refl (sym (c .before .own-true .ensures) ∙ not-true _ (c .if1 .taken)))
+    sym
+    (stated-own (a .dur .now) (win (a .est .now) (a .lct .now)) (a .words .now) (setOfRecord (a .words .now)) refl
+    (sym (c .before .own-true .ensures) ∙ not-true _ (c .if1 .taken)))
 
 set-of-requires : tie.Need-set-of-requires Inv-loop μ-loop
 set-of-requires c κs = search needs
@@ -47,29 +59,45 @@ loop-holds : tie.Need-loop-holds Inv-loop μ-loop
 loop-holds c = (omega arith, every-none _)
 
 mul-loop : tie.Need-mul-loop Inv-loop μ-loop
-mul-loop c = omega (arith, c .before .before .before .before .before .before .before .before .before .before .before .pre .1 .words, length-drop headWords (c .before .before .before .before .before .before .before .before .before .before .before .args .words .now), ap length (c .before .set-of .ensures))
+mul-loop c = omega (arith, set-length c, begun c .pre .1 .words)
 
 member-true-requires : tie.Need-member-true-requires Inv-loop μ-loop
-member-true-requires c κs = (c .before .before .before .before .before .before .before .before .before .before .before .before .pre .0, rw (c .before .before .set-of .ensures) (c .before .before .before .before .before .before .before .before .before .before .before .before .pre .1 .members (c .before .loop .k)), c .before .before .before .before .before .before .before .before .before .before .before .before .pre .1 .time)
+member-true-requires c κs =
+    let d = c .before in
+    let p = begun d .pre in
+    (p .0, rw (d .before .set-of .ensures) (p .1 .members (d .loop .k)), p .1 .time)
 
 returns-2 : tie.Need-returns-2 Inv-loop μ-loop
 returns-2 c =
-    let a = c .before .before .before .before .before .before .before .before .before .before .before .before .before .before .args in
-    sym (stated-fault (a .dur .now) (win (a .est .now) (a .lct .now)) (a .words .now) (c .before .before .before .before .set-of .result .now) (c .before .before .before .before .set-of .ensures) (c .before .before .before .loop .k) (c .before .before .loop-test .taken) (sym (c .before .member-true .ensures) ∙ not-true _ (c .if2 .taken)))
+    let d = c .before .before .before in
+    let a = begun d .args in
+    let set = d .before .set-of in
+    sym
+    (stated-fault (a .dur .now) (win (a .est .now) (a .lct .now)) (a .words .now) (set .result .now) (set .ensures) (d .loop .k) (c .before .before .loop-test .taken)
+    (sym (c .before .member-true .ensures) ∙ not-true _ (c .if2 .taken)))
 
 add-k : tie.Need-add-k Inv-loop μ-loop
-add-k c = omega (arith, c .before .before .before .before .before .before .before .before .before .before .before .before .before .before .pre .1 .words, length-drop headWords (c .before .before .before .before .before .before .before .before .before .before .before .before .before .before .args .words .now), ap length (c .before .before .before .before .set-of .ensures))
+add-k c = let d = c .before .before .before in omega (arith, set-length d, begun d .pre .1 .words)
 
 loop-less : tie.Need-loop-less Inv-loop μ-loop
 loop-less c = search needs
 
 loop-again : tie.Need-loop-again Inv-loop μ-loop
-loop-again c = (omega arith, every-more _ (c .before .before .before .loop .k) (c .before .before .before .loop .inv .1) (sym (c .before .member-true .ensures) ∙ not-false _ (c .if2 .left)))
+loop-again c =
+    let l = c .before .before .before .loop in
+    (omega arith, every-more _ (l .k) (l .inv .1) (sym (c .before .member-true .ensures) ∙ not-false _ (c .if2 .left)))
 
 returns-3 : tie.Need-returns-3 Inv-loop μ-loop
 returns-3 c =
-    let a = c .before .before .before .before .before .before .before .before .before .before .before .before .args in
-    sym (stated-all (a .dur .now) (win (a .est .now) (a .lct .now)) (a .words .now) (c .before .before .set-of .result .now) (c .before .before .set-of .ensures) (sym (c .before .before .before .before .own-true .ensures) ∙ not-false _ (c .before .before .before .if1 .left)) (every-end _ (32 * length (c .before .before .set-of .result .now)) (c .before .loop .k) (c .before .loop .inv .0) (c .loop-test .left) (c .before .loop .inv .1)))
+    let d = c .before in
+    let a = begun d .args in
+    let l = d .loop in
+    let set = d .before .set-of in
+    let passed = d .before .before in
+    sym
+    (stated-all (a .dur .now) (win (a .est .now) (a .lct .now)) (a .words .now) (set .result .now) (set .ensures)
+    (sym (passed .before .own-true .ensures) ∙ not-false _ (passed .if1 .left))
+    (every-end _ (32 * length (set .result .now)) (l .k) (l .inv .0) (c .loop-test .left) (l .inv .1)))
 
 pub stated-true-spec : {M : Type 1} → statement M
 stated-true-spec =
