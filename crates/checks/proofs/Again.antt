@@ -72,7 +72,8 @@ module _ (c : Call) (a : After) (h : Narrows c a) (n : ℕ) (e : a .says ≡ sai
       let long = long-around (J .n) (J .p) (a .win) (c .win) (big .one .inside) (big .one .long) in
       let ch = x .0 in
       let first : nth again 0 ≡ entry J y =
-      ap (λ (w : List ℕ). recordAt w 0) l ∙ logged-record (map (entry J) (y ∷ ys)) (c .log) (entries-are leanMember J (y ∷ ys)) (omega (arith, entries-count leanMember J ys, r .1, r .2)) 0 (omega arith) in
+      ap (λ (w : List ℕ). recordAt w 0) l
+      ∙ logged-record (map (entry J) (y ∷ ys)) (c .log) (entries-are leanMember J (y ∷ ys)) (omega (arith, entries-count leanMember J ys, r .1, r .2)) 0 (omega arith) in
       let made : y ≡ move (c .win) (y .job) (y .side) (y .choice) = ap (λ (w : Win). record { job = y .job; side = y .side; choice = y .choice; before = w }) (ch .before) in
       let good : GoodRecord J (c .win) (entry J y) =
       subst (λ (z : Move). GoodRecord J (c .win) (entry J z)) (sym made)

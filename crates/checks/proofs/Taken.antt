@@ -27,7 +27,8 @@ number-most late = omega arith
 
 -- ---- one record
 
-module _ (J : Jobs) (W : Win) (few : J .n ≤ 32 * setWords) (L : Long (J .n) (J .p) W) (j : ℕ) (s : Side) (t : ℕ) (b : j < J .n) (small : W .l ! j ≤ mostTime) (a : Applies J W j s (bound s t)) where
+module _ (J : Jobs) (W : Win) (few : J .n ≤ 32 * setWords) (L : Long (J .n) (J .p) W) (j : ℕ) (s : Side) (t : ℕ) (b : j < J .n) (small : W .l ! j ≤ mostTime)
+    (a : Applies J W j s (bound s t)) where
   before-end : (v : Side) → Applies J W j v (bound v t) → t < W .l ! j
   unfolding Long
   before-end early d = omega (arith, d .to, L j b)
