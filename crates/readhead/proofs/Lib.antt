@@ -1,2 +1,3 @@
+pub mod PairPlaces
 pub mod Sweeps
 pub mod Turns

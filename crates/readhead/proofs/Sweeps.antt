@@ -5,86 +5,31 @@ use Prim.Native.Nat.{ℕ, _+_, _*_, _^_, _≤_, _<_}
 use native.Mathlib.Omega.{arith}
 use native.Mathlib.Decide.{ℕ-discrete, decLt, decLe}
 use mathlib.Core.Path.{_≡_, refl, sym, _∙_}
-use mathlib.Core.Bool.{Bool, true, false, not}
+use mathlib.Core.Bool.{true, false}
 use mathlib.Core.List.{List}
 use mathlib.Core.Logic.{_⊎_, inl, inr}
-use lib.Dec.{ltb, eqb}
+use lib.Dec.{ltb}
 use lib.IntN.{ℤ, pos, _+ℤ_}
 use lib.ListN.{set, replicate}
 use lib.Signed.{ltZ}
-use borrow.Author.Tests.{leb-true, le-leb, ltb-true, lt-ltb, eq-eqb, eqb-true}
+use borrow.Author.Tests.{leb-true, le-leb, ltb-true, lt-ltb}
 use Rattle.lists.specs.Lists.{_!_}
-use Rattle.lists.specs.Tests.{both}
-use Rattle.lists.specs.Orders.{rank, Ordered}
-use Rattle.lists.specs.Sets.{Set, Sub, totalOf, fewest}
+use Rattle.lists.specs.Orders.{rank}
+use Rattle.lists.specs.Sets.{Set, Sub, totalOf}
 use Rattle.lists.proofs.Orders.{rank-below, rank-apart, rank-rising, rank-onto}
-use Rattle.lists.proofs.Tests.{by-contra, both-true}
-use Rattle.lists.proofs.Sets.{clash, totalOf-sub, fewest-is, fewest-le}
+use Rattle.lists.proofs.Tests.{by-contra}
 use Rattle.narrowing.specs.Windows.{Win}
-use Rattle.overloads.specs.Overload.{by, window, OverloadedPair, FirstPair}
-use Rattle.theta.specs.Theta.{far, endOf, empty, Places, HoldsSet, Ranged, Climbed, onward, descent}
-use Rattle.readhead.specs.Sweep.{tied, due}
-use Rattle.overloads.proofs.Pairs.{in-window, window-in}
-use Rattle.theta.proofs.Nodes.{in-onward, onward-in}
-use Rattle.theta.proofs.Climbs.{holds-more, start-ranged, start-holds}
+use Rattle.overloads.specs.Overload.{by, OverloadedPair, FirstPair}
+use Rattle.theta.specs.Theta.{far, endOf, empty, Places, HoldsSet, Ranged, Climbed, descent}
+use Rattle.theta.proofs.Ranges.{start-ranged}
+use Rattle.theta.proofs.Climbs.{holds-more, start-holds}
+use Rattle.readhead.proofs.PairPlaces.{short-none, last-pair, last-greatest}
 use Rattle.theta.proofs.Descents.{Last, root-over, root-short}
 
 -- places by earliest start are places of a tree with leaves enough
 pub rank-places : (n m : ℕ) (e : List ℕ) → n ≤ m → Places n m e (rank e n)
 rank-places n m e h =
     record { into = λ j b. omega (arith, rank-below e n j b); apart = rank-apart e n; rising = rank-rising e n }
-
--- ---- pairs and places
-
-module _ (n : ℕ) (p : List ℕ) (W : Win) (σ : ℕ → ℕ) (O : Set) (b : ℕ) (in-all : Sub n (by W b) O)
-    (rising : (i j : ℕ) → i < n → j < n → σ i ≤ σ j → W .e ! i ≤ W .e ! j) where
-  -- a pair's first job by place, with all jobs from its place on, exceeds b
-  pair-place : (a : ℕ) → OverloadedPair n p W a b → (i : ℕ) × (i < n) × (O i ≡ true) × (a ≤ W .e ! i) × (b < W .e ! i + totalOf n p (onward σ O (σ i)))
-  pair-place a q = go (fewest-is (window W a b) σ (σ (q .some .0)) n)
-    where
-      low : ℕ
-      low = fewest (window W a b) σ (σ (q .some .0)) n
-
-      first : (i : ℕ) → i < n → window W a b i ≡ true → low ≡ σ i → (i : ℕ) × (i < n) × (O i ≡ true) × (a ≤ W .e ! i) × (b < W .e ! i + totalOf n p (onward σ O (σ i)))
-      first i c t f =
-          let u = window-in n p W a b i t in
-          let s = totalOf-sub n p (window W a b) (onward σ O (σ i))
-          (λ k d r. let w = window-in n p W a b k r in
-          in-onward σ O (σ i) k (in-all k d (le-leb _ _ (w .1))) (omega (arith, fewest-le (window W a b) σ (σ (q .some .0)) n .1 k d r))) in
-          (i, c, in-all i c (le-leb _ _ (u .1)), u .0, omega (arith, q .over))
-
-      go : (low ≡ σ (q .some .0)) ⊎ ((i : ℕ) × (i < n) × (window W a b i ≡ true) × (low ≡ σ i)) → (i : ℕ) × (i < n) × (O i ≡ true) × (a ≤ W .e ! i) × (b < W .e ! i + totalOf n p (onward σ O (σ i)))
-      go (inl f) = first (q .some .0) (q .some .1) (q .some .2) f
-      go (inr (i, c, t, f)) = first i c t f
-
-  -- where no job exceeds b so, b has no pair
-  short-none : ((i : ℕ) → i < n → O i ≡ true → W .e ! i + totalOf n p (onward σ O (σ i)) ≤ b) → (a : ℕ) → OverloadedPair n p W a b → ⊥
-  short-none f a q = let i = pair-place a q in omega (arith, f (i .0) (i .1) (i .2), i .4)
-
-  -- the last job that does so gives the greatest a
-  last-pair : (x j : ℕ) → Last n (W .e) p σ O b x j → Sub n O (by W b) → (k : ℕ) → k < n → W .l ! k ≡ b → OverloadedPair n p W (W .e ! j) b
-  last-pair x j L all k c f =
-      record {
-        start = (j, L .below, refl);
-        stop = (k, c, f);
-        some = (j, L .below, in-window n p W (W .e ! j) b j (omega arith) (leb-true _ _ (all j (L .below) (L .member))));
-        over = omega (
-          arith,
-          L .over,
-          totalOf-sub n p (onward σ O x) (window W (W .e ! j) b)
-              (λ i d t.
-              let u = onward-in σ O x i t in
-              in-window n p W (W .e ! j) b i (rising j i (L .below) d (omega (arith, L .place))) (leb-true _ _ (all i d (u .0)))),
-        );
-      }
-
-  last-greatest : (x j : ℕ) → Last n (W .e) p σ O b x j → (a : ℕ) → OverloadedPair n p W a b → a ≤ W .e ! j
-  last-greatest x j L a q =
-      let i = pair-place a q in
-      elim (decLe (σ (i .0)) x) [
-        | yes h ↦ omega (arith, i .3, rising (i .0) j (i .1) (L .below) (omega (arith, L .place)))
-        | no h ↦ absurd (omega (arith, i .4, L .after (i .0) (i .1) (i .2) (omega arith)))
-      ]
 
 -- ---- the sweep
 
@@ -211,38 +156,3 @@ module _ (n m : ℕ) (p : List ℕ) (W : Win) (k : ℕ) (sums : List ℕ) (ends 
                 least = λ a c q. let w = G .later a c q in omega (arith, w .2, rank-rising (W .l) n j (w .0) b (w .1) (omega (arith, w .3)));
                 greatest = last-greatest n p W (rank (W .e) n) (entered n W (k + 1)) (W .l ! j) all-in (rank-rising (W .e) n) x i L;
               }
-
--- ---- a turn of the loop: the job at place k of the order goes in, and its latest end is tested where no job of it is next
-
-module _ (n m : ℕ) (p : List ℕ) (W : Win) (o : List ℕ) (k : ℕ) (sums : List ℕ) (ends : List ℤ) (sums′ : List ℕ) (ends′ : List ℤ) (few : n ≤ m)
-    (order : Ordered (W .l) n o) (G : Going n m p W k sums ends) (lt : k < n)
-    (C : Climbed m (set sums (m + rank (W .e) n (o ! k)) (p ! (o ! k))) (set ends (m + rank (W .e) n (o ! k)) (pos (W .e ! (o ! k) + p ! (o ! k)))) sums′ ends′)
-    (small : totalOf n p (entered n W (k + 1)) < far) (d : ℕ) (size : m ≡ 2 ^ d) where
-  -- no job of its latest end is next
-  not-tied : tied n (W .l) o (k + 1) (W .l ! (o ! k)) ≡ false → (i : ℕ) → i < n → rank (W .l) n i ≡ k + 1 → W .l ! i ≡ W .l ! (o ! k) → ⊥
-  not-tied h i c r f =
-      let b : k + 1 < n = omega (arith, rank-below (W .l) n i c) in
-      let e : o ! (k + 1) ≡ i = rank-apart (W .l) n (o ! (k + 1)) i (order .into (k + 1) b) c (order .placed (k + 1) b ∙ sym r) in
-      clash (tied n (W .l) o (k + 1) (W .l ! (o ! k))) (rw (lt-ltb (k + 1) n b, e) (eq-eqb (W .l ! i) (W .l ! (o ! k)) f)) h
-
-  pub going-on : due n (W .l) o (k + 1) (W .l ! (o ! k)) (endOf ends′ 1) ≡ false → Going n m p W (k + 1) sums′ ends′
-  going-on h = go (tied n (W .l) o (k + 1) (W .l ! (o ! k))) refl h
-    where
-      go : (t : Bool) → tied n (W .l) o (k + 1) (W .l ! (o ! k)) ≡ t → both (not t) (ltZ (pos (W .l ! (o ! k))) (endOf ends′ 1 +ℤ pos 0)) ≡ false → Going n m p W (k + 1) sums′ ends′
-      go true e f =
-          let q = both-true (ltb (k + 1) n) (eqb (W .l ! (o ! (k + 1))) (W .l ! (o ! k))) e in
-          let b : k + 1 < n = ltb-true (k + 1) n (q .0) in
-          going-same n m p W k sums ends sums′ ends′ few G (o ! k) (order .into k lt) (order .placed k lt) C
-          (o ! (k + 1)) (order .into (k + 1) b) (order .placed (k + 1) b) (eqb-true _ _ (q .1))
-      go false e f = going-short n m p W k sums ends sums′ ends′ few G (o ! k) (order .into k lt) (order .placed k lt) C (not-tied e) small d size f
-
-  pub going-found-at : (s : List ℕ) → Ordered (W .e) n s → due n (W .l) o (k + 1) (W .l ! (o ! k)) (endOf ends′ 1) ≡ true
-      → (x : ℕ) × (descent sums′ ends′ (W .l ! (o ! k)) d 1 0 ≡ m + x) × (x < n) × (s ! x < n) × FirstPair n p W (W .e ! (s ! x)) (W .l ! (o ! k))
-  going-found-at s by-start h = go (tied n (W .l) o (k + 1) (W .l ! (o ! k))) refl h
-    where
-      go : (t : Bool) → tied n (W .l) o (k + 1) (W .l ! (o ! k)) ≡ t → both (not t) (ltZ (pos (W .l ! (o ! k))) (endOf ends′ 1 +ℤ pos 0)) ≡ true
-          → (x : ℕ) × (descent sums′ ends′ (W .l ! (o ! k)) d 1 0 ≡ m + x) × (x < n) × (s ! x < n) × FirstPair n p W (W .e ! (s ! x)) (W .l ! (o ! k))
-      go true e f = clash false f refl
-      go false e f =
-          let r = going-found n m p W k sums ends sums′ ends′ few G (o ! k) (order .into k lt) (order .placed k lt) C (not-tied e) small d size f in
-          (r .0, r .1, r .2, by-start .into (r .0) (r .2), r .3 (s ! r .0) (by-start .into (r .0) (r .2)) (by-start .placed (r .0) (r .2)))

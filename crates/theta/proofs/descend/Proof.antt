@@ -8,7 +8,7 @@ use borrow.Author.Needs.{needs}
 use mir.Facts.{toZ-ofZ}
 use Rattle.joblist.specs.Limits.{mostJobs}
 use Rattle.theta.specs.Theta.{depth}
-use Rattle.theta.proofs.Climbs.{sum-under, end-under, end-fits}
+use Rattle.theta.proofs.Ranges.{sum-under, end-under, end-fits}
 use Rattle.theta.proofs.descend.Statement.{statement}
 use Rattle.theta.proofs.descend.Tie as tie
 

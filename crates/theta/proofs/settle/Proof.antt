@@ -7,7 +7,7 @@ use mir.Syntax.{w64}
 use lib.ListN.{set}
 use borrow.Author.Needs.{sfits-of, needs}
 use Rattle.joblist.specs.Limits.{mostJobs}
-use Rattle.theta.proofs.Climbs.{child-sums, end-under, end-fits}
+use Rattle.theta.proofs.Ranges.{child-sums, end-under, end-fits}
 use Rattle.theta.proofs.settle.Statement.{statement}
 use Rattle.theta.proofs.settle.Tie as tie
 

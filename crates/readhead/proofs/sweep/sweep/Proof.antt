@@ -9,7 +9,7 @@ use native.Mathlib.Omega.{arith}
 use lib.ListN.{length}
 use Rattle.joblist.specs.Limits.{mostJobs}
 use Rattle.narrowing.specs.Windows.{win}
-use Rattle.theta.proofs.Climbs.{end-under, end-fits}
+use Rattle.theta.proofs.Ranges.{end-under, end-fits}
 use Rattle.readhead.proofs.Sweeps.{going-start}
 use Rattle.readhead.proofs.Turns.{Turning, next-in, turn-on, turn-reached, turn-found, turn-none}
 use Rattle.readhead.proofs.sweep.sweep.Statement.{statement}
