@@ -5,6 +5,9 @@ use native.Mathlib.Omega.{arith}
 use mathlib.Core.Path.{_≡_, refl, sym, ap, _∙_}
 use mathlib.Core.Bool.{Bool, true, false, not}
 use mathlib.Core.List.{List, [], _∷_}
+use mir.Facts.{toZ-ofZ}
+use mir.Syntax.{w64}
+use mir.Val.{toZ, ofZ}
 use lib.Dec.{ltb, eqb}
 use lib.IntN.{ℤ, pos, _+ℤ_}
 use lib.ListN.{length, set}
@@ -22,8 +25,9 @@ use Rattle.lists.proofs.Sets.{clash}
 use Rattle.narrowing.specs.Windows.{Win, win}
 use Rattle.overloads.specs.Overload.{Finding, nothing, overload, foundSaid, FirstPair}
 use Rattle.overloads.proofs.Pairs.{overload-is}
-use Rattle.theta.specs.Theta.{far, endOf, Climbed, depth, descent}
+use Rattle.theta.specs.Theta.{far, endOf, Ranged, Climbed, depth, descent}
 use Rattle.theta.proofs.Nodes.{total-most}
+use Rattle.theta.proofs.Ranges.{end-fits}
 use Rattle.readhead.specs.Sweep.{tied, due, Sorted, Entered, LeafTaken}
 use Rattle.readhead.proofs.Sweeps.{entered, Going, going-end, going-same, going-short, going-found}
 
@@ -66,6 +70,10 @@ module _ (n m : ℕ) (p : List ℕ) (W : Win) (o : List ℕ) (k : ℕ) (sums : L
 abbrev pub Turning : List ℕ → List ℕ → List ℕ → List ℕ → List ℤ → ℕ → Type 0
 Turning est lct dur sums ends k = Going (length est) mostJobs dur (win est lct) k sums ends
 
+-- the root's completion, read as a signed word
+pub root-read : (sums : List ℕ) (ends : List ℤ) → Ranged mostJobs sums ends → toZ w64 (ofZ w64 (endOf ends 1)) ≡ endOf ends 1
+root-read sums ends r = toZ-ofZ (end-fits sums ends r 1 (omega arith))
+
 module _ (est lct dur place starts stops : List ℕ) (S : Sorted est lct dur place starts stops) where
   small : (T : Set) → totalOf (length est) dur T < far
   small T = omega (arith, total-most (length est) dur T (S .good .few) (S .good .within .1 .1 .0))
@@ -74,30 +82,37 @@ module _ (est lct dur place starts stops : List ℕ) (S : Sorted est lct dur pla
   next-in = S .by-stop .into
 
   module _ (k : ℕ) (sums : List ℕ) (ends : List ℤ) (sums′ : List ℕ) (ends′ : List ℤ) (T : Turning est lct dur sums ends k) (lt : k < length est)
-      (E : Entered est dur (stops ! k) sums ends sums′ ends′) where
-    pub turn-on : due (length lct) lct stops (k + 1) (lct ! (stops ! k)) (endOf ends′ 1) ≡ false → Turning est lct dur sums′ ends′ (k + 1)
+      (E : Entered est dur (stops ! k) sums ends sums′ ends′) (r : Bool)
+      (told : r ≡ due (length lct) lct stops (k + 1) (lct ! (stops ! k)) (toZ w64 (ofZ w64 (endOf ends′ 1)))) where
+    abbrev b : ℕ
+    b = lct ! (stops ! k)
+
+    -- what the test has told of the root
+    due-is : (t : Bool) → r ≡ t → due (length est) lct stops (k + 1) b (endOf ends′ 1) ≡ t
+    due-is t h = rw (S .good .sized .1 .0) at (rw (root-read sums′ ends′ (E .ranged)) at (sym told ∙ h))
+
+    pub turn-on : r ≡ false → Turning est lct dur sums′ ends′ (k + 1)
     turn-on h =
-        going-on (length est) mostJobs dur (win est lct) stops k sums ends sums′ ends′ (S .good .few) (S .by-stop) T lt E (small _) depth refl
-        (rw (S .good .sized .1 .0) at h)
+        going-on (length est) mostJobs dur (win est lct) stops k sums ends sums′ ends′ (S .good .few) (S .by-stop) T lt E (small _) depth refl (due-is false h)
 
-    module _ (h : due (length lct) lct stops (k + 1) (lct ! (stops ! k)) (endOf ends′ 1) ≡ true) where
-      abbrev b : ℕ
-      b = lct ! (stops ! k)
-
+    module _ (h : r ≡ true) where
       abbrev v : ℕ
       v = descent sums′ ends′ b depth 1 0
 
+      -- the job at the place where the descent ends starts at the pair's a
+      reached : (x : ℕ) × (v ≡ mostJobs + x) × (x < length est) × (starts ! x < length est) × FirstPair (length est) dur (win est lct) (est ! (starts ! x)) b
+      reached =
+          going-found-at (length est) mostJobs dur (win est lct) stops k sums ends sums′ ends′ (S .good .few) (S .by-stop) T lt E (small _) depth refl
+          starts (S .by-start) (due-is true h)
+
+      place-is : v - mostJobs ≡ reached .0
+      place-is = omega (arith, reached .1)
+
       pub turn-reached : LeafTaken est starts v
-      turn-reached =
-          let r = going-found-at (length est) mostJobs dur (win est lct) stops k sums ends sums′ ends′ (S .good .few) (S .by-stop) T lt E (small _) depth refl starts (S .by-start) (rw (S .good .sized .1 .0) at h) in
-          let q : v - mostJobs ≡ r .0 = omega (arith, r .1) in
-          record { leaf = omega (arith, r .1); place = omega (arith, r .1, r .2, S .good .few); job = rw q (r .3) }
+      turn-reached = record { leaf = omega (arith, reached .1); place = omega (arith, place-is, reached .2, S .good .few); job = rw place-is (reached .3) }
 
       pub turn-found : said Word.overload (est ! (starts ! (v - mostJobs)) ∷ b ∷ []) ≡ foundSaid (overload (length est) dur (win est lct))
-      turn-found =
-          let r = going-found-at (length est) mostJobs dur (win est lct) stops k sums ends sums′ ends′ (S .good .few) (S .by-stop) T lt E (small _) depth refl starts (S .by-start) (rw (S .good .sized .1 .0) at h) in
-          let q : v - mostJobs ≡ r .0 = omega (arith, r .1) in
-          rw q (ap foundSaid (overload-is (length est) dur (win est lct) (Finding.pair (est ! (starts ! r .0)) b) (r .4)))
+      turn-found = rw place-is (ap foundSaid (overload-is (length est) dur (win est lct) (Finding.pair (est ! (starts ! (reached .0))) b) (reached .4)))
 
   pub turn-none : (k : ℕ) (sums : List ℕ) (ends : List ℤ) → Turning est lct dur sums ends k → length est ≤ k → said Word.none [] ≡ foundSaid (overload (length est) dur (win est lct))
   turn-none k sums ends T h =

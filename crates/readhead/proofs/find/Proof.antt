@@ -14,14 +14,17 @@ places-requires c κs = search needs
 
 sweep-requires : tie.Need-sweep-requires
 sweep-requires c κs =
-    let g = c .before .before .before .before .before .before .before .before .before .before .before .before .before .pre in
+    let placed = c .before .before .before in
+    let started = placed .before .before .before in
+    let stopped = started .before .before in
+    let g = stopped .before .before .before .before .before .pre in
     record {
       good = g;
-      placed = c .before .before .before .places .ensures .0;
-      by-start = c .before .before .before .before .before .before .order2 .ensures .0 .0;
-      by-stop = rw (g .sized .1 .0) at (c .before .before .before .before .before .before .before .before .order .ensures .0 .0);
-      starts-long = c .before .before .before .before .before .before .order2 .ensures .0 .1;
-      stops-long = c .before .before .before .before .before .before .before .before .order .ensures .0 .1;
+      placed = placed .places .ensures .0;
+      by-start = started .order2 .ensures .0 .0;
+      by-stop = rw (g .sized .1 .0) at (stopped .order .ensures .0 .0);
+      starts-long = started .order2 .ensures .0 .1;
+      stops-long = stopped .order .ensures .0 .1;
     }
 
 returns : tie.Need-returns

@@ -4,12 +4,18 @@ use Prim.Native.Nat.{_+_, _*_}
 use native.Mathlib.Omega.{arith}
 use mir.Facts.{toZ-ofZ}
 use mir.Syntax.{w64}
+use mir.Val.{SFits}
 use lib.ListN.{set}
 use borrow.Author.Needs.{sfits-of, needs}
 use Rattle.joblist.specs.Limits.{mostJobs}
+use Rattle.theta.specs.Theta.{endOf}
 use Rattle.theta.proofs.Ranges.{child-sums, end-under, end-fits}
 use Rattle.theta.proofs.settle.Statement.{statement}
 use Rattle.theta.proofs.settle.Tie as tie
+
+-- the children's completions are read as they stand
+child-fits : (s : tie.Start) → (SFits w64 (endOf (s .args .ends .now) (2 * s .args .v))) × (SFits w64 (endOf (s .args .ends .now) (2 * s .args .v + 1)))
+child-fits s = let f = end-fits _ _ (s .pre .0) in (f (2 * s .args .v) (omega (arith, s .pre .1)), f (2 * s .args .v + 1) (omega arith))
 
 mul-l : tie.Need-mul-l
 mul-l c = search needs
@@ -40,8 +46,8 @@ element-copy-out-join-3 c = search needs
 
 join-requires : tie.Need-join-requires
 join-requires c κs =
-    let a = c .before .before .before .args in
-    rw (toZ-ofZ (end-fits (a .sums .now) (a .ends .now) (c .before .before .before .pre .0) (2 * a .v) (omega (arith, c .before .before .before .pre .1)))) (omega (arith, end-under (a .sums .now) (a .ends .now) (c .before .before .before .pre .0) (2 * a .v) (omega (arith, c .before .before .before .pre .1))))
+    let s = c .before .before .before in
+    rw (toZ-ofZ (child-fits s .0)) (end-under _ _ (s .pre .0) (2 * s .args .v) (omega (arith, s .pre .1)))
 
 mul-sum : tie.Need-mul-sum
 mul-sum c = search needs
@@ -57,8 +63,8 @@ element-copy-out-sum-2 c = search needs
 
 add-sum : tie.Need-add-sum
 add-sum c =
-    let a = c .before .before .before .before .before .before .args in
-    omega (arith, child-sums mostJobs (a .sums .now) (a .ends .now) (c .before .before .before .before .before .before .pre .0) (a .v) (c .before .before .before .before .before .before .pre .1))
+    let s = c .before .before .before .before .before .before in
+    omega (arith, child-sums mostJobs (s .args .sums .now) (s .args .ends .now) (s .pre .0) (s .args .v) (s .pre .1))
 
 mul-end : tie.Need-mul-end
 mul-end c = search needs
@@ -74,10 +80,10 @@ element-write-sums c = search needs
 
 returns : tie.Need-returns
 returns c =
-    let a = c .before .before .before .before .before .before .args in
     let j = c .before .before .join in
-    let f = end-fits (a .sums .now) (a .ends .now) (c .before .before .before .before .before .before .pre .0) in
-    (refl, ap (λ z. set (a .ends .now) (a .v) z) (toZ-ofZ (sfits-of {w = w64} (j .ok)) ∙ (rw (toZ-ofZ (f (2 * a .v) (omega (arith, c .before .before .before .before .before .before .pre .1))), toZ-ofZ (f (2 * a .v + 1) (omega arith))) at (j .ensures))))
+    let s = c .before .before .before .before .before .before in
+    let f = child-fits s in
+    (refl, ap (λ z. set (s .args .ends .now) (s .args .v) z) (toZ-ofZ (sfits-of {w = w64} (j .ok)) ∙ (rw (toZ-ofZ (f .0), toZ-ofZ (f .1)) at (j .ensures))))
 
 pub settle-spec : {M : Type 1} → statement M
 settle-spec =
