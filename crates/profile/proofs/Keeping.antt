@@ -31,9 +31,9 @@ pub grows-none : (ts ld : List ℕ) (k : Outline) (lo hi r : ℕ) → hi ≤ lo 
 grows-none ts ld k lo hi r h =
     record { size = refl; few = omega arith; keeps = λ f K. keeps-same K (raised f lo hi r) (λ t. raised-none f lo hi r t h) }
 
-pub grows : (ts ld : List ℕ) (k : Outline) (lo hi r : ℕ) (us ls : List ℕ) (n : Outline) (top : ℕ) → Raises ts ld (k .m) lo hi r us ls (n .m) top
-    → k .peak ≤ n .peak → top ≤ n .peak → Grows ts ld k lo hi r us ls n
-grows ts ld k lo hi r us ls n top R a b =
+pub grows : (ts ld : List ℕ) (k : Outline) (lo hi r : ℕ) (us ls : List ℕ) (n : Outline) → Raises ts ld (k .m) lo hi r us ls (n .m) (n .peak)
+    → k .peak ≤ n .peak → Grows ts ld k lo hi r us ls n
+grows ts ld k lo hi r us ls n R a =
     record {
       size = R .size;
       few = R .few;

@@ -1,7 +1,6 @@
 // A function kept: from nothing, and raised on a stretch.
 use crate::points::BEHIND_ALL;
 use crate::points::cut;
-use crate::points::greater;
 use crate::points::lift;
 ghost use mathlib.Core.Path.{_≡_};
 ghost use Prim.Native.Nat.{_<_};
@@ -35,10 +34,6 @@ pub fn grow(ts: &mut [u32], ld: &mut [u32], kept: Outline, lo: u32, hi: u32, r: 
     }
     let from = cut(ts, ld, kept.m, lo);
     let to = cut(ts, ld, from.m, hi);
-    let top = lift(ld, from.at, to.at, r);
-    let peak = greater(kept.peak, top);
-    Outline {
-        m: to.m,
-        peak: peak,
-    }
+    let top = lift(ld, from.at, to.at, r, kept.peak);
+    Outline { m: to.m, peak: top }
 }
