@@ -1,9 +1,11 @@
 -- Two answers that say the same are the same Rattle value: each is read back from what it says. And the words are apart.
 use Prim.Native.Nat.{ℕ}
 use native.Mathlib.Omega.{arith}
+use native.Mathlib.Decide.{ℕ-discrete}
 use mathlib.Core.Path.{_≡_, refl, sym, ap, _∙_}
-use mathlib.Core.List.{List}
+use mathlib.Core.List.{List, [], _∷_}
 use mathlib.Core.Logic.{_⊎_, inl, inr}
+use lib.ListN.{getD}
 use Rattle.lists.specs.Lists.{_!_}
 use Rattle.answers.specs.declared.Answer.{Answer}
 use Rattle.answers.specs.declared.CheckAnswer.{CheckAnswer}
@@ -29,6 +31,28 @@ not-said v w f e = f (ap (λ (x : Word). told x) e)
 
 pub said-apart : {A : Type 0} (v w : Word) (ns ms : List ℕ) → (told v ≡ told w → ⊥) → said v ns ≡ said w ms → A
 said-apart v w ns ms f e = absurd (not-said v w f (ap (λ (x : Said). x .word) e))
+
+-- and read back from them, so that two words are one or they are not
+worded : ℕ → Word
+worded n =
+    getD
+    (Word.settled ∷ Word.clash ∷ Word.refused ∷ Word.holds ∷ Word.rejected ∷ Word.none ∷ Word.overload ∷ Word.read ∷ Word.written ∷ []) n Word.settled
+
+worded-told : (w : Word) → worded (told w) ≡ w
+unfolding worded
+worded-told Word.settled = refl
+worded-told Word.clash = refl
+worded-told Word.refused = refl
+worded-told Word.holds = refl
+worded-told Word.rejected = refl
+worded-told Word.none = refl
+worded-told Word.overload = refl
+worded-told Word.read = refl
+worded-told Word.written = refl
+
+pub word-discrete : (v w : Word) → Dec (v ≡ w)
+word-discrete v w =
+    elim (ℕ-discrete (told v) (told w)) [ yes e ↦ yes (sym (worded-told v) ∙ ap worded e ∙ worded-told w) | no d ↦ no (not-said v w d) ]
 
 -- settled or clash is no refusal
 pub not-refused : (w : Word) → (w ≡ Word.settled) ⊎ (w ≡ Word.clash) → w ≡ Word.refused → ⊥

@@ -18,7 +18,7 @@ use Rattle.narrowing.specs.Windows.{Win, Side, early, late}
 use Rattle.narrowing.specs.Rules.{Step}
 use Rattle.narrowing.proofs.Steps.{step-move}
 use Rattle.journal.specs.Journal.{jobOf, timeOf, isMember}
-use Rattle.timetable.specs.Time.{Jobs, Runs, runs, load, Crowded, Applies, bound}
+use Rattle.timetable.specs.Time.{Jobs, Runs, runsAt, load, Crowded, Applies, bound}
 use Rattle.timetable.specs.Search.{member}
 use Rattle.timetable.specs.Reason.{OwnFact, Stated, namedDrawn, Changed, Implied, StartsWithin}
 use Rattle.timetable.specs.Table.{Call, jobsOf, asks}
@@ -64,10 +64,10 @@ module _ (J : Jobs) (W : Win) (x : List ℕ) (g : Passes J W x) where
 
   module _ (s : List ℕ) (members : (k : ℕ) → k < J .n → isMember x k ≡ true → (timeOf x < s ! k + J .p ! k) × (s ! k ≤ timeOf x)) where
     abbrev counts : ℕ → Bool
-    counts k = both (either (isMember x k) (eqb k (jobOf x))) (runs (J .p) s k (timeOf x))
+    counts k = both (either (isMember x k) (eqb k (jobOf x))) (runsAt (J .p) s k (timeOf x))
 
     -- the members and the moved job, all running, draw more than the capacity
-    over-named : runs (J .p) s (jobOf x) (timeOf x) ≡ true → J .cap < namedDrawn J s (isMember x) (jobOf x) (timeOf x)
+    over-named : runsAt (J .p) s (jobOf x) (timeOf x) ≡ true → J .cap < namedDrawn J s (isMember x) (jobOf x) (timeOf x)
     unfolding namedDrawn totalOf
     over-named h =
         let a = total-others counts (λ k. J .r ! k) (jobOf x) (J .n) (g .in-range .job) in

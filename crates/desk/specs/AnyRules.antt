@@ -3,7 +3,7 @@
 unfoldable pub use Rattle.narrowing.specs.Run.{needed}
 pub use Rattle.narrowing.specs.Run.{Out, settled, clash, short}
 unfoldable pub use Rattle.promises.specs.Ask.{refusalOf}
-pub use Rattle.promises.specs.Ask.{Ask, many, lasts, columns}
+pub use Rattle.promises.specs.Ask.{Ask, jobCount, lasts, columns}
 unfoldable pub use Rattle.promises.specs.Table.{ended, tabled, narrowed}
 pub use Rattle.promises.specs.Table.{ran}
 unfoldable pub use Rattle.promises.specs.Promise.{needs}

@@ -8,7 +8,7 @@ pub use Rattle.lists.specs.Sets.{Set, LeastOf, GreatestOf}
 pub use Rattle.lists.specs.Turns.{Turn, SameList}
 unfoldable pub use Rattle.narrowing.specs.Windows.{Long, slack}
 pub use Rattle.narrowing.specs.Windows.{Win, win, Side, early, late, number, sideOf, moved, closes, Inside, LowestTooShort}
-pub use Rattle.joblist.specs.Limits.{mostTime, mostDemand, mostJobs, mostResources, Column, times, demands, jobs, fourLists, threeLists, twoLists, supply}
+pub use Rattle.joblist.specs.Limits.{mostTime, mostDemand, mostJobs, mostResources, Column, timeColumn, demandColumn, jobs, fourLists, threeLists, twoLists, supply}
 unfoldable pub use Rattle.joblist.specs.GoodList.{refusal}
 pub use Rattle.joblist.specs.GoodList.{GoodList, Sized, Within, Any, Above, Unequal, Given}
 unfoldable pub use Rattle.members.specs.Members.{has, onesOf}

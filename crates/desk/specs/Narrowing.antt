@@ -1,6 +1,6 @@
 -- The words of `narrow`'s contract, handed on: the call and what it leaves, its promises (`exactly`, `kept`, `largest`, `reasons`, `unmoved`), and the words
 -- that their premises and fields need; `AnyRules` has those over any rules that stand behind them.
-unfoldable pub use Rattle.lists.specs.Searches.{greatest, least}
+unfoldable pub use Rattle.lists.specs.Extremes.{greatest, least}
 unfoldable pub use Rattle.lists.specs.Spares.{spare, leaned}
 pub use Rattle.lists.specs.Spares.{amount, without, NoneSpare}
 unfoldable pub use Rattle.narrowing.specs.Rules.{Stable}
@@ -9,10 +9,10 @@ pub use Rattle.narrowing.specs.Schedules.{Schedule}
 pub use Rattle.narrowing.specs.Renumbered.{SameWin}
 pub use Rattle.narrowing.specs.Search.{Search, Move, move, after}
 pub use Rattle.narrowing.specs.Run.{reachedBy}
-pub use Rattle.narrowing.specs.Rounds.{rank, Passed, Choice, Chosen}
+pub use Rattle.narrowing.specs.Rounds.{placeOf, Passed, Choice, Chosen}
 pub use Rattle.narrowing.specs.Led.{SameLengths, Led, Closes, Clashed}
 pub use Rattle.promises.specs.Reasons.{Logged, Settles, Clashes}
-unfoldable pub use Rattle.timetable.specs.Time.{runs, drawn, Fits, sure, load}
+unfoldable pub use Rattle.timetable.specs.Time.{runsAt, drawn, Fits, sure, load}
 pub use Rattle.timetable.specs.Time.{Jobs, Runs, Overdrawn, Sure, Crowded, Early, Late, bound, Applies}
 unfoldable pub use Rattle.timetable.specs.Search.{crowded, best, member, leanMember, naming}
 pub use Rattle.timetable.specs.Search.{search, Member, entry}

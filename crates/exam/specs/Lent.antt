@@ -5,7 +5,7 @@ use mathlib.Core.Bool.{true}
 use mathlib.Core.List.{List, [], _∷_}
 use lib.ListN.{length}
 use Rattle.narrowing.specs.Windows.{Win}
-use Rattle.joblist.specs.Limits.{mostTime, demands, jobs, threeLists}
+use Rattle.joblist.specs.Limits.{mostTime, demandColumn, jobs, threeLists}
 use Rattle.joblist.specs.GoodList.{GoodList}
 use Rattle.journal.specs.Journal.{recordWords, jobOf, timeOf, isMember}
 use Rattle.timetable.specs.Time.{Jobs}
@@ -20,7 +20,7 @@ Timed W p = GoodList (jobs W) (threeLists W p) []
 
 -- demands that passed the tests 1 to 3
 abbrev pub Drawn : List ℕ → Type 0
-Drawn r = GoodList (length r) (demands r ∷ []) []
+Drawn r = GoodList (length r) (demandColumn r ∷ []) []
 
 -- a record that codes 21 and 22 let through: its job and its members are among n jobs, its time is small
 pub record LetThrough (n : ℕ) (x : List ℕ) : Type 0 where

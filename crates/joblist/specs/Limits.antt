@@ -25,11 +25,11 @@ pub record Column : Type 0 where
   pub list : List ℕ
   pub most : ℕ
 
-abbrev pub times : List ℕ → Column
-times xs = record { list = xs; most = mostTime }
+abbrev pub timeColumn : List ℕ → Column
+timeColumn xs = record { list = xs; most = mostTime }
 
-abbrev pub demands : List ℕ → Column
-demands xs = record { list = xs; most = mostDemand }
+abbrev pub demandColumn : List ℕ → Column
+demandColumn xs = record { list = xs; most = mostDemand }
 
 -- the number of jobs
 abbrev pub jobs : Win → ℕ
@@ -37,15 +37,15 @@ jobs W = length (W .e)
 
 -- the lists of narrowing and of the checker: earliest start, latest end, duration, demand; and beside them the capacity
 abbrev pub fourLists : Win → List ℕ → List ℕ → List Column
-fourLists W p r = times (W .e) ∷ times (W .l) ∷ times p ∷ demands r ∷ []
+fourLists W p r = timeColumn (W .e) ∷ timeColumn (W .l) ∷ timeColumn p ∷ demandColumn r ∷ []
 
 abbrev pub supply : ℕ → List Column
-supply cap = demands (cap ∷ []) ∷ []
+supply cap = demandColumn (cap ∷ []) ∷ []
 
 -- the lists of the writer: duration, demand; and beside them the capacity
 abbrev pub twoLists : List ℕ → List ℕ → List Column
-twoLists p r = times p ∷ demands r ∷ []
+twoLists p r = timeColumn p ∷ demandColumn r ∷ []
 
 -- the lists of the overload check
 abbrev pub threeLists : Win → List ℕ → List Column
-threeLists W p = times (W .e) ∷ times (W .l) ∷ times p ∷ []
+threeLists W p = timeColumn (W .e) ∷ timeColumn (W .l) ∷ timeColumn p ∷ []

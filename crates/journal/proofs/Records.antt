@@ -8,7 +8,7 @@ use lib.ListN.{length, take, drop, getD, length-append, length-drop}
 use lib.Seq.{length-take-le, take-at, drop-at, drop-drop, drop-append-add, take-length, paste, take-paste, drop-paste}
 use borrow.Author.Tests.{lt-ltb, le-ltb}
 use Rattle.members.specs.Members.{setWords}
-use Rattle.journal.specs.Journal.{recordWords, written, roomOf, recordAt, records, flat, AreRecords, logged, rewritten}
+use Rattle.journal.specs.Journal.{recordWords, inWords, roomOf, recordAt, records, flat, AreRecords, logged, rewritten}
 
 -- ---- the room
 
@@ -48,7 +48,7 @@ record-length log k h = rw (record-in log k h) (length-take-le recordWords (drop
 pub shown-firm : (log x y : List ℕ) (k : ℕ) → x ≡ recordAt log k → y ≡ recordAt log k → x ≡ y
 shown-firm log x y k f g = f ∙ sym g
 
-pub written-length : (job side time : ℕ) (set : List ℕ) → length set ≡ setWords → length (written job side time set) ≡ recordWords
+pub written-length : (job side time : ℕ) (set : List ℕ) → length set ≡ setWords → length (inWords job side time set) ≡ recordWords
 written-length job side time set h = rw h
 
 -- ---- a record written anew

@@ -29,8 +29,8 @@ abbrev pub recordWords : ℕ
 recordWords = headWords + setWords
 
 -- job, side, time, the number of ones in the member set, the set
-abbrev pub written : ℕ → ℕ → ℕ → List ℕ → List ℕ
-written job side time set = job ∷ side ∷ time ∷ onesOf set ∷ set
+abbrev pub inWords : ℕ → ℕ → ℕ → List ℕ → List ℕ
+inWords job side time set = job ∷ side ∷ time ∷ onesOf set ∷ set
 
 -- the member set of a record
 abbrev pub setOfRecord : List ℕ → List ℕ

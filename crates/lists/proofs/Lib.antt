@@ -1,7 +1,7 @@
 pub mod Tests
 pub mod Lists
 pub mod Sums
-pub mod Searches
+pub mod Extremes
 pub mod Turns
 pub mod Stretches
 pub mod Judged

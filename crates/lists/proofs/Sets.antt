@@ -12,7 +12,7 @@ use borrow.Author.Tests.{ltb-true, ltb-false}
 use Rattle.lists.specs.Lists.{_!_}
 use Rattle.lists.specs.Tests.{both, either, only, pick, some?}
 use Rattle.lists.specs.Sums.{total}
-use Rattle.lists.specs.Sets.{Set, Sub, Empty, Parts, totalOf, LeastOf, GreatestOf, best, most, fewest}
+use Rattle.lists.specs.Sets.{Set, Sub, Empty, Parts, totalOf, LeastOf, GreatestOf, bestOf, most, fewest}
 use Rattle.lists.proofs.Tests.{both-true, only-le, only-less}
 use Rattle.lists.proofs.Sums.{total-le, total-less-some}
 
@@ -81,13 +81,13 @@ module _ (better : ℕ → ℕ → Bool) (O : Set) (f : ℕ → ℕ) (y : ℕ) w
   abbrev One : ℕ → ℕ → Type 0
   One m z = (z ≡ y) ⊎ ((k : ℕ) × (k < m) × (O k ≡ true) × (z ≡ f k))
 
-  best-is : (m : ℕ) → One m (best better O f y m)
-  unfolding best
+  best-is : (m : ℕ) → One m (bestOf better O f y m)
+  unfolding bestOf
   best-is zero = inl refl
-  best-is (suc m) = go (both (O m) (better (f m) (best better O f y m))) refl (best-is m)
+  best-is (suc m) = go (both (O m) (better (f m) (bestOf better O f y m))) refl (best-is m)
     where
-      go : (c : Bool) → both (O m) (better (f m) (best better O f y m)) ≡ c → One m (best better O f y m) → One (suc m) (pick c (f m) (best better O f y m))
-      go true h i = inr (m, omega arith, both-true (O m) (better (f m) (best better O f y m)) h .0, refl)
+      go : (c : Bool) → both (O m) (better (f m) (bestOf better O f y m)) ≡ c → One m (bestOf better O f y m) → One (suc m) (pick c (f m) (bestOf better O f y m))
+      go true h i = inr (m, omega arith, both-true (O m) (better (f m) (bestOf better O f y m)) h .0, refl)
       go false h (inl q) = inl q
       go false h (inr (k, b, t, q)) = inr (k, omega arith, t, q)
 
@@ -97,13 +97,13 @@ module _ (better : ℕ → ℕ → Bool) (O : Set) (f : ℕ → ℕ) (y : ℕ) w
     abbrev All : ℕ → ℕ → Type 0
     All m z = R z y × ((k : ℕ) → k < m → O k ≡ true → R z (f k))
 
-    best-all : (m : ℕ) → All m (best better O f y m)
-    unfolding best
+    best-all : (m : ℕ) → All m (bestOf better O f y m)
+    unfolding bestOf
     best-all zero = (same y, λ k b. absurd (omega arith))
-    best-all (suc m) = go (O m) refl (better (f m) (best better O f y m)) refl (best-all m)
+    best-all (suc m) = go (O m) refl (better (f m) (bestOf better O f y m)) refl (best-all m)
       where
         z : ℕ
-        z = best better O f y m
+        z = bestOf better O f y m
 
         go : (c : Bool) → O m ≡ c → (d : Bool) → better (f m) z ≡ d → All m z → All (suc m) (pick (both c d) (f m) z)
         go true h true q i = (

@@ -1,4 +1,4 @@
--- Sums below a number: term by term, one term, split by a test.
+-- Sums below a number: term by term, one term, and without a term.
 use Prim.Native.Nat.{ℕ, zero, suc, _+_, _≤_, _<_}
 use native.Mathlib.Omega.{arith}
 use native.Mathlib.Decide.{ℕ-discrete, decLe}
@@ -44,13 +44,6 @@ total-at f (suc m) k b = go (λ q. total-at f m k q)
   where
     go : (k < m → f k ≤ total f m) → f k ≤ total f (suc m)
     go h = elim (ℕ-discrete k m) [ yes e ↦ rw e (omega arith) | no e ↦ omega (arith, h (omega arith)) ]
-
--- a sum split by a test
-split : (c a : Bool) (x : ℕ) → only a x ≡ only (both a c) x + only (both a (not c)) x
-split true true x = omega arith
-split false true x = omega arith
-split true false x = omega arith
-split false false x = omega arith
 
 -- ---- a sum without its term at a
 

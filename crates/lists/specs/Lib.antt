@@ -1,7 +1,7 @@
 pub mod Lists
 pub mod Tests
 pub mod Sums
-pub mod Searches
+pub mod Extremes
 pub mod Turns
 pub mod Sets
 pub mod Spares

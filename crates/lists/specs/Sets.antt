@@ -80,18 +80,18 @@ abbrev pub above : List ℕ → Set → ℕ → Set
 above e O a k = both (O k) (leb a (e ! k))
 
 -- of y and the f k of the members below m the one that is better than all before it
-unfoldable pub best : (ℕ → ℕ → Bool) → Set → (ℕ → ℕ) → ℕ → ℕ → ℕ
-best better O f y zero = y
-best better O f y (suc m) =
+unfoldable pub bestOf : (ℕ → ℕ → Bool) → Set → (ℕ → ℕ) → ℕ → ℕ → ℕ
+bestOf better O f y zero = y
+bestOf better O f y (suc m) =
     let x = f m in
-    let z = best better O f y m in
+    let z = bestOf better O f y m in
     pick (both (O m) (better x z)) x z
 
 -- the greatest, and the least, of y and the f k of the members below m
 unfoldable pub most : Set → (ℕ → ℕ) → ℕ → ℕ → ℕ
-unfolding best
-most = best (λ x z. ltb z x)
+unfolding bestOf
+most = bestOf (λ x z. ltb z x)
 
 unfoldable pub fewest : Set → (ℕ → ℕ) → ℕ → ℕ → ℕ
-unfolding best
-fewest = best ltb
+unfolding bestOf
+fewest = bestOf ltb

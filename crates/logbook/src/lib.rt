@@ -3,7 +3,7 @@ ghost use mathlib.Core.Path.{_≡_};
 ghost use Prim.Native.Nat.{_+_, _≤_};
 ghost use lib.ListN.{length};
 ghost use lib.Seq.{paste};
-ghost use Rattle.journal.specs.Journal.{recordWords, written, setOfRecord, roomOf, recordAt, rewritten, cleared};
+ghost use Rattle.journal.specs.Journal.{recordWords, inWords, setOfRecord, roomOf, recordAt, rewritten, cleared};
 
 // The places of the words before the member set: job, side, time, number of members.
 pub const JOB_WORD: usize = 0;
@@ -62,7 +62,7 @@ fn lay(log: &mut [u32], at: usize, words: &[u32])
 
 // Record k written anew, the rest as before; nothing is written where the log ends before it.
 pub fn write(log: &mut [u32], k: usize, job: u32, side: u32, time: u32, set: [u32; bits::WORDS])
-    ensures { λ _. ⌜ now (log .exit) ≡ rewritten (now (log .entry)) k (written job side time set) ⌝ }
+    ensures { λ _. ⌜ now (log .exit) ≡ rewritten (now (log .entry)) k (inWords job side time set) ⌝ }
 {
     if room(log) <= k {
         return;

@@ -1,6 +1,6 @@
 -- The next move is one: of two moves that are each the search's own choice, with no rule applying at a place passed over, the one that stands further on would
 -- have passed the other. So as many moves from the same windows are the same moves, and a clash is of one job.
-use Prim.Native.Nat.{ℕ, _≤_, _<_}
+use Prim.Native.Nat.{ℕ}
 use native.Mathlib.Omega.{arith}
 use native.Mathlib.Decide.{decLe, decLt, ℕ-discrete}
 use mathlib.Core.Path.{_≡_, refl, sym, ap, subst, _∙_}
@@ -8,11 +8,10 @@ use mathlib.Core.List.{List, [], _∷_, _++_}
 use mathlib.Core.Logic.{_⊎_, inl, inr}
 use mathlib.Core.Option.{Option, some}
 use lib.ListN.{length}
-use Rattle.lists.specs.Lists.{_!_}
 use Rattle.narrowing.specs.Windows.{Win, Side, early, late, Long, LowestTooShort}
 use Rattle.narrowing.specs.Rules.{Family}
 use Rattle.narrowing.specs.Search.{Search, Move, after}
-use Rattle.narrowing.specs.Rounds.{rank, Passed, Choice, Chosen}
+use Rattle.narrowing.specs.Rounds.{placeOf, Passed, Choice, Chosen}
 use Rattle.narrowing.specs.Led.{Clashed}
 
 -- two places are one, or one of them is passed over on the way to the other
@@ -27,11 +26,11 @@ passed-or a b x =
           ])
     ]
 
-rank-one : (j k : ℕ) (s u : Side) → rank j s ≡ rank k u → (j ≡ k) × (s ≡ u)
-rank-one j k early early e = (omega arith, refl)
-rank-one j k early late e = absurd (omega arith)
-rank-one j k late early e = absurd (omega arith)
-rank-one j k late late e = (omega arith, refl)
+place-one : (j k : ℕ) (s u : Side) → placeOf j s ≡ placeOf k u → (j ≡ k) × (s ≡ u)
+place-one j k early early e = (omega arith, refl)
+place-one j k early late e = absurd (omega arith)
+place-one j k late early e = absurd (omega arith)
+place-one j k late late e = (omega arith, refl)
 
 found-one : (x : Option ℕ) (c d : ℕ) → x ≡ some c → x ≡ some d → c ≡ d
 found-one x c d e f = let q : some c ≡ some d = sym e ∙ f in let z : c ≡ d = cc in z
@@ -50,14 +49,14 @@ module _ (R : Search) (G : Family) where
       (found-one (R .best W (n .job) (n .side)) (m .choice) (n .choice) (subst (λ (u : Side). R .best W (n .job) u ≡ some (m .choice)) (same .1) (subst (λ (i : ℕ). R .best W i (m .side) ≡ some (m .choice)) (same .0) (f .chosen))) (g .chosen))
       (f .before ∙ sym (g .before))
     where
-      go : (rank (n .job) (n .side) ≡ rank (m .job) (m .side)) ⊎ (Passed (rank j s) (rank (m .job) (m .side)) (rank (n .job) (n .side)) ⊎ Passed (rank j s) (rank (n .job) (n .side)) (rank (m .job) (m .side)))
-          → rank (m .job) (m .side) ≡ rank (n .job) (n .side)
+      go : (placeOf (n .job) (n .side) ≡ placeOf (m .job) (m .side)) ⊎ (Passed (placeOf j s) (placeOf (m .job) (m .side)) (placeOf (n .job) (n .side)) ⊎ Passed (placeOf j s) (placeOf (n .job) (n .side)) (placeOf (m .job) (m .side)))
+          → placeOf (m .job) (m .side) ≡ placeOf (n .job) (n .side)
       go (inl e) = sym e
       go (inr (inl p)) = absurd (f .passed (n .job) (n .side) (g .listed) p _ (g .applies))
       go (inr (inr p)) = absurd (g .passed (m .job) (m .side) (f .listed) p _ (f .applies))
 
       same : (m .job ≡ n .job) × (m .side ≡ n .side)
-      same = rank-one (m .job) (n .job) (m .side) (n .side) (go (passed-or (rank j s) (rank (m .job) (m .side)) (rank (n .job) (n .side))))
+      same = place-one (m .job) (n .job) (m .side) (n .side) (go (passed-or (placeOf j s) (placeOf (m .job) (m .side)) (placeOf (n .job) (n .side))))
 
   -- as many moves are the same moves
   pub chosen-one : (ms ns : List Move) (W : Win) (j : ℕ) (s : Side) → Chosen R G W j s ms → Chosen R G W j s ns → length ms ≡ length ns → ms ≡ ns

@@ -1,8 +1,8 @@
 -- Families of rules together: lawful, stable and narrowed as their parts are.
 use Prim.Native.Nat.{ℕ, _<_}
 use mathlib.Core.List.{List}
-use mathlib.Core.Logic.{_⊎_, inl, inr}
-use Rattle.narrowing.specs.Windows.{Win, Side, Long, Inside, Tighter}
+use mathlib.Core.Logic.{inl, inr}
+use Rattle.narrowing.specs.Windows.{Win, Side, Inside, Tighter}
 use Rattle.narrowing.specs.Rules.{Family, Either, Some, Stable, Lawful, Candidate, NoCandidate, Step}
 
 module _ (n : ℕ) (G H : Family) where

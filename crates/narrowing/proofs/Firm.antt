@@ -1,5 +1,5 @@
 -- The promises leave one answer: Largest and NoCandidate exclude each other, and two Largest are the same windows.
-use Prim.Native.Nat.{ℕ, _<_}
+use Prim.Native.Nat.{ℕ}
 use mathlib.Core.Path.{_≡_}
 use mathlib.Core.List.{List}
 use lib.ListN.{length}

@@ -1,14 +1,14 @@
 -- Demand 3's "listed in another order", once over any rules that do not look at the numbers.
-use Prim.Native.Nat.{ℕ, _+_, _≤_, _<_}
+use Prim.Native.Nat.{ℕ, _<_}
 use native.Mathlib.Omega.{arith}
 use mathlib.Core.Path.{_≡_, ap}
 use mathlib.Core.List.{List}
-use mathlib.Core.Logic.{_⊎_, inl, inr}
+use mathlib.Core.Logic.{inl, inr}
 use Rattle.lists.specs.Lists.{_!_}
 use Rattle.lists.specs.Turns.{Turn, SameList}
 use Rattle.lists.proofs.Lists.{listed, listed-at}
 use Rattle.lists.proofs.Turns.{turned, list-back}
-use Rattle.narrowing.specs.Windows.{Win, Side, Long, Inside}
+use Rattle.narrowing.specs.Windows.{Win, Long, Inside}
 use Rattle.narrowing.specs.Rules.{Family, Either, Some, Stable, Candidate, Largest, NoCandidate}
 use Rattle.narrowing.specs.Renumbered.{SameWin, Alike}
 

@@ -1,15 +1,15 @@
 -- Room: the work falls short exactly where the room is below the number of moves needed, and more room changes no other end.
-use Prim.Native.Nat.{ℕ, zero, suc, _+_, _≤_, _<_}
+use Prim.Native.Nat.{ℕ, zero, suc, _≤_, _<_}
 use native.Mathlib.Omega.{arith}
 use native.Mathlib.Decide.{decLt}
-use mathlib.Core.Path.{_≡_, refl, ap, _∙_}
+use mathlib.Core.Path.{_≡_, refl, ap}
 use mathlib.Core.Bool.{Bool, true, false}
-use mathlib.Core.List.{List, [], _∷_}
+use mathlib.Core.List.{[], _∷_}
 use mathlib.Core.Option.{Option, none, some}
-use Rattle.narrowing.specs.Windows.{Win, Side, early, late, closes, slack, lowestTooShort}
+use Rattle.narrowing.specs.Windows.{Win, Side, early, closes, slack, lowestTooShort}
 use Rattle.narrowing.specs.Rules.{Family, Lawful}
 use Rattle.narrowing.specs.Search.{Search, Searches, Move, move, after}
-use Rattle.narrowing.specs.Run.{Next, rests, moves, nextMove, Out, settled, clash, short, push, follow, ends, orClash, work, run, count, needed}
+use Rattle.narrowing.specs.Run.{Next, rests, moves, nextMove, Out, settled, clash, short, push, follow, ends, orClash, work, run, moveCount, needed}
 use Rattle.narrowing.proofs.Moves.{Whole}
 use Rattle.narrowing.proofs.Runs.{never-short}
 
@@ -31,7 +31,7 @@ not-ended short f = f refl
 
 -- o is what the work comes to with a room, u with another: the same where o's moves fit, else short
 abbrev Fits : ℕ → Out → Out → Type 0
-Fits room o u = (count o ≤ room → u ≡ o) × (room < count o → u ≡ short)
+Fits room o u = (moveCount o ≤ room → u ≡ o) × (room < moveCount o → u ≡ short)
 
 fits-push : (room : ℕ) (m : Move) (o u : Out) → Ended o → Fits room o u → Fits (suc room) (push m o) (push m u)
 fits-push room m (settled U ms) u h f = (λ b. ap (push m) (f .0 (omega arith)), λ b. ap (push m) (f .1 (omega arith)))
@@ -43,7 +43,7 @@ ended-push m (settled U ms) h = tt
 ended-push m (clash j ms) h = tt
 ended-push m short h = h
 
-some-push : (m : Move) (o : Out) → Ended o → 0 < count (push m o)
+some-push : (m : Move) (o : Out) → Ended o → 0 < moveCount (push m o)
 some-push m (settled U ms) h = omega arith
 some-push m (clash j ms) h = omega arith
 some-push m short h = absurd h
@@ -98,7 +98,7 @@ module _ (R : Search) (G : Family) (search : Searches R G) (law : Lawful (R .n) 
   pub short-below : (room : ℕ) → run R room W ≡ short → room < needed R W
   unfolding needed
   short-below room e =
-      elim (decLt room (count (run R (suc (slack (R .p) W (R .n))) W))) [
+      elim (decLt room (moveCount (run R (suc (slack (R .p) W (R .n))) W))) [
         | yes b ↦ b
         | no b ↦ absurd (ended-not (run R (suc (slack (R .p) W (R .n))) W) enough (cc (all-fits room .0 (omega arith))))
       ]
@@ -107,15 +107,7 @@ module _ (R : Search) (G : Family) (search : Searches R G) (law : Lawful (R .n) 
   unfolding needed
   below-short room b = all-fits room .1 b
 
-  -- any two rooms that are enough give the same end, and it has as many moves as are needed
-  pub same-room : (room more : ℕ) → needed R W ≤ room → needed R W ≤ more → run R room W ≡ run R more W
+  -- a room that is enough gives an end with as many moves as are needed
+  pub count-needed : (room : ℕ) → needed R W ≤ room → moveCount (run R room W) ≡ needed R W
   unfolding needed
-  same-room room more a b = cc (all-fits room .0 a, all-fits more .0 b)
-
-  pub count-needed : (room : ℕ) → needed R W ≤ room → count (run R room W) ≡ needed R W
-  unfolding needed
-  count-needed room a = ap (λ (o : Out). count o) (all-fits room .0 a)
-
--- more room changes no end but "short of room"
-pub more-room : (R : Search) (room more : ℕ) (W : Win) → Ended (run R room W) → count (run R room W) ≤ more → run R more W ≡ run R room W
-more-room R room more W e b = run-fits R room more W e .0 b
+  count-needed room a = ap (λ (o : Out). moveCount o) (all-fits room .0 a)

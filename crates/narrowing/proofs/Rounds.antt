@@ -3,15 +3,14 @@
 -- nothing has all passed over.
 use Prim.Native.Nat.{ℕ, zero, suc, _+_, _-_, _≤_, _<_}
 use native.Mathlib.Omega.{arith}
-use mathlib.Core.Path.{_≡_, refl, sym, ap, subst, _∙_}
+use mathlib.Core.Path.{_≡_, refl, sym, _∙_}
 use mathlib.Core.Bool.{Bool, true, false}
-use mathlib.Core.List.{List, [], _∷_}
+use mathlib.Core.List.{[], _∷_}
 use mathlib.Core.Option.{Option, none, some}
-use lib.Dec.{ltb}
 use borrow.Author.Tests.{lt-ltb, le-ltb}
 use Rattle.narrowing.specs.Windows.{Win, Side, early, late, Long, closes}
 use Rattle.narrowing.specs.Search.{Search, move, after}
-use Rattle.narrowing.specs.Run.{Next, rests, moves, first, resume, Out, settled, clash, short, push, work, run}
+use Rattle.narrowing.specs.Run.{firstMove, resume, Out, settled, clash, short, push, work, run}
 use Rattle.narrowing.specs.Rounds.{nextJob, other, rounds, Does}
 use Rattle.narrowing.proofs.Next.{Place}
 use Rattle.narrowing.proofs.TooShort.{run-long}
@@ -112,7 +111,7 @@ module _ (R : Search) (W : Win) where
     -- a round that has changed nothing so far: what is left of it is all that the whole round has
     unchanged : Does R room false 0 early W (work R room W 0 early)
     unchanged =
-        along room before false (λ j. first R W (R .n) 0 ≡ resume R W j early)
+        along room before false (λ j. firstMove R W (R .n) 0 ≡ resume R W j early)
         (λ j b x y q. q ∙ resume-early R room W j b x ∙ resume-late R room W j y)
         (λ q. rw (walk-end R room W (q ∙ resume-end R room W)) (does-settled R room false W (R .n) (omega arith)))
         (R .n) 0 (omega arith) (sym (resume-start R room W))

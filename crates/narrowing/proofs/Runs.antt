@@ -1,16 +1,16 @@
 -- The defined run over lawful rules, on any windows: "settled" is the largest candidate, "clash" says that there is none, the slack bounds the
 -- moves, and each move is the search's own choice.
-use Prim.Native.Nat.{ℕ, zero, suc, _+_, _-_, _≤_, _<_}
+use Prim.Native.Nat.{ℕ, zero, suc, _-_, _≤_, _<_}
 use native.Mathlib.Omega.{arith}
 use mathlib.Core.Path.{_≡_, refl, subst}
 use mathlib.Core.Bool.{Bool, true, false}
 use mathlib.Core.List.{List, [], _∷_}
 use lib.ListN.{length}
 use borrow.Author.Tests.{lt-ltb}
-use Rattle.narrowing.specs.Windows.{Win, Side, early, late, Long, moved, closes, slack}
+use Rattle.narrowing.specs.Windows.{Win, Side, early, Long, closes, slack}
 use Rattle.narrowing.specs.Rules.{Family, Stable, Lawful, Largest, NoCandidate, Step, Steps, here, next}
 use Rattle.narrowing.specs.Search.{Search, Searches, Move, move, after}
-use Rattle.narrowing.specs.Run.{Next, rests, moves, nextMove, Out, settled, clash, short, push, follow, ends, work, run, movesOf, count}
+use Rattle.narrowing.specs.Run.{Next, rests, moves, nextMove, Out, settled, clash, short, push, follow, ends, work, run, movesOf}
 use Rattle.narrowing.specs.Rounds.{Choice, Chosen}
 use Rattle.narrowing.proofs.Moves.{long-after, Whole, whole-after, slack-less}
 use Rattle.narrowing.proofs.Steps.{step-move, any-settled, any-clash}

@@ -1,12 +1,12 @@
 -- Demand 2, once over any rules and any notion of schedule: no step loses a schedule, and where no candidate is left there is none.
-use Prim.Native.Nat.{ℕ, _+_, _≤_, _<_}
+use Prim.Native.Nat.{ℕ, _+_, _<_}
 use native.Mathlib.Omega.{arith}
 use mathlib.Core.Path.{_≡_, refl}
 use mathlib.Core.List.{List}
 use Rattle.lists.specs.Lists.{_!_}
 use Rattle.lists.proofs.Lists.{sums, sums-at}
 use Rattle.narrowing.specs.Windows.{Win, Long}
-use Rattle.narrowing.specs.Rules.{Family, Either, Some, Stable, Candidate, Largest, NoCandidate, Step}
+use Rattle.narrowing.specs.Rules.{Family, Either, Some, Candidate, Largest, NoCandidate, Step}
 use Rattle.narrowing.specs.Schedules.{Schedule, Fixed, Sound, Exact}
 use Rattle.narrowing.proofs.Families.{stable-left, stable-right, stable-both, stable-one, stable-all}
 

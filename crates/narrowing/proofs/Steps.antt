@@ -1,12 +1,12 @@
 -- Steps in any order: where they end with nothing that applies they have reached the largest stable windows that hold their jobs, and where
 -- a window is closed there are none.
-use Prim.Native.Nat.{ℕ, zero, suc, _+_, _-_, _≤_, _<_}
+use Prim.Native.Nat.{ℕ, _-_, _<_}
 use native.Mathlib.Omega.{arith}
-use native.Mathlib.Decide.{decLt, decLe}
-use mathlib.Core.Path.{_≡_, refl, ap}
-use mathlib.Core.Bool.{Bool, true, false}
-use mathlib.Core.List.{List, [], _∷_}
-use Rattle.narrowing.specs.Windows.{Win, Side, early, late, Long, Inside, moved, Tighter, Respects, Weaker, closes}
+use native.Mathlib.Decide.{decLe}
+use mathlib.Core.Path.{_≡_}
+use mathlib.Core.Bool.{true}
+use mathlib.Core.List.{List}
+use Rattle.narrowing.specs.Windows.{Win, Side, early, late, Long, Inside, moved, Tighter, Respects, closes}
 use Rattle.lists.specs.Lists.{_!_}
 use Rattle.narrowing.specs.Rules.{Family, Stable, Lawful, Candidate, Largest, NoCandidate, Step, Steps, here, next}
 use Rattle.narrowing.proofs.Moves.{inside-refl, inside-trans, move-inside, move-keeps, closed-none}
@@ -16,19 +16,12 @@ by-side : (U : Win) (j : ℕ) (s : Side) (b : ℕ) → (Tighter U j s b → ⊥)
 by-side U j early b f = elim (decLe b (U .e ! j)) [ yes h ↦ h | no h ↦ absurd (f (omega arith)) ]
 by-side U j late b f = elim (decLe (U .l ! j) b) [ yes h ↦ h | no h ↦ absurd (f (omega arith)) ]
 
-respects-weaker : (U : Win) (j : ℕ) (s : Side) (b c : ℕ) → Weaker s c b → Respects U j s b → Respects U j s c
-respects-weaker U j early b c w h = omega arith
-respects-weaker U j late b c w h = omega arith
-
 module _ (n : ℕ) (p : List ℕ) (G : Family) where
   pub step-refl : (W : Win) → Step n p G W W
   step-refl W = record { inside = inside-refl n W; kept = λ X i. i .inside }
 
   pub candidate-on : (W U : Win) → Step n p G W U → (X : Win) → Candidate n p G W X → Candidate n p G U X
   candidate-on W U k X i = record { inside = k .kept X i; stable = i .stable; long = i .long }
-
-  pub candidate-out : (W U : Win) → Inside n U W → (X : Win) → Candidate n p G U X → Candidate n p G W X
-  candidate-out W U h X i = record { inside = inside-trans n X U W (i .inside) h; stable = i .stable; long = i .long }
 
   pub step-trans : (A B C : Win) → Step n p G A B → Step n p G B C → Step n p G A C
   step-trans A B C f g = record { inside = inside-trans n C B A (g .inside) (f .inside); kept = λ X i. g .kept X (candidate-on A B f X i) }
@@ -45,10 +38,6 @@ module _ (n : ℕ) (p : List ℕ) (G : Family) where
 
   pub largest-step : (W U : Win) → Largest n p G W U → Step n p G W U
   largest-step W U f = record { inside = f .one .inside; kept = f .holds }
-
-  pub largest-back : (W U Y : Win) → Step n p G W U → Largest n p G U Y → Largest n p G W Y
-  largest-back W U Y k f =
-      step-largest W Y (step-trans W U Y k (largest-step U Y f)) (f .one .stable) (f .one .long)
 
   pub largest-unique : (W U X : Win) → Largest n p G W U → Largest n p G W X → (k : ℕ) → k < n → (U .e ! k ≡ X .e ! k) × (U .l ! k ≡ X .l ! k)
   largest-unique W U X f g k b =
@@ -68,14 +57,6 @@ module _ (n : ℕ) (p : List ℕ) (G : Family) where
         record {
           inside = move-inside n W j s b (law .tighter W j s b h a);
           kept = λ X i. move-keeps n X W j s b (i .inside) (stable-respects X W j s b (i .inside) (i .stable) h a);
-        }
-
-    -- a move by less than a rule gives: what a record with weaker facts says
-    pub step-weaker : (W : Win) (j : ℕ) (s : Side) (b c : ℕ) → j < n → G W j s b → Weaker s c b → Tighter W j s c → Step n p G W (moved W j s c)
-    step-weaker W j s b c h a w t =
-        record {
-          inside = move-inside n W j s c t;
-          kept = λ X i. move-keeps n X W j s c (i .inside) (respects-weaker X j s b c w (stable-respects X W j s b (i .inside) (i .stable) h a));
         }
 
 -- ---- steps one after the other, in any order

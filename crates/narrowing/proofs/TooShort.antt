@@ -8,8 +8,8 @@ use mathlib.Core.List.{List, []}
 use mathlib.Core.Option.{Option, none, some}
 use borrow.Author.Tests.{ltb-true, lt-ltb}
 use Rattle.lists.specs.Lists.{_!_}
-use Rattle.lists.specs.Searches.{Least, least}
-use Rattle.lists.proofs.Searches.{least-is}
+use Rattle.lists.specs.Extremes.{Least, least}
+use Rattle.lists.proofs.Extremes.{least-is}
 use Rattle.narrowing.specs.Windows.{Win, early, Long, LowestTooShort, lowestTooShort, closes, slack}
 use Rattle.narrowing.specs.Search.{Search}
 use Rattle.narrowing.specs.Run.{Out, clash, work, run, needed}

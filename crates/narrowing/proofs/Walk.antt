@@ -1,13 +1,12 @@
 -- The work, place by place, as a program walks it: a job's side 0 until it rests, its side 1 likewise, the next job, the next round.
-use Prim.Native.Nat.{ℕ, zero, suc, _+_, _-_, _≤_, _<_}
+use Prim.Native.Nat.{ℕ, zero, suc, _+_, _-_, _<_}
 use native.Mathlib.Omega.{arith}
 use mathlib.Core.Path.{_≡_, refl, sym, ap, _∙_}
-use mathlib.Core.Bool.{Bool, true, false}
 use mathlib.Core.List.{List, [], _∷_, _++_}
-use mathlib.Core.Option.{Option, none, some}
+use mathlib.Core.Option.{none, some}
 use Rattle.narrowing.specs.Windows.{Win, Side, early, late, closes}
 use Rattle.narrowing.specs.Search.{Search, Move, move, after}
-use Rattle.narrowing.specs.Run.{Next, rests, moves, orMove, orNext, first, resume, nextMove, Out, settled, clash, short, push, follow, ends, work}
+use Rattle.narrowing.specs.Run.{Next, rests, moves, orMove, orNext, firstMove, resume, nextMove, Out, settled, clash, short, push, follow, ends, work}
 
 -- what a move comes to, if there is room
 unfoldable pub made : Search → ℕ → Win → ℕ → Side → ℕ → Out
@@ -29,9 +28,9 @@ module _ (R : Search) (room : ℕ) (W : Win) where
   by-next j i s v e = rw (work-follow R room W j s, work-follow R room W i v, e)
 
   first-suc : (j : ℕ) → j < R .n
-      → first R W (R .n - j) j ≡ orMove j early (R .best W j early) (orMove j late (R .best W j late) (first R W (R .n - suc j) (suc j)))
-  unfolding first
-  first-suc j b = let e : R .n - j ≡ suc (R .n - suc j) = omega arith in ap (λ (k : ℕ). first R W k j) e
+      → firstMove R W (R .n - j) j ≡ orMove j early (R .best W j early) (orMove j late (R .best W j late) (firstMove R W (R .n - suc j) (suc j)))
+  unfolding firstMove
+  first-suc j b = let e : R .n - j ≡ suc (R .n - suc j) = omega arith in ap (λ (k : ℕ). firstMove R W k j) e
 
   -- what is left of a round: past a side that rests, at its end and at its start
   pub resume-early : (j : ℕ) → j < R .n → R .best W j early ≡ none → resume R W j early ≡ resume R W j late
@@ -43,10 +42,10 @@ module _ (R : Search) (room : ℕ) (W : Win) where
   resume-late j e = rw e
 
   pub resume-end : resume R W (R .n) early ≡ rests
-  unfolding resume first
+  unfolding resume firstMove
   resume-end = let e : R .n - R .n ≡ 0 = omega arith in rw e
 
-  pub resume-start : resume R W 0 early ≡ first R W (R .n) 0
+  pub resume-start : resume R W 0 early ≡ firstMove R W (R .n) 0
   unfolding resume
   resume-start = let e : R .n - 0 ≡ R .n = omega arith in rw e
 
@@ -58,13 +57,13 @@ module _ (R : Search) (room : ℕ) (W : Win) where
   unfolding nextMove
   next-late j e = rw (resume-late j e)
 
-  next-round : nextMove R W (R .n) early ≡ first R W (R .n) 0
-  unfolding nextMove resume first
+  next-round : nextMove R W (R .n) early ≡ firstMove R W (R .n) 0
+  unfolding nextMove resume firstMove
   next-round = let e : R .n - R .n ≡ 0 = omega arith in rw e
 
-  next-start : nextMove R W 0 early ≡ first R W (R .n) 0
+  next-start : nextMove R W 0 early ≡ firstMove R W (R .n) 0
   unfolding nextMove resume
-  next-start = let e : R .n - 0 ≡ R .n = omega arith in rw e (or-again (first R W (R .n) 0))
+  next-start = let e : R .n - 0 ≡ R .n = omega arith in rw e (or-again (firstMove R W (R .n) 0))
 
   pub walk-early : (j : ℕ) → j < R .n → R .best W j early ≡ none → work R room W j early ≡ work R room W j late
   walk-early j b e = by-next j j early late (next-early j b e)
@@ -75,7 +74,7 @@ module _ (R : Search) (room : ℕ) (W : Win) where
   pub walk-round : work R room W (R .n) early ≡ work R room W 0 early
   walk-round = by-next (R .n) 0 early early (next-round ∙ sym next-start)
 
-  pub walk-end : first R W (R .n) 0 ≡ rests → work R room W (R .n) early ≡ settled W []
+  pub walk-end : firstMove R W (R .n) 0 ≡ rests → work R room W (R .n) early ≡ settled W []
   walk-end e = rw (work-follow R room W (R .n) early, next-round, e)
 
   pub walk-move-early : (j c : ℕ) → j < R .n → R .best W j early ≡ some c → work R room W j early ≡ made R room W j early c

@@ -26,9 +26,9 @@ if true x y = x
 if false x y = y
 
 -- what the side does: it moves by c, or it does not apply
-abbrev pub turn : Option ℕ → (ℕ → Option Out) → Option Out → Option Out
-turn none f x = x
-turn (some c) f x = f c
+abbrev pub byChoice : Option ℕ → (ℕ → Option Out) → Option Out → Option Out
+byChoice none f x = x
+byChoice (some c) f x = f c
 
 -- a move takes one of the room
 abbrev pub spend : ℕ → (ℕ → Option Out) → Option Out
@@ -50,7 +50,7 @@ rounds R (suc acts) room changed j s W =
     let onward = rounds R acts room changed (nextJob j s) (other s) W in
     let anew = rounds R acts room false 0 early W in
     let over = if changed anew (some (settled W [])) in
-    if (ltb j (R .n)) (turn (R .best W j s) moves onward) over
+    if (ltb j (R .n)) (byChoice (R .best W j s) moves onward) over
 
 -- with acts enough the rounds come to o
 abbrev pub Does : Search → ℕ → Bool → ℕ → Side → Win → Out → Type 0
@@ -59,8 +59,8 @@ Does R room changed j s W o = (f : ℕ) × ((g : ℕ) → f ≤ g → rounds R g
 -- ---- what is known of each move
 
 -- the places of a round in their order
-abbrev pub rank : ℕ → Side → ℕ
-rank j s = 2 * j + number s
+abbrev pub placeOf : ℕ → Side → ℕ
+placeOf j s = 2 * j + number s
 
 -- the place x is passed over on the way from a to b, in this round or by way of the next one
 abbrev pub Passed : ℕ → ℕ → ℕ → Type 0
@@ -72,7 +72,7 @@ pub record Choice (R : Search) (G : Family) (W : Win) (j : ℕ) (s : Side) (m : 
   pub listed : m .job < R .n
   pub chosen : R .best W (m .job) (m .side) ≡ some (m .choice)
   pub applies : G W (m .job) (m .side) (R .bound (m .side) (m .choice))
-  pub passed : (k : ℕ) (u : Side) → k < R .n → Passed (rank j s) (rank (m .job) (m .side)) (rank k u) → (c : ℕ) → G W k u c → ⊥
+  pub passed : (k : ℕ) (u : Side) → k < R .n → Passed (placeOf j s) (placeOf (m .job) (m .side)) (placeOf k u) → (c : ℕ) → G W k u c → ⊥
 
 -- each move so, on the windows that the moves before it left, after the place of the last one
 abbrev pub Chosen : Search → Family → Win → ℕ → Side → List Move → Type 0

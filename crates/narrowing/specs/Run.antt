@@ -23,23 +23,23 @@ orNext rests y = y
 orNext (moves j s c) y = moves j s c
 
 -- the first move of a round at job j or after it, where k jobs are left
-unfoldable pub first : Search → Win → ℕ → ℕ → Next
-first R W zero j = rests
-first R W (suc k) j =
-    let later = first R W k (suc j) in
+unfoldable pub firstMove : Search → Win → ℕ → ℕ → Next
+firstMove R W zero j = rests
+firstMove R W (suc k) j =
+    let later = firstMove R W k (suc j) in
     let other = orMove j late (R .best W j late) later in
     orMove j early (R .best W j early) other
 
 -- the same from job j's side s on
 unfoldable pub resume : Search → Win → ℕ → Side → Next
-unfolding first
-resume R W j early = first R W (R .n - j) j
-resume R W j late = let later = first R W (R .n - suc j) (suc j) in orMove j late (R .best W j late) later
+unfolding firstMove
+resume R W j early = firstMove R W (R .n - j) j
+resume R W j late = let later = firstMove R W (R .n - suc j) (suc j) in orMove j late (R .best W j late) later
 
 -- what is left of this round, else a whole round
 unfoldable pub nextMove : Search → Win → ℕ → Side → Next
 unfolding resume
-nextMove R W j s = let again = first R W (R .n) 0 in orNext (resume R W j s) again
+nextMove R W j s = let again = firstMove R W (R .n) 0 in orNext (resume R W j s) again
 
 -- how the work ends: settled on windows, a clash of a job, or short of room
 pub data Out : Type 0 where
@@ -87,8 +87,8 @@ movesOf (settled W ms) = ms
 movesOf (clash j ms) = ms
 movesOf short = []
 
-abbrev pub count : Out → ℕ
-count o = length (movesOf o)
+abbrev pub moveCount : Out → ℕ
+moveCount o = length (movesOf o)
 
 -- the windows that moves lead to: each moves one bound of one job
 abbrev pub reachedBy : Search → Win → List Move → Win
@@ -98,4 +98,4 @@ reachedBy R W (m ∷ ms) = reachedBy R (after R W (m .job) (m .side) (m .choice)
 -- the moves that the work needs: those of the run with a quota that is always enough
 unfoldable pub needed : Search → Win → ℕ
 unfolding run slack
-needed R W = count (run R (suc (slack (R .p) W (R .n))) W)
+needed R W = moveCount (run R (suc (slack (R .p) W (R .n))) W)

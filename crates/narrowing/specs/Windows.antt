@@ -7,7 +7,7 @@ use mathlib.Core.Option.{Option}
 use lib.ListN.{set}
 use lib.Dec.{ltb}
 use Rattle.lists.specs.Lists.{_!_}
-use Rattle.lists.specs.Searches.{least}
+use Rattle.lists.specs.Extremes.{least}
 
 -- earliest starts and latest ends
 pub record Win : Type 0 where
@@ -70,11 +70,6 @@ Tighter W j late b = b < W .l ! j
 abbrev pub Respects : Win → ℕ → Side → ℕ → Type 0
 Respects W j early b = b ≤ W .e ! j
 Respects W j late b = W .l ! j ≤ b
-
--- c is no tighter a bound than b
-abbrev pub Weaker : Side → ℕ → ℕ → Type 0
-Weaker early c b = c ≤ b
-Weaker late c b = b ≤ c
 
 -- the sum of l - e - p over the jobs below m; a window that is too short counts 0
 unfoldable pub slack : List ℕ → Win → ℕ → ℕ

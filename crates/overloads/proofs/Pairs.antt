@@ -15,7 +15,7 @@ use Rattle.lists.proofs.Tests.{both-true, true-both, by-contra}
 use Rattle.lists.proofs.Sums.{total-at}
 use Rattle.lists.proofs.Sets.{clash, totalOf-sub, totalOf-none, least-of, greatest-of, most-is, most-le, fewest-is, fewest-le, some-at, at-some}
 use Rattle.narrowing.specs.Windows.{Win, Long}
-use Rattle.overloads.specs.Overload.{Overloaded, NoneOverloaded, window, OverloadedPair, FirstPair, pair?, stops, starts, Finding, nothing, found, overload, Finds}
+use Rattle.overloads.specs.Overload.{Overloaded, NoneOverloaded, window, OverloadedPair, FirstPair, pair?, stops, starts, Finding, nothing, findingIf, overload, Finds}
 
 module _ (n : ℕ) (p : List ℕ) (W : Win) where
   -- ---- sets and pairs
@@ -163,7 +163,7 @@ module _ (n : ℕ) (p : List ℕ) (W : Win) where
   unfolding overload low top stops starts
   overload-finds = go (some? (stops n p W) n) refl
     where
-      go : (c : Bool) → some? (stops n p W) n ≡ c → Finds n p W (found c (most (starts n p W low) (λ k. W .e ! k) 0 n) low)
+      go : (c : Bool) → some? (stops n p W) n ≡ c → Finds n p W (findingIf c (most (starts n p W low) (λ k. W .e ! k) 0 n) low)
       go true h =
           let k = low-is h in
           let x = at-some (λ i. pair? n p W (W .e ! i) (W .l ! (k .0))) n (k .2) in

@@ -15,7 +15,7 @@ use Rattle.joblist.proofs.Refusals.{refusal-exactly, good, refused-none}
 use Rattle.lists.specs.Lists.{_!_}
 use Rattle.narrowing.specs.Windows.{Win}
 use Rattle.overloads.specs.Overload.{NoneOverloaded, FirstPair, Finding, nothing, overload, foundSaid, Finds}
-use Rattle.overloads.specs.Promise.{Good, refusalOf, tabled, checked, Overloads}
+use Rattle.overloads.specs.Promise.{Good, refusalOf, tabled, overloadSaid, Overloads}
 use Rattle.overloads.proofs.Pairs.{overload-finds, overload-is, none-sets, none-pairs, first-bounds, alone-overloaded, pair-apart}
 
 same-pair : (a b x y : ℕ) → said Word.overload (a ∷ b ∷ []) ≡ said Word.overload (x ∷ y ∷ []) → (a ≡ x) × (b ≡ y)
@@ -39,67 +39,67 @@ module _ (W : Win) (p : List ℕ) where
   cased zero e = inr (is-good e, (overload (jobs W) p W, overload-finds (jobs W) p W, refl))
   cased (suc k) e = inl (k, e, refl)
 
-  case-of : Case (checked W p)
-  unfolding checked
+  case-of : Case (overloadSaid W p)
+  unfolding overloadSaid
   case-of = cased (refusalOf W p) refl
 
   -- of a good list the answer is what is found
-  found : Good W p → checked W p ≡ foundSaid (overload (jobs W) p W)
-  unfolding checked tabled
+  found : Good W p → overloadSaid W p ≡ foundSaid (overload (jobs W) p W)
+  unfolding overloadSaid tabled
   found g = ap (tabled W p) (good-is g)
 
-  none-row : checked W p ≡ said Word.none [] → Good W p × NoneOverloaded (jobs W) p W
+  none-row : overloadSaid W p ≡ said Word.none [] → Good W p × NoneOverloaded (jobs W) p W
   none-row e = go case-of
     where
       by : (x : Finding) → Finds (jobs W) p W x → said Word.none [] ≡ foundSaid x → NoneOverloaded (jobs W) p W
       by nothing f q = none-sets (jobs W) p W f
       by (Finding.pair a b) f q = said-apart Word.none Word.overload [] (a ∷ b ∷ []) (λ z. omega arith) q
 
-      go : Case (checked W p) → Good W p × NoneOverloaded (jobs W) p W
+      go : Case (overloadSaid W p) → Good W p × NoneOverloaded (jobs W) p W
       go (inl (k, d, q)) = said-apart Word.none Word.refused [] (suc k ∷ []) (λ z. omega arith) (sym e ∙ q)
       go (inr (g, (x, f, q))) = (g, by x f (sym e ∙ q))
 
-  row-none : Good W p × NoneOverloaded (jobs W) p W → checked W p ≡ said Word.none []
+  row-none : Good W p × NoneOverloaded (jobs W) p W → overloadSaid W p ≡ said Word.none []
   row-none (g, f) = found g ∙ ap foundSaid (sym (overload-is (jobs W) p W nothing (none-pairs (jobs W) p W f)))
 
-  pair-row : (x y : ℕ) → checked W p ≡ said Word.overload (x ∷ y ∷ []) → Good W p × FirstPair (jobs W) p W x y
+  pair-row : (x y : ℕ) → overloadSaid W p ≡ said Word.overload (x ∷ y ∷ []) → Good W p × FirstPair (jobs W) p W x y
   pair-row x y e = go case-of
     where
       by : (z : Finding) → Finds (jobs W) p W z → said Word.overload (x ∷ y ∷ []) ≡ foundSaid z → FirstPair (jobs W) p W x y
       by nothing f q = said-apart Word.overload Word.none (x ∷ y ∷ []) [] (λ z. omega arith) q
       by (Finding.pair a b) f q = let s = same-pair x y a b q in rw (s .0, s .1) f
 
-      go : Case (checked W p) → Good W p × FirstPair (jobs W) p W x y
+      go : Case (overloadSaid W p) → Good W p × FirstPair (jobs W) p W x y
       go (inl (k, d, q)) = said-apart Word.overload Word.refused (x ∷ y ∷ []) (suc k ∷ []) (λ z. omega arith) (sym e ∙ q)
       go (inr (g, (z, f, q))) = (g, by z f (sym e ∙ q))
 
-  row-pair : (x y : ℕ) → Good W p × FirstPair (jobs W) p W x y → checked W p ≡ said Word.overload (x ∷ y ∷ [])
+  row-pair : (x y : ℕ) → Good W p × FirstPair (jobs W) p W x y → overloadSaid W p ≡ said Word.overload (x ∷ y ∷ [])
   row-pair x y (g, f) = found g ∙ ap foundSaid (sym (overload-is (jobs W) p W (Finding.pair x y) f))
 
   -- refusal k is given exactly when its row says so and no row before it does
-  refused-row : (k : ℕ) → (checked W p ≡ said Word.refused (k ∷ [])) ↔ ((1 ≤ k) × Given k (jobs W) (threeLists W p) [])
+  refused-row : (k : ℕ) → (overloadSaid W p ≡ said Word.refused (k ∷ [])) ↔ ((1 ≤ k) × Given k (jobs W) (threeLists W p) [])
   unfolding refusalOf
   refused-row k = (λ e. to e case-of, from)
     where
-      to : checked W p ≡ said Word.refused (k ∷ []) → Case (checked W p) → (1 ≤ k) × Given k (jobs W) (threeLists W p) []
+      to : overloadSaid W p ≡ said Word.refused (k ∷ []) → Case (overloadSaid W p) → (1 ≤ k) × Given k (jobs W) (threeLists W p) []
       to e (inl (i, d, q)) =
           let z : k ≡ suc i = ap (λ (s : Said). s .numbers ! 0) (sym e ∙ q) in
           (omega arith, refusal-exactly (jobs W) (threeLists W p) [] k .0 (d ∙ sym z))
       to e (inr (g, (nothing, f, q))) = said-apart Word.refused Word.none (k ∷ []) [] (λ z. omega arith) (sym e ∙ q)
       to e (inr (g, (Finding.pair x y, f, q))) = said-apart Word.refused Word.overload (k ∷ []) (x ∷ y ∷ []) (λ z. omega arith) (sym e ∙ q)
 
-      from : (1 ≤ k) × Given k (jobs W) (threeLists W p) [] → checked W p ≡ said Word.refused (k ∷ [])
+      from : (1 ≤ k) × Given k (jobs W) (threeLists W p) [] → overloadSaid W p ≡ said Word.refused (k ∷ [])
       from (b, t) = by case-of
         where
           r : refusal (jobs W) (threeLists W p) [] ≡ k
           r = refusal-exactly (jobs W) (threeLists W p) [] k .1 t
 
-          by : Case (checked W p) → checked W p ≡ said Word.refused (k ∷ [])
+          by : Case (overloadSaid W p) → overloadSaid W p ≡ said Word.refused (k ∷ [])
           by (inl (i, d, q)) = q ∙ ap (λ (m : ℕ). said Word.refused (m ∷ [])) (sym d ∙ r)
           by (inr (g, c)) = absurd (omega (arith, r, good-is g))
 
   -- what the definition says meets the promise
-  pub overloads : Overloads W p (checked W p)
+  pub overloads : Overloads W p (overloadSaid W p)
   overloads =
       record {
         answered = refl;
@@ -112,7 +112,7 @@ module _ (W : Win) (p : List ℕ) where
 
   -- and so do a refusal's number, and the finding of a good list
   pub refused-meets : (k : ℕ) → k ≡ refusal (jobs W) (threeLists W p) [] → (k ≡ 0 → ⊥) → Overloads W p (said Word.refused (k ∷ []))
-  unfolding checked tabled refusalOf
+  unfolding overloadSaid tabled refusalOf
   refused-meets zero e d = absurd (d refl)
   refused-meets (suc k) e d = subst (Overloads W p) (ap (tabled W p) (sym e)) overloads
 

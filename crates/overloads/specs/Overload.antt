@@ -66,9 +66,9 @@ pub data Finding : Type 0 where
   pair : ℕ → ℕ → Finding
 
 -- a and b where the test passes
-abbrev pub found : Bool → ℕ → ℕ → Finding
-found true a b = Finding.pair a b
-found false a b = nothing
+abbrev pub findingIf : Bool → ℕ → ℕ → Finding
+findingIf true a b = Finding.pair a b
+findingIf false a b = nothing
 
 -- b the least of the stops' latest ends, and a the greatest of the starts' earliest starts for it
 unfoldable pub overload : ℕ → List ℕ → Win → Finding
@@ -76,7 +76,7 @@ unfolding some? stops starts most fewest
 overload n p W =
     let b = fewest (stops n p W) (λ k. W .l ! k) (most (λ k. true) (λ k. W .l ! k) 0 n) n in
     let a = most (starts n p W b) (λ k. W .e ! k) 0 n in
-    found (some? (stops n p W) n) a b
+    findingIf (some? (stops n p W) n) a b
 
 -- a finding is right: the pair is 01's, and where nothing is found there is no pair
 abbrev pub Finds : ℕ → List ℕ → Win → Finding → Type 0

@@ -25,13 +25,13 @@ tabled W p zero = foundSaid (overload (jobs W) p W)
 tabled W p (suc k) = said Word.refused (suc k ∷ [])
 
 -- what the check says
-unfoldable pub checked : Win → List ℕ → Said
+unfoldable pub overloadSaid : Win → List ℕ → Said
 unfolding tabled refusalOf
-checked W p = tabled W p (refusalOf W p)
+overloadSaid W p = tabled W p (refusalOf W p)
 
 -- the contract of the overload check
 pub record Overloads (W : Win) (p : List ℕ) (a : Said) : Type 0 where
-  pub answered : a ≡ checked W p
+  pub answered : a ≡ overloadSaid W p
   -- refusal k exactly where its test is the first that fails
   pub refused : (k : ℕ) → (a ≡ said Word.refused (k ∷ [])) ↔ ((1 ≤ k) × Given k (jobs W) (threeLists W p) [])
   -- "none" exactly when the list is good and no non-empty set of its jobs is overloaded

@@ -5,7 +5,7 @@ use native.Mathlib.Decide.{decLt, ℕ-discrete}
 use mathlib.Core.Path.{_≡_}
 use mathlib.Core.List.{List}
 use Rattle.lists.specs.Lists.{_!_}
-use Rattle.lists.specs.Searches.{LastWith, FirstWith}
+use Rattle.lists.specs.Extremes.{LastWith, FirstWith}
 use Rattle.profile.specs.Steps.{behindAll, Points, Levels, Piece}
 
 module _ (ts ld : List ℕ) (m limit a b : ℕ) where

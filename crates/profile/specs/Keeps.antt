@@ -3,7 +3,7 @@ use Prim.Native.Nat.{ℕ, _+_, _≤_, _<_}
 use mathlib.Core.Path.{_≡_}
 use mathlib.Core.List.{List}
 use lib.ListN.{length}
-use Rattle.lists.specs.Searches.{LastWith, FirstWith}
+use Rattle.lists.specs.Extremes.{LastWith, FirstWith}
 use Rattle.profile.specs.Steps.{behindAll, Points, Levels}
 use Rattle.profile.specs.Raises.{raised, mostLevel, Low}
 use Rattle.profile.specs.declared.kept.Outline.{Outline}

@@ -16,7 +16,7 @@ use Rattle.answers.specs.Said.{Word, Said, said}
 use Rattle.joblist.specs.Limits.{mostTime}
 use Rattle.joblist.specs.GoodList.{Sized, Within}
 use Rattle.journal.specs.Journal.{logged, flat}
-use Rattle.promises.specs.Ask.{Ask, Grounds, many, lasts, Good}
+use Rattle.promises.specs.Ask.{Ask, Grounds, jobCount, lasts, Good}
 use Rattle.promises.specs.Table.{After, leaves, ended, tabled, narrowed}
 use Rattle.promises.specs.Promise.{LargestIn, Narrows}
 use Rattle.promises.specs.Plain.{Task, taskOf, GoodTask, Left, Plain}
@@ -128,7 +128,7 @@ module _ (A : Ask) (a : After) (h : Narrows A a) (n : ℕ) (e : a .says ≡ said
     pub good-again : Good B
     good-again = task-good (taskOf A) (a .win) good-first largest-first (h .reasons .settled n e .led .lengths) (taskOf B) w
 
-    pub long-again : Long (many B) (lasts B) (B .win)
+    pub long-again : Long (jobCount B) (lasts B) (B .win)
     long-again = task-long (taskOf A) (a .win) good-first largest-first (h .reasons .settled n e .led .lengths) (taskOf B) w
 
     again : Grounds B → narrowed B ≡ leaves (said Word.settled (0 ∷ [])) (B .win) (B .log)

@@ -5,7 +5,7 @@ use native.Mathlib.Decide.{decLe}
 use mathlib.Core.Path.{_≡_, refl, sym, subst}
 use mathlib.Core.List.{[], _∷_}
 use mathlib.Core.Logic.{_⊎_, inl, inr}
-use Rattle.narrowing.specs.Run.{short, count}
+use Rattle.narrowing.specs.Run.{short, moveCount}
 use Rattle.narrowing.proofs.Room.{short-below, below-short, count-needed}
 use Rattle.answers.specs.Said.{Word, said}
 use Rattle.promises.specs.Ask.{Ask, Grounds, Good, refusalOf}
@@ -38,7 +38,7 @@ module _ (A : Ask) where
     unfolding needs
     five-short b = below-short (A .search) (A .rules) (x .searches) (x .lawful) (A .win) (whole A g) (A .room) b
 
-    pub room-count : Room A → count (ran A) ≡ needs A
+    pub room-count : Room A → moveCount (ran A) ≡ needs A
     unfolding needs
     room-count b = count-needed (A .search) (A .rules) (x .searches) (x .lawful) (A .win) (whole A g) (A .room) b
 

@@ -14,7 +14,7 @@ use Rattle.answers.specs.Said.{Word, Said, said}
 use Rattle.answers.proofs.Same.{not-said}
 use Rattle.joblist.proofs.Refusals.{refusal-most}
 use Rattle.journal.specs.Journal.{logged}
-use Rattle.promises.specs.Ask.{Ask, Grounds, many, columns, refusalOf}
+use Rattle.promises.specs.Ask.{Ask, Grounds, jobCount, columns, refusalOf}
 use Rattle.promises.specs.Table.{After, leaves, ended, ran, narrowed}
 use Rattle.promises.specs.Reasons.{Logged, Reasons}
 use Rattle.promises.specs.Promise.{Exactly}
@@ -93,6 +93,6 @@ module _ (A : Ask) (x : Grounds A) (a : After) (e : Exactly A a) (r : Reasons A 
 
       go : Case A due → a ≡ due
       go (inl (k, d, q)) =
-          let f : suc k ≡ 5 → ⊥ = λ z. omega (arith, refusal-most (many A) (columns A) (A .alone)) in
+          let f : suc k ≡ 5 → ⊥ = λ z. omega (arith, refusal-most (jobCount A) (columns A) (A .alone)) in
           by-refusal (suc k) (says-of _ q) (λ p. e .before (suc k) f p ∙ sym (facts .before (suc k) f (says-of _ q)))
       go (inr (g, q)) = by-run (ran A) q

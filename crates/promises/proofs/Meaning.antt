@@ -18,7 +18,7 @@ use Rattle.narrowing.proofs.Runs as runs
 use Rattle.narrowing.proofs.Room.{short-below, below-short}
 use Rattle.answers.specs.Said.{Word}
 use Rattle.answers.proofs.Same.{not-said}
-use Rattle.promises.specs.Ask.{Ask, Grounds, many, lasts, Good, refusalOf}
+use Rattle.promises.specs.Ask.{Ask, Grounds, jobCount, lasts, Good, refusalOf}
 use Rattle.promises.specs.Table.{ended, ran, tabled, narrowed}
 use Rattle.promises.specs.Promise.{LargestIn, NoneIn, AllFixed, needs, Room, Kept, Narrowest, Narrows}
 use Rattle.promises.proofs.Calls.{good-call, call-good, whole}
@@ -32,7 +32,7 @@ no-slack p W zero n b f = refl
 no-slack p W (suc m) n b f = omega (arith, no-slack p W m n (omega arith) f, f m b)
 
 module _ (A : Ask) (x : Grounds A) where
-  means : runs.Good (many A) (lasts A) (A .rules) (A .win) (ran A)
+  means : runs.Good (jobCount A) (lasts A) (A .rules) (A .win) (ran A)
   means = run-good (A .search) (A .rules) (x .searches) (x .lawful) (A .room) (A .win)
 
   module _ (g : Good A) where
@@ -40,7 +40,7 @@ module _ (A : Ask) (x : Grounds A) where
     unfolding needs
     room-not h e = omega (arith, short-below (A .search) (A .rules) (x .searches) (x .lawful) (A .win) (whole A g) (A .room) e)
 
-    pub slack-room : slack (lasts A) (A .win) (many A) < A .room → Room A
+    pub slack-room : slack (lasts A) (A .win) (jobCount A) < A .room → Room A
     unfolding needs
     slack-room h =
         elim (decLe (needed (A .search) (A .win)) (A .room)) [
@@ -53,46 +53,46 @@ module _ (A : Ask) (x : Grounds A) where
     -- ---- where every job is fixed
 
     module _ (f : AllFixed A) where
-      fixed-is : Fixed (many A) (lasts A) (A .win .e) (A .win)
+      fixed-is : Fixed (jobCount A) (lasts A) (A .win .e) (A .win)
       fixed-is = record { early = λ k b. refl; late = f }
 
-      fixed-long : Long (many A) (lasts A) (A .win)
+      fixed-long : Long (jobCount A) (lasts A) (A .win)
       unfolding Long
       fixed-long k b = omega (arith, f k b)
 
       fixed-room : 1 ≤ A .room → Room A
-      fixed-room h = slack-room (omega (arith, no-slack (lasts A) (A .win) (many A) (many A) (omega arith) f))
+      fixed-room h = slack-room (omega (arith, no-slack (lasts A) (A .win) (jobCount A) (jobCount A) (omega arith) f))
 
       none-broken : NoneIn A → A .broken (A .win .e)
       none-broken h = go (stable-or (A .search) (A .rules) (x .searches) (A .win) fixed-long)
         where
-          go : Stable (many A) (A .rules) (A .win) ⊎ ((j : ℕ) × (s : Side) × (b : ℕ) × (j < many A) × A .rules (A .win) j s b) → A .broken (A .win .e)
+          go : Stable (jobCount A) (A .rules) (A .win) ⊎ ((j : ℕ) × (s : Side) × (b : ℕ) × (j < jobCount A) × A .rules (A .win) j s b) → A .broken (A .win .e)
           go (inl q) =
-              absurd (fixed-clash (many A) (lasts A) (A .rules) (A .fits) (x .exact) (A .win) f h (x .exact .full (A .win .e) (A .win) fixed-is q))
+              absurd (fixed-clash (jobCount A) (lasts A) (A .rules) (A .fits) (x .exact) (A .win) f h (x .exact .full (A .win .e) (A .win) fixed-is q))
           go (inr y) = x .broken (A .win .e) (A .win) fixed-is .0 y
 
       settled-not-broken : (U : Win) → LargestIn A U → A .broken (A .win .e) → ⊥
       unfolding Stable
       settled-not-broken U h o =
           let y = x .broken (A .win .e) (A .win) fixed-is .1 o in
-          let s = fixed-settled (many A) (lasts A) (A .rules) (A .fits) (x .exact) (A .win) f U h in
+          let s = fixed-settled (jobCount A) (lasts A) (A .rules) (A .fits) (x .exact) (A .win) f U h in
           x .exact .sound (A .win .e) (A .win) fixed-is s (y .0) (y .1) (y .2) (y .3) (y .4)
 
     -- ---- the run's rows
 
-    kept-run : (o : Out) → ran A ≡ o → runs.Good (many A) (lasts A) (A .rules) (A .win) o → Kept A (ended A o)
+    kept-run : (o : Out) → ran A ≡ o → runs.Good (jobCount A) (lasts A) (A .rules) (A .win) o → Kept A (ended A o)
     unfolding ended
     kept-run (settled U ms) e h =
         record {
           schedules = λ s y.
-              step-schedule (many A) (lasts A) (A .rules) (A .fits) (x .exact .sound) (A .win) U (largest-step (many A) (lasts A) (A .rules) (A .win) U h) s y;
+              step-schedule (jobCount A) (lasts A) (A .rules) (A .fits) (x .exact .sound) (A .win) U (largest-step (jobCount A) (lasts A) (A .rules) (A .win) U h) s y;
           none = λ z. absurd (not-said Word.settled Word.clash (λ q. omega arith) z);
           fixed = λ g f b. (λ z. absurd (not-said Word.settled Word.clash (λ q. omega arith) z), λ o. absurd (settled-not-broken f U h o));
         }
     kept-run (clash j ms) e h =
         record {
           schedules = λ s y. y;
-          none = λ z s y. none-schedule (many A) (lasts A) (A .rules) (A .fits) (x .exact .sound) (A .win) h s y;
+          none = λ z s y. none-schedule (jobCount A) (lasts A) (A .rules) (A .fits) (x .exact .sound) (A .win) h s y;
           fixed = λ g f b. (λ z. none-broken f h, λ o. refl);
         }
     kept-run short e h =
@@ -102,7 +102,7 @@ module _ (A : Ask) (x : Grounds A) where
           fixed = λ g f b. absurd (room-not (fixed-room f b) e);
         }
 
-    narrowest-run : (o : Out) → ran A ≡ o → runs.Good (many A) (lasts A) (A .rules) (A .win) o → Narrowest A (ended A o)
+    narrowest-run : (o : Out) → ran A ≡ o → runs.Good (jobCount A) (lasts A) (A .rules) (A .win) o → Narrowest A (ended A o)
     unfolding ended
     narrowest-run (settled U ms) e h =
         record {

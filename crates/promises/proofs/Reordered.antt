@@ -15,7 +15,7 @@ use Rattle.answers.specs.Said.{Word, Said, said}
 use Rattle.joblist.specs.GoodList.{Given, refusal}
 use Rattle.joblist.proofs.Renumbered.{refusal-turned}
 use Rattle.joblist.proofs.Refusals.{refusal-exactly}
-use Rattle.promises.specs.Ask.{Ask, many, Good, refusalOf}
+use Rattle.promises.specs.Ask.{Ask, jobCount, Good, refusalOf}
 use Rattle.promises.specs.Table.{After}
 use Rattle.promises.specs.Promise.{Room, RefusedRow, Narrows}
 use Rattle.promises.specs.Reordered.{SameTask, SameAsk}
@@ -79,7 +79,7 @@ module _ (π σ : ℕ → ℕ) (K L : Task) (t : Turn (K .n) π σ) (s : SameTas
 
 -- ---- with a log
 
-module _ (π σ : ℕ → ℕ) (A B : Ask) (t : Turn (many A) π σ) (s : SameAsk π σ A B) where
+module _ (π σ : ℕ → ℕ) (A B : Ask) (t : Turn (jobCount A) π σ) (s : SameAsk π σ A B) where
   pub same-refusal : refusalOf B ≡ refusalOf A
   unfolding refusalOf
   same-refusal = task-refusal π σ (taskOf A) (taskOf B) t s
@@ -100,10 +100,10 @@ module _ (π σ : ℕ → ℕ) (A B : Ask) (t : Turn (many A) π σ) (s : SameAs
 
     module _ (good : Good A) (room : Room A) (space : Room B) where
       -- a settled answer here is one there, with the same window for each job
-      pub settled-there : a .says .word ≡ Word.settled → (b .says .word ≡ Word.settled) × SameWin (many A) π (a .win) (b .win)
+      pub settled-there : a .says .word ≡ Word.settled → (b .says .word ≡ Word.settled) × SameWin (jobCount A) π (a .win) (b .win)
       settled-there e = go (g .largest (good-there good) .decided space)
         where
-          go : (b .says .word ≡ Word.settled) ⊎ (b .says .word ≡ Word.clash) → (b .says .word ≡ Word.settled) × SameWin (many A) π (a .win) (b .win)
+          go : (b .says .word ≡ Word.settled) ⊎ (b .says .word ≡ Word.clash) → (b .says .word ≡ Word.settled) × SameWin (jobCount A) π (a .win) (b .win)
           go (inl y) = (y, same-largest π σ (taskOf A) (taskOf B) t s (a .win) (b .win) (f .largest good .settled e) (g .largest (good-there good) .settled y))
           go (inr y) =
               let u = f .largest good .exists room .0 e in

@@ -7,12 +7,12 @@ use mathlib.Core.Logic.{_⊎_, inl, inr}
 use lib.ListN.{length}
 use Rattle.lists.specs.Lists.{_!_}
 use Rattle.narrowing.specs.Windows.{Win}
-use Rattle.narrowing.specs.Run.{Out, settled, clash, short, count}
+use Rattle.narrowing.specs.Run.{Out, settled, clash, short, moveCount}
 use Rattle.answers.specs.Said.{Word, Said, said}
 use Rattle.answers.proofs.Same.{not-said}
 use Rattle.joblist.proofs.Refusals.{refusal-exactly, refusal-most}
 use Rattle.journal.specs.Journal.{cleared}
-use Rattle.promises.specs.Ask.{Ask, Grounds, many, columns, Good, refusalOf}
+use Rattle.promises.specs.Ask.{Ask, Grounds, jobCount, columns, Good, refusalOf}
 use Rattle.promises.specs.Table.{After, ended, ran, narrowed}
 use Rattle.promises.specs.Promise.{StableIn, NoneIn, needs, Room, RefusedRow, Exactly, Narrowest}
 use Rattle.promises.proofs.Calls.{call-good}
@@ -47,7 +47,7 @@ module _ (A : Ask) where
         go : Case A a → RefusedRow A k
         go (inl (i, d, q)) =
             let z : suc i ≡ k = ap num (says-of _ q _ e) in
-            inl (omega arith, refusal-exactly (many A) (columns A) (A .alone) k .0 (d ∙ z))
+            inl (omega arith, refusal-exactly (jobCount A) (columns A) (A .alone) k .0 (d ∙ z))
         go (inr (g, q)) = by-run g (ran A) refl (says-of _ q _ e)
 
     row-refused : (k : ℕ) → RefusedRow A k → a .says ≡ said Word.refused (k ∷ [])
@@ -56,10 +56,10 @@ module _ (A : Ask) where
       where
         go : Case A a → RefusedRow A k → a .says ≡ said Word.refused (k ∷ [])
         go (inl (i, d, q)) (inl (b, t)) =
-            let z : suc i ≡ k = sym d ∙ refusal-exactly (many A) (columns A) (A .alone) k .1 t in
+            let z : suc i ≡ k = sym d ∙ refusal-exactly (jobCount A) (columns A) (A .alone) k .1 t in
             ap (λ (y : After). y .says) q ∙ ap (λ (m : ℕ). said Word.refused (m ∷ [])) z
         go (inl (i, d, q)) (inr (e, g, b)) = absurd (omega (arith, sym d ∙ call-good A g))
-        go (inr (g, q)) (inl (b, t)) = absurd (omega (arith, sym (call-good A g) ∙ refusal-exactly (many A) (columns A) (A .alone) k .1 t))
+        go (inr (g, q)) (inl (b, t)) = absurd (omega (arith, sym (call-good A g) ∙ refusal-exactly (jobCount A) (columns A) (A .alone) k .1 t))
         go (inr (g, q)) (inr (e, f, b)) =
             ap (λ (y : After). y .says) q ∙ ap (λ (o : Out). ended A o .says) (five-short A x g b) ∙ ap (λ (m : ℕ). said Word.refused (m ∷ [])) (sym e)
 
@@ -71,7 +71,7 @@ module _ (A : Ask) where
         by-run : (g : Good A) (o : Out) → ran A ≡ o → ended A o .says ≡ said Word.settled (n ∷ []) → Good A × Room A × (n ≡ needs A)
         by-run g (settled U ms) d q =
             let r : Room A = ended-room A x g (λ z. let w : _≡_ {A = ℕ} 0 1 = cc in omega arith) in
-            (g, r, sym (ap num q) ∙ sym (ap (λ (o : Out). count o) d) ∙ room-count A x g r)
+            (g, r, sym (ap num q) ∙ sym (ap (λ (o : Out). moveCount o) d) ∙ room-count A x g r)
         by-run g (clash j ms) d q = absurd (not-said Word.clash Word.settled (λ z. omega arith) (ap (λ (y : Said). y .word) q))
         by-run g short d q = absurd (settled-refused _ _ (sym q))
 
@@ -87,7 +87,7 @@ module _ (A : Ask) where
         by-run g (settled U ms) d q = absurd (not-said Word.settled Word.clash (λ z. omega arith) (ap (λ (y : Said). y .word) q))
         by-run g (clash i ms) d q =
             let r : Room A = ended-room A x g (λ z. let w : _≡_ {A = ℕ} 0 1 = cc in omega arith) in
-            (g, r, sym (ap num q) ∙ sym (ap (λ (o : Out). count o) d) ∙ room-count A x g r)
+            (g, r, sym (ap num q) ∙ sym (ap (λ (o : Out). moveCount o) d) ∙ room-count A x g r)
         by-run g short d q = absurd (clash-refused _ _ (sym q))
 
         go : Case A a → Good A × Room A × (n ≡ needs A)
@@ -156,7 +156,7 @@ module _ (A : Ask) where
         go : Case A a → LogOf k
         go (inl (i, d, q)) =
             let z : suc i ≡ k = ap num (says-of _ q _ e) in
-            inr (omega (arith, refusal-most (many A) (columns A) (A .alone)), ap (λ (y : After). y .log) q)
+            inr (omega (arith, refusal-most (jobCount A) (columns A) (A .alone)), ap (λ (y : After). y .log) q)
         go (inr (g, q)) = by-run (ran A) q (says-of _ q _ e)
 
     zeros-of : (k : ℕ) → k ≡ 5 → LogOf k → a .log ≡ cleared (A .log)

@@ -17,7 +17,7 @@ use Rattle.narrowing.proofs.TooShort.{run-too-short, needed-none}
 use Rattle.answers.specs.Said.{Word, said}
 use Rattle.answers.proofs.Same.{not-refused}
 use Rattle.journal.specs.Journal.{logged, flat}
-use Rattle.promises.specs.Ask.{Ask, many, lasts, Good, TooShort}
+use Rattle.promises.specs.Ask.{Ask, jobCount, lasts, Good, TooShort}
 use Rattle.promises.specs.Table.{After, leaves, ended, ran}
 use Rattle.promises.specs.Promise.{Scheduled, NoneIn, needs, Narrowest, Narrows}
 use Rattle.promises.proofs.Calls.{call-good}
@@ -25,12 +25,12 @@ use Rattle.promises.proofs.Cased.{Case, cased}
 
 -- ---- of the list alone, and any job whose window is too short
 
-module _ (A : Ask) (j : ℕ) (b : j < many A) (short : A .win .l ! j < A .win .e ! j + lasts A ! j) where
+module _ (A : Ask) (j : ℕ) (b : j < jobCount A) (short : A .win .l ! j < A .win .e ! j + lasts A ! j) where
   pub too-short-unscheduled : (s : List ℕ) → Scheduled A (A .win) s → ⊥
   too-short-unscheduled s f = omega (arith, f .from j b, f .to j b)
 
   pub too-short-none : NoneIn A
-  too-short-none = closed-none-left (many A) (lasts A) (A .rules) (A .win) j b (lt-ltb _ _ short)
+  too-short-none = closed-none-left (jobCount A) (lasts A) (A .rules) (A .win) j b (lt-ltb _ _ short)
 
 -- no record is needed
 pub too-short-needs : (A : Ask) (j : ℕ) → TooShort A j → needs A ≡ 0

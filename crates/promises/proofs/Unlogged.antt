@@ -16,19 +16,19 @@ use Rattle.answers.specs.Said.{Word, Said, said}
 use Rattle.answers.proofs.Same.{not-said, said-apart}
 use Rattle.joblist.specs.GoodList.{Given}
 use Rattle.joblist.proofs.Refusals.{refusal-exactly}
-use Rattle.promises.specs.Ask.{Ask, Grounds, many, lasts, Good, refusalOf}
+use Rattle.promises.specs.Ask.{Ask, Grounds, jobCount, lasts, Good, refusalOf}
 use Rattle.promises.specs.Ask as ask
 use Rattle.promises.specs.Table.{ended, ran, tabled, narrowed}
 use Rattle.promises.specs.Plain.{taskOf, unlogged, Plain}
 use Rattle.promises.proofs.Calls.{good-call, call-good, whole}
 
-module _ (A : Ask) (x : Grounds A) (enough : slack (lasts A) (A .win) (many A) < A .room) where
+module _ (A : Ask) (x : Grounds A) (enough : slack (lasts A) (A .win) (jobCount A) < A .room) where
   -- no refusal is a good list's
-  good-given : Good A → (k : ℕ) → 1 ≤ k → Given k (many A) (ask.columns A) (A .alone) → ⊥
+  good-given : Good A → (k : ℕ) → 1 ≤ k → Given k (jobCount A) (ask.columns A) (A .alone) → ⊥
   unfolding refusalOf
-  good-given g k b t = omega (arith, sym (call-good A g) ∙ refusal-exactly (many A) (ask.columns A) (A .alone) k .1 t)
+  good-given g k b t = omega (arith, sym (call-good A g) ∙ refusal-exactly (jobCount A) (ask.columns A) (A .alone) k .1 t)
 
-  plain-run : Good A → (o : Out) → ran A ≡ o → runs.Good (many A) (lasts A) (A .rules) (A .win) o → Reached (A .search) (A .win) o → Plain (taskOf A) (unlogged (ended A o))
+  plain-run : Good A → (o : Out) → ran A ≡ o → runs.Good (jobCount A) (lasts A) (A .rules) (A .win) o → Reached (A .search) (A .win) o → Plain (taskOf A) (unlogged (ended A o))
   unfolding ended
   plain-run g (settled U ms) e h r =
       record {
@@ -58,8 +58,8 @@ module _ (A : Ask) (x : Grounds A) (enough : slack (lasts A) (A .win) (many A) <
   plain-by (suc k) e =
       record {
         refused = λ m. (
-          λ q. let z : suc k ≡ m = ap (λ (y : Said). y .numbers ! 0) q in (omega arith, refusal-exactly (many A) (ask.columns A) (A .alone) m .0 (e ∙ z)),
-          λ t. ap (λ (i : ℕ). said Word.refused (i ∷ [])) (sym e ∙ refusal-exactly (many A) (ask.columns A) (A .alone) m .1 (t .1)),
+          λ q. let z : suc k ≡ m = ap (λ (y : Said). y .numbers ! 0) q in (omega arith, refusal-exactly (jobCount A) (ask.columns A) (A .alone) m .0 (e ∙ z)),
+          λ t. ap (λ (i : ℕ). said Word.refused (i ∷ [])) (sym e ∙ refusal-exactly (jobCount A) (ask.columns A) (A .alone) m .1 (t .1)),
         );
         decided = λ g. absurd (omega (arith, sym e ∙ call-good A g));
         settled = λ q. absurd (not-said Word.refused Word.settled (λ z. omega arith) q);

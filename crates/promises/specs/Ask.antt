@@ -9,7 +9,7 @@ use Rattle.narrowing.specs.Rules.{Family, Lawful}
 use Rattle.narrowing.specs.Schedules.{Fixed, Exact}
 use Rattle.narrowing.specs.Search.{Search, Searches, Move}
 use Rattle.narrowing.specs.Rounds.{Chosen}
-use Rattle.joblist.specs.Limits.{Column, times}
+use Rattle.joblist.specs.Limits.{Column, timeColumn}
 use Rattle.joblist.specs.GoodList.{GoodList, refusal}
 use Rattle.journal.specs.Journal.{recordAt, logged}
 
@@ -32,35 +32,35 @@ pub record Ask : Type 1 where
   pub fine : List ℕ → Type 0
 
 -- the number of jobs, their durations, the lists
-abbrev pub many : Ask → ℕ
-many A = A .search .n
+abbrev pub jobCount : Ask → ℕ
+jobCount A = A .search .n
 
 abbrev pub lasts : Ask → List ℕ
 lasts A = A .search .p
 
 abbrev pub columns : Ask → List Column
-columns A = times (A .win .e) ∷ times (A .win .l) ∷ times (lasts A) ∷ A .beside
+columns A = timeColumn (A .win .e) ∷ timeColumn (A .win .l) ∷ timeColumn (lasts A) ∷ A .beside
 
 -- it has a good list, in facts; and the number of its refusal by tests 1 to 3
 abbrev pub Good : Ask → Type 0
-Good A = GoodList (many A) (columns A) (A .alone)
+Good A = GoodList (jobCount A) (columns A) (A .alone)
 
 unfoldable pub refusalOf : Ask → ℕ
 unfolding refusal
-refusalOf A = refusal (many A) (columns A) (A .alone)
+refusalOf A = refusal (jobCount A) (columns A) (A .alone)
 
 -- j is the lowest job whose window is too short
 abbrev pub TooShort : Ask → ℕ → Type 0
-TooShort A j = LowestTooShort (many A) (lasts A) (A .win) j
+TooShort A j = LowestTooShort (jobCount A) (lasts A) (A .win) j
 
 -- what is asked of the rules, the search, the schedules and the records
 pub record Grounds (A : Ask) : Type 0 where
-  pub lawful : Lawful (many A) (A .rules)
+  pub lawful : Lawful (jobCount A) (A .rules)
   pub searches : Searches (A .search) (A .rules)
-  pub exact : Exact (many A) (lasts A) (A .rules) (A .fits)
+  pub exact : Exact (jobCount A) (lasts A) (A .rules) (A .fits)
   -- where every job is fixed a rule applies exactly if the starts are broken
-  pub broken : (s : List ℕ) (W : Win) → Fixed (many A) (lasts A) s W
-      → ((j : ℕ) × (v : Side) × (b : ℕ) × (j < many A) × A .rules W j v b) ↔ A .broken s
+  pub broken : (s : List ℕ) (W : Win) → Fixed (jobCount A) (lasts A) s W
+      → ((j : ℕ) × (v : Side) × (b : ℕ) × (j < jobCount A) × A .rules W j v b) ↔ A .broken s
   -- of a good list each record of the log is as promised
   pub fine : Good A → (ms : List Move) → Chosen (A .search) (A .rules) (A .win) 0 early ms → length ms ≤ A .room → (i : ℕ) → i < length ms
       → A .fine (recordAt (logged (map (A .entry) ms) (A .log)) i)

@@ -8,9 +8,9 @@ use Rattle.narrowing.specs.Windows.{Win}
 use Rattle.narrowing.specs.Rules.{Family, Largest, NoCandidate}
 use Rattle.narrowing.specs.Led.{SameLengths}
 use Rattle.answers.specs.Said.{Word, Said, said}
-use Rattle.joblist.specs.Limits.{Column, times}
+use Rattle.joblist.specs.Limits.{Column, timeColumn}
 use Rattle.joblist.specs.GoodList.{GoodList, Given}
-use Rattle.promises.specs.Ask.{Ask, many, lasts}
+use Rattle.promises.specs.Ask.{Ask, jobCount, lasts}
 use Rattle.promises.specs.Table.{After}
 
 -- the submitted windows, the number of jobs, their durations, the other lists, the numbers that stand alone, and the rules
@@ -24,10 +24,10 @@ pub record Task : Type 1 where
 
 -- that of a call with a log
 abbrev pub taskOf : Ask → Task
-taskOf A = record { win = A .win; n = many A; p = lasts A; beside = A .beside; alone = A .alone; rules = A .rules }
+taskOf A = record { win = A .win; n = jobCount A; p = lasts A; beside = A .beside; alone = A .alone; rules = A .rules }
 
 abbrev pub columns : Task → List Column
-columns K = times (K .win .e) ∷ times (K .win .l) ∷ times (K .p) ∷ K .beside
+columns K = timeColumn (K .win .e) ∷ timeColumn (K .win .l) ∷ timeColumn (K .p) ∷ K .beside
 
 abbrev pub GoodTask : Task → Type 0
 GoodTask K = GoodList (K .n) (columns K) (K .alone)

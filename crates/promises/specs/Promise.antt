@@ -13,27 +13,27 @@ use Rattle.narrowing.specs.Run.{needed}
 use Rattle.answers.specs.Said.{Word, said}
 use Rattle.joblist.specs.GoodList.{Given}
 use Rattle.journal.specs.Journal.{cleared}
-use Rattle.promises.specs.Ask.{Ask, many, lasts, columns, Good}
+use Rattle.promises.specs.Ask.{Ask, jobCount, lasts, columns, Good}
 use Rattle.promises.specs.Table.{After, narrowed}
 use Rattle.promises.specs.Reasons.{Reasons}
 
 -- a schedule of the call's jobs within the windows W
 abbrev pub Scheduled : Ask → Win → List ℕ → Type 0
-Scheduled A W s = Schedule (many A) (lasts A) (A .fits) W s
+Scheduled A W s = Schedule (jobCount A) (lasts A) (A .fits) W s
 
 -- windows inside the submitted ones, each long enough for its job, to which no rule applies; the largest of them; none
 abbrev pub StableIn : Ask → Win → Type 0
-StableIn A U = Candidate (many A) (lasts A) (A .rules) (A .win) U
+StableIn A U = Candidate (jobCount A) (lasts A) (A .rules) (A .win) U
 
 abbrev pub LargestIn : Ask → Win → Type 0
-LargestIn A U = Largest (many A) (lasts A) (A .rules) (A .win) U
+LargestIn A U = Largest (jobCount A) (lasts A) (A .rules) (A .win) U
 
 abbrev pub NoneIn : Ask → Type 0
-NoneIn A = NoCandidate (many A) (lasts A) (A .rules) (A .win)
+NoneIn A = NoCandidate (jobCount A) (lasts A) (A .rules) (A .win)
 
 -- every job is fixed: e + p = l
 abbrev pub AllFixed : Ask → Type 0
-AllFixed A = (k : ℕ) → k < many A → A .win .l ! k ≡ A .win .e ! k + lasts A ! k
+AllFixed A = (k : ℕ) → k < jobCount A → A .win .l ! k ≡ A .win .e ! k + lasts A ! k
 
 -- the records that the work needs; there is room for them
 unfoldable pub needs : Ask → ℕ
@@ -45,7 +45,7 @@ Room A = needs A ≤ A .room
 
 -- refusal k's row: one of the tests 1 to 3, or 5: the work needs more records than there is room for
 abbrev pub RefusedRow : Ask → ℕ → Type 0
-RefusedRow A k = ((1 ≤ k) × Given k (many A) (columns A) (A .alone)) ⊎ ((k ≡ 5) × Good A × (A .room < needs A))
+RefusedRow A k = ((1 ≤ k) × Given k (jobCount A) (columns A) (A .alone)) ⊎ ((k ≡ 5) × Good A × (A .room < needs A))
 
 -- the answer table: each row exactly when it says so, and the windows and the log that it leaves; the log of a settled answer and of a clash is `Reasons`'
 pub record Exactly (A : Ask) (a : After) : Type 0 where
@@ -80,7 +80,7 @@ pub record Narrowest (A : Ask) (a : After) : Type 0 where
   pub exists : Room A → (a .says .word ≡ Word.settled) ↔ ((U : Win) × StableIn A U)
   -- free of the run: where the sum of l - e - p is below the room, settled or clash is said, settled exactly when such windows exist, clash
   -- exactly when none do
-  pub free : slack (lasts A) (A .win) (many A) < A .room
+  pub free : slack (lasts A) (A .win) (jobCount A) < A .room
       → ((a .says .word ≡ Word.settled) ⊎ (a .says .word ≡ Word.clash))
       × ((a .says .word ≡ Word.settled) ↔ ((U : Win) × StableIn A U))
       × ((a .says .word ≡ Word.clash) ↔ NoneIn A)

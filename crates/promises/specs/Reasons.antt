@@ -10,7 +10,7 @@ use Rattle.narrowing.specs.Rounds.{Chosen}
 use Rattle.narrowing.specs.Led.{Led, Clashed}
 use Rattle.answers.specs.Said.{Word, said}
 use Rattle.journal.specs.Journal.{recordAt, logged}
-use Rattle.promises.specs.Ask.{Ask, many, lasts}
+use Rattle.promises.specs.Ask.{Ask, jobCount, lasts}
 use Rattle.promises.specs.Table.{After}
 
 -- n records in the log, the rest as before: each is a move's, the search's own choice on the windows that those before it left, to its own bound.
@@ -26,14 +26,14 @@ pub record Logged (A : Ask) (a : After) (n : ℕ) : Type 0 where
 pub record Settles (A : Ask) (a : After) (n : ℕ) : Type 0 where
   pub logs : Logged A a n
   pub led : Led (A .search) (A .win) (logs .moves) (a .win)
-  pub most : n ≤ slack (lasts A) (A .win) (many A)
+  pub most : n ≤ slack (lasts A) (A .win) (jobCount A)
 
 -- clash: with no record, j is the lowest job whose window is too short; else every window was long enough before the last move, which is job j's and
 -- closes its window; there are at most as many as that sum and one more
 pub record Clashes (A : Ask) (a : After) (n j : ℕ) : Type 0 where
   pub logs : Logged A a n
   pub clashed : Clashed (A .search) (A .win) (logs .moves) j
-  pub most : n ≤ suc (slack (lasts A) (A .win) (many A))
+  pub most : n ≤ suc (slack (lasts A) (A .win) (jobCount A))
 
 pub record Reasons (A : Ask) (a : After) : Type 0 where
   pub settled : (n : ℕ) → a .says ≡ said Word.settled (n ∷ []) → Settles A a n

@@ -12,7 +12,7 @@ use borrow.Author.Tests.{ltb-true, ltb-false}
 use Rattle.lists.specs.Tests.{only}
 use Rattle.narrowing.specs.Windows.{Win, early, late, closes, sideOf, Long}
 use Rattle.narrowing.specs.Search.{Search, Move, move, after}
-use Rattle.narrowing.specs.Run.{first, resume, settled, clash, short, push, ends, work, run}
+use Rattle.narrowing.specs.Run.{firstMove, resume, settled, clash, short, push, ends, work, run}
 use Rattle.narrowing.proofs.TooShort.{run-long}
 use Rattle.narrowing.proofs.Walk.{made, resume-early, resume-late, resume-end, resume-start, walk-early, walk-late, walk-round, walk-end, walk-move-early, walk-move-late}
 use Rattle.narrowing.proofs.Walk.{written, written-push, written-settled, written-clash, written-more}
@@ -26,7 +26,7 @@ pub record Going (R : Search) (room : ℕ) (W₀ W : Win) (at : Place) (ms : Lis
   pub quota : length ms ≤ room
   pub same : written ms (work R (room - length ms) W (at .job) (sideOf (at .side))) ≡ run R room W₀
   -- a round that has changed nothing so far: what is left of it is all that the whole round has
-  pub quiet : at .changed ≡ false → first R W (R .n) 0 ≡ resume R W (at .job) (sideOf (at .side))
+  pub quiet : at .changed ≡ false → firstMove R W (R .n) 0 ≡ resume R W (at .job) (sideOf (at .side))
   -- no job is left only where the round has changed nothing
   pub over : at .job ≡ R .n → (at .changed ≡ false) × (at .side ≡ 0)
 
@@ -48,7 +48,7 @@ module _ (R : Search) (room : ℕ) (W₀ : Win) where
     -- to another place, with the same windows
     go-on : (at to : Place) → Going R room W₀ W at ms → to .job ≤ R .n → to .side ≤ 1
         → work R (room - length ms) W (at .job) (sideOf (at .side)) ≡ work R (room - length ms) W (to .job) (sideOf (to .side))
-        → (to .changed ≡ false → first R W (R .n) 0 ≡ resume R W (to .job) (sideOf (to .side)))
+        → (to .changed ≡ false → firstMove R W (R .n) 0 ≡ resume R W (to .job) (sideOf (to .side)))
         → (to .job ≡ R .n → (to .changed ≡ false) × (to .side ≡ 0))
         → Going R room W₀ W to ms
     go-on at to G a b f g h =

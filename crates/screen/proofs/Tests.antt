@@ -13,7 +13,7 @@ use borrow.Author.Tests.{le-leb, lt-leb, lt-ltb, le-ltb, eq-eqb, ne-eqb}
 use Rattle.lists.specs.Lists.{_!_}
 use Rattle.lists.specs.Tests.{both, pick, unless}
 use Rattle.narrowing.specs.Windows.{Win}
-use Rattle.joblist.specs.Limits.{Column, demands, jobs, mostJobs, mostTime, mostDemand, threeLists, twoLists, fourLists, supply}
+use Rattle.joblist.specs.Limits.{Column, demandColumn, jobs, mostJobs, mostTime, mostDemand, threeLists, twoLists, fourLists, supply}
 use Rattle.joblist.specs.GoodList.{sized, atMost, within, refusal}
 
 -- ---- the largest number so far is `top`, the numbers from i on are left
@@ -96,7 +96,7 @@ pub of-three : (W : Win) (p : List ℕ) → refusal (jobs W) (threeLists W p) []
     ≡ unless (both (eqb (length (W .l)) (jobs W)) (eqb (length p) (jobs W))) 1 (unless (leb (jobs W) mostJobs) 2 (unless (within (threeLists W p)) 3 0))
 of-three W p = rw (three-is W p, sized-three W p)
 
--- tests 1 to 3 of the three lists, s, f and w, and with them those of the demands, d, and of the capacity, c: the first number where there is one
+-- tests 1 to 3 of the three lists, s, f and w, and with them those of the demandColumn, d, and of the capacity, c: the first number where there is one
 first-of-three : (s f w d c : Bool) → (unless s 1 (unless f 2 (unless w 3 0)) ≡ 0 → ⊥)
     → unless s 1 (unless f 2 (unless (both (both d w) c) 3 0)) ≡ unless s 1 (unless f 2 (unless w 3 0))
 first-of-three false f w d c h = refl
@@ -126,9 +126,9 @@ module _ (W : Win) (p r : List ℕ) (cap : ℕ) where
       (unless (leb (jobs W) mostJobs) 2
       (unless (both (both (atMost mostDemand r) (within (threeLists W p))) (leb cap mostDemand)) 3 0))
   unfolding refusal
-  of-four = rw (sized-last (jobs W) (threeLists W p) (demands r), within-last (threeLists W p) (demands r), within-supply cap)
+  of-four = rw (sized-last (jobs W) (threeLists W p) (demandColumn r), within-last (threeLists W p) (demandColumn r), within-supply cap)
 
-  -- the demands are not as many as the jobs
+  -- the demandColumn are not as many as the jobs
   pub four-unequal : (length r ≡ jobs W → ⊥) → four ≡ 1
   four-unequal h = rw (of-four, ne-eqb (length r) (jobs W) h)
 
@@ -138,7 +138,7 @@ module _ (W : Win) (p r : List ℕ) (cap : ℕ) where
       rw (of-four, eq-eqb (length r) (jobs W) h, three-is W p)
       (first-of-three (sized (jobs W) (threeLists W p)) (leb (jobs W) mostJobs) (within (threeLists W p)) (atMost mostDemand r) (leb cap mostDemand) (λ z. k (three-is W p ∙ z)))
 
-  -- and else the demands and the capacity are tested
+  -- and else the demandColumn and the capacity are tested
   pub four-rest : length r ≡ jobs W → three ≡ 0 → four ≡ unless (both (atMost mostDemand r) (leb cap mostDemand)) 3 0
   four-rest h k =
       rw (of-four, eq-eqb (length r) (jobs W) h)

@@ -8,9 +8,9 @@ use mathlib.Core.Option.{Option, none, some}
 use lib.ListN.{length}
 use Rattle.lists.specs.Lists.{_!_}
 use Rattle.lists.specs.Tests.{between, only}
-use Rattle.lists.specs.Searches.{LastWith, FirstWith, Greatest, Least}
+use Rattle.lists.specs.Extremes.{LastWith, FirstWith, Greatest, Least}
 use Rattle.lists.proofs.Tests.{between-yes}
-use Rattle.lists.proofs.Searches.{greatest-one, least-one, last-as, first-as, last-none, last-some, first-none, first-some}
+use Rattle.lists.proofs.Extremes.{greatest-one, least-one, last-as, first-as, last-none, last-some, first-none, first-some}
 use Rattle.narrowing.specs.Windows.{win, Side, early, late, sideOf}
 use Rattle.narrowing.proofs.Moves.{side-early, side-late}
 use Rattle.timetable.specs.Time.{Jobs, load, Crowded}

@@ -3,7 +3,7 @@ use Prim.Native.Nat.{ℕ, _+_, _≤_, _<_}
 use mathlib.Core.Bool.{not}
 use mathlib.Core.List.{List}
 use Rattle.lists.specs.Tests.{between, only}
-use Rattle.lists.specs.Searches.{LastWith, FirstWith}
+use Rattle.lists.specs.Extremes.{LastWith, FirstWith}
 use Rattle.profile.specs.declared.kept.Outline.{Outline}
 use Rattle.profile.specs.Keeps.{Keeps}
 

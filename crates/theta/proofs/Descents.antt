@@ -16,8 +16,8 @@ use Rattle.lists.specs.Lists.{_!_}
 use Rattle.lists.specs.Tests.{pick}
 use Rattle.lists.specs.Sets.{Set, totalOf, Completes, later}
 use Rattle.lists.proofs.Sets.{clash, totalOf-sub, totalOf-empty, totalOf-parts}
-use Rattle.theta.specs.Theta.{far, endOf, signed, Places, HoldsSet, span, onward, descent}
-use Rattle.theta.proofs.Nodes.{signed-joined, span-in, onward-in, inner, left-child, right-child, Held, node}
+use Rattle.theta.specs.Theta.{far, endOf, signed, Places, HoldsSet, atLeaves, onward, descent}
+use Rattle.theta.proofs.Nodes.{signed-joined, leaves-in, onward-in, inner, left-child, right-child, Held, node}
 use Rattle.theta.proofs.Tails.{exceeds, held-exceeds, exceeds-left, tail-small, onward-parts, through}
 
 pub record Descent (n m : ℕ) (e p : List ℕ) (σ : ℕ → ℕ) (O : Set) (ends : List ℤ) (b v t h a : ℕ) : Type 0 where
@@ -61,10 +61,10 @@ module _ (n m : ℕ) (e p : List ℕ) (σ : ℕ → ℕ) (O : Set) (sums : List 
     fits′ : a + 2 ^ h * 2 ≤ m
     fits′ = rw (pow-suc 2 h) at (D .fits)
 
-    left-node : (sums ! (2 * v) ≡ totalOf n p (span σ O a (2 ^ h))) × Held n e p (span σ O a (2 ^ h)) (endOf ends (2 * v))
+    left-node : (sums ! (2 * v) ≡ totalOf n p (atLeaves σ O a (2 ^ h))) × Held n e p (atLeaves σ O a (2 ^ h)) (endOf ends (2 * v))
     left-node = node n m e p σ O sums ends places holds small h (2 * v) a (left-child m v a (2 ^ h) at′) (omega (arith, fits′))
 
-    right-node : (sums ! (2 * v + 1) ≡ totalOf n p (span σ O (a + 2 ^ h) (2 ^ h))) × Held n e p (span σ O (a + 2 ^ h) (2 ^ h)) (endOf ends (2 * v + 1))
+    right-node : (sums ! (2 * v + 1) ≡ totalOf n p (atLeaves σ O (a + 2 ^ h) (2 ^ h))) × Held n e p (atLeaves σ O (a + 2 ^ h) (2 ^ h)) (endOf ends (2 * v + 1))
     right-node = node n m e p σ O sums ends places holds small h (2 * v + 1) (a + 2 ^ h) (right-child m v a (2 ^ h) at′) (omega (arith, fits′))
 
     two : a + 2 ^ suc h ≡ a + 2 ^ h + 2 ^ h
@@ -111,7 +111,7 @@ module _ (n m : ℕ) (e p : List ℕ) (σ : ℕ → ℕ) (O : Set) (sums : List 
           let i = inner m v a (2 ^ h) (pow-pos h) at′ fits′ in
           holds .joins v (i .0) (i .1) .end-is
           ∙ rw (left-node .1 .1, right-node .1 .1)
-          (signed-joined x y r (omega (arith, next-small)) (λ u w. right-node .0 ∙ totalOf-empty n p (span σ O (a + 2 ^ h) (2 ^ h)) (rw w at (right-node .1 .2))))
+          (signed-joined x y r (omega (arith, next-small)) (λ u w. right-node .0 ∙ totalOf-empty n p (atLeaves σ O (a + 2 ^ h) (2 ^ h)) (rw w at (right-node .1 .2))))
 
       left-over : exceeds x (t + r) b ≡ true
       left-over = exceeds-left x y r t b (sym (held-exceeds (endOf ends v) (later x y r) t b whole t-small) ∙ D .over) right-short
@@ -146,18 +146,18 @@ module _ (n m : ℕ) (e p : List ℕ) (σ : ℕ → ℕ) (O : Set) (sums : List 
       one : 2 ^ 0 ≡ 1
       one = pow-zero 2
 
-      go : (x : Option ℕ) → Completes n e p (span σ O a (2 ^ 0)) x → exceeds x t b ≡ true → (j : ℕ) × Last n e p σ O b a j
+      go : (x : Option ℕ) → Completes n e p (atLeaves σ O a (2 ^ 0)) x → exceeds x t b ≡ true → (j : ℕ) × Last n e p σ O b a j
       go none l q = clash false q refl
       go (some c) l q =
           let u = l .ends .least in
           let j = u .at in
-          let r = span-in σ O a (2 ^ 0) j (l .sub j (u .below) (u .member)) in (
+          let r = leaves-in σ O a (2 ^ 0) j (l .sub j (u .below) (u .member)) in (
             j,
             record {
               below = u .below;
               member = r .0;
               place = omega (arith, one);
-              over = omega (arith, ltb-true, u .is, l .ends .is, D .tail, totalOf-sub n p (l .T) (span σ O a (2 ^ 0)) (l .sub), totalOf-parts n p _ _ _ (onward-parts n p σ O a (2 ^ 0)));
+              over = omega (arith, ltb-true, u .is, l .ends .is, D .tail, totalOf-sub n p (l .T) (atLeaves σ O a (2 ^ 0)) (l .sub), totalOf-parts n p _ _ _ (onward-parts n p σ O a (2 ^ 0)));
               after = λ i d w g. D .after i d w (omega (arith, one));
             },
           )

@@ -22,7 +22,7 @@ use Rattle.lists.proofs.Tests.{both-true}
 use Rattle.lists.proofs.Sets.{clash, totalOf-sub, totalOf-empty, totalOf-parts, some-at, at-some, totalOf-limit, totalOf-same}
 use Rattle.lists.proofs.Completions.{completes-parts, totalOf-one, completes-one, completes-alike}
 use Rattle.lists.proofs.Signed.{sub-lt}
-use Rattle.theta.specs.Theta.{far, endOf, empty, signed, joined, Joins, Places, HoldsSet, span, onward}
+use Rattle.theta.specs.Theta.{far, endOf, empty, signed, joined, Joins, Places, HoldsSet, atLeaves, onward}
 
 -- ---- the empty value
 
@@ -61,14 +61,14 @@ signed-joined (some x) (some y) t h z = go (ltb (x + t) y)
 -- ---- the jobs below a node
 
 module _ (σ : ℕ → ℕ) (O : Set) where
-  pub span-in : (a s j : ℕ) → span σ O a s j ≡ true → (O j ≡ true) × (a ≤ σ j) × (σ j < a + s)
-  span-in a s j h =
+  pub leaves-in : (a s j : ℕ) → atLeaves σ O a s j ≡ true → (O j ≡ true) × (a ≤ σ j) × (σ j < a + s)
+  leaves-in a s j h =
       let q = both-true (O j) (both (leb a (σ j)) (ltb (σ j) (a + s))) h in
       let r = both-true (leb a (σ j)) (ltb (σ j) (a + s)) (q .1) in
       (q .0, leb-true a (σ j) (r .0), ltb-true (σ j) (a + s) (r .1))
 
-  pub in-span : (a s j : ℕ) → O j ≡ true → a ≤ σ j → σ j < a + s → span σ O a s j ≡ true
-  in-span a s j t h g = rw (t, le-leb a (σ j) h) (lt-ltb (σ j) (a + s) g)
+  pub in-leaves : (a s j : ℕ) → O j ≡ true → a ≤ σ j → σ j < a + s → atLeaves σ O a s j ≡ true
+  in-leaves a s j t h g = rw (t, le-leb a (σ j) h) (lt-ltb (σ j) (a + s) g)
 
   pub onward-in : (a j : ℕ) → onward σ O a j ≡ true → (O j ≡ true) × (a ≤ σ j)
   onward-in a j h = let q = both-true (O j) (leb a (σ j)) h in (q .0, leb-true a (σ j) (q .1))
@@ -77,15 +77,15 @@ module _ (σ : ℕ → ℕ) (O : Set) where
   in-onward a j t h = rw t (le-leb a (σ j) h)
 
   -- a node's jobs are its left child's and its right child's
-  pub span-parts : (n a s : ℕ) → Parts n (span σ O a (s * 2)) (span σ O a s) (span σ O (a + s) s)
-  span-parts n a s =
+  pub leaves-parts : (n a s : ℕ) → Parts n (atLeaves σ O a (s * 2)) (atLeaves σ O a s) (atLeaves σ O (a + s) s)
+  leaves-parts n a s =
       record {
-        left = λ k b t. let q = span-in a s k t in in-span a (s * 2) k (q .0) (q .1) (omega arith);
-        right = λ k b t. let q = span-in (a + s) s k t in in-span a (s * 2) k (q .0) (omega arith) (omega arith);
+        left = λ k b t. let q = leaves-in a s k t in in-leaves a (s * 2) k (q .0) (q .1) (omega arith);
+        right = λ k b t. let q = leaves-in (a + s) s k t in in-leaves a (s * 2) k (q .0) (omega arith) (omega arith);
         each = λ k b t.
-            let q = span-in a (s * 2) k t in
-            elim (decLt (σ k) (a + s)) [ yes c ↦ inl (in-span a s k (q .0) (q .1) c) | no c ↦ inr (in-span (a + s) s k (q .0) (omega arith) (omega arith)) ];
-        apart = λ k b t u. let q = span-in a s k t in let r = span-in (a + s) s k u in omega arith;
+            let q = leaves-in a (s * 2) k t in
+            elim (decLt (σ k) (a + s)) [ yes c ↦ inl (in-leaves a s k (q .0) (q .1) c) | no c ↦ inr (in-leaves (a + s) s k (q .0) (omega arith) (omega arith)) ];
+        apart = λ k b t u. let q = leaves-in a s k t in let r = leaves-in (a + s) s k u in omega arith;
       }
 
 -- ---- places in the tree, for a node v whose s leaves start at place a
@@ -111,50 +111,50 @@ Held n e p T z = (x : Option ℕ) × (z ≡ signed x) × Completes n e p T x
 module _ (n m : ℕ) (e p : List ℕ) (σ : ℕ → ℕ) (O : Set) (sums : List ℕ) (ends : List ℤ)
     (places : Places n m e σ) (holds : HoldsSet n m e p σ O sums ends) (small : totalOf n p O < far) where
   -- a leaf: its job's duration and earliest end, or nothing
-  leaf : (a : ℕ) → a < m → (sums ! (m + a) ≡ totalOf n p (span σ O a 1)) × Held n e p (span σ O a 1) (endOf ends (m + a))
-  leaf a b = go (some? (span σ O a 1) n) refl
+  leaf : (a : ℕ) → a < m → (sums ! (m + a) ≡ totalOf n p (atLeaves σ O a 1)) × Held n e p (atLeaves σ O a 1) (endOf ends (m + a))
+  leaf a b = go (some? (atLeaves σ O a 1) n) refl
     where
-      go : (c : Bool) → some? (span σ O a 1) n ≡ c → (sums ! (m + a) ≡ totalOf n p (span σ O a 1)) × Held n e p (span σ O a 1) (endOf ends (m + a))
+      go : (c : Bool) → some? (atLeaves σ O a 1) n ≡ c → (sums ! (m + a) ≡ totalOf n p (atLeaves σ O a 1)) × Held n e p (atLeaves σ O a 1) (endOf ends (m + a))
       go true h =
-          let k = at-some (span σ O a 1) n h in
-          let q = span-in σ O a 1 (k .0) (k .2) in
+          let k = at-some (atLeaves σ O a 1) n h in
+          let q = leaves-in σ O a 1 (k .0) (k .2) in
           let f : a ≡ σ (k .0) = omega arith in
-          let one : (j : ℕ) → j < n → span σ O a 1 j ≡ true → j ≡ k .0 =
-          λ j c t. let r = span-in σ O a 1 j t in places .apart j (k .0) c (k .1) (omega arith) in (
-            ap (λ (x : ℕ). sums ! (m + x)) f ∙ holds .full-sum (k .0) (k .1) (q .0) ∙ sym (totalOf-one n p (span σ O a 1) (k .0) (k .1) (k .2) one),
+          let one : (j : ℕ) → j < n → atLeaves σ O a 1 j ≡ true → j ≡ k .0 =
+          λ j c t. let r = leaves-in σ O a 1 j t in places .apart j (k .0) c (k .1) (omega arith) in (
+            ap (λ (x : ℕ). sums ! (m + x)) f ∙ holds .full-sum (k .0) (k .1) (q .0) ∙ sym (totalOf-one n p (atLeaves σ O a 1) (k .0) (k .1) (k .2) one),
             (
               some (e ! (k .0) + p ! (k .0)),
               ap (λ (x : ℕ). endOf ends (m + x)) f ∙ holds .full-end (k .0) (k .1) (q .0),
-              completes-one n p (span σ O a 1) (k .0) (k .1) (k .2) one e,
+              completes-one n p (atLeaves σ O a 1) (k .0) (k .1) (k .2) one e,
             ),
           )
       go false h =
-          let none-here : Empty n (span σ O a 1) = λ k c t. clash (some? (span σ O a 1) n) (some-at (span σ O a 1) n k c t) h in
-          let bare : (j : ℕ) → j < n → O j ≡ true → σ j ≡ a → ⊥ = λ j c t f. none-here j c (in-span σ O a 1 j t (omega arith) (omega arith)) in
-          (holds .bare-sum a b bare ∙ sym (totalOf-empty n p (span σ O a 1) none-here), (none, holds .bare-end a b bare, none-here))
+          let none-here : Empty n (atLeaves σ O a 1) = λ k c t. clash (some? (atLeaves σ O a 1) n) (some-at (atLeaves σ O a 1) n k c t) h in
+          let bare : (j : ℕ) → j < n → O j ≡ true → σ j ≡ a → ⊥ = λ j c t f. none-here j c (in-leaves σ O a 1 j t (omega arith) (omega arith)) in
+          (holds .bare-sum a b bare ∙ sym (totalOf-empty n p (atLeaves σ O a 1) none-here), (none, holds .bare-end a b bare, none-here))
 
   -- an inner node, from its children
   node-from : (v a s : ℕ) → Joins sums ends v
-      → (sums ! (2 * v) ≡ totalOf n p (span σ O a s)) × Held n e p (span σ O a s) (endOf ends (2 * v))
-      → (sums ! (2 * v + 1) ≡ totalOf n p (span σ O (a + s) s)) × Held n e p (span σ O (a + s) s) (endOf ends (2 * v + 1))
-      → (sums ! v ≡ totalOf n p (span σ O a (s * 2))) × Held n e p (span σ O a (s * 2)) (endOf ends v)
+      → (sums ! (2 * v) ≡ totalOf n p (atLeaves σ O a s)) × Held n e p (atLeaves σ O a s) (endOf ends (2 * v))
+      → (sums ! (2 * v + 1) ≡ totalOf n p (atLeaves σ O (a + s) s)) × Held n e p (atLeaves σ O (a + s) s) (endOf ends (2 * v + 1))
+      → (sums ! v ≡ totalOf n p (atLeaves σ O a (s * 2))) × Held n e p (atLeaves σ O a (s * 2)) (endOf ends v)
   node-from v a s j (f, (x, g, l)) (f′, (y, g′, r)) =
-      let parts = span-parts σ O n a s in
-      let t = totalOf-sub n p (span σ O (a + s) s) O (λ k b u. span-in σ O (a + s) s k u .0) in (
+      let parts = leaves-parts σ O n a s in
+      let t = totalOf-sub n p (atLeaves σ O (a + s) s) O (λ k b u. leaves-in σ O (a + s) s k u .0) in (
         omega (arith, j .sum-is, totalOf-parts n p _ _ _ parts),
         (
-          later x y (totalOf n p (span σ O (a + s) s)),
-          j .end-is ∙ rw (g, g′, f′) (signed-joined x y (totalOf n p (span σ O (a + s) s)) (omega arith) (λ u w. totalOf-empty n p (span σ O (a + s) s) (rw w at r))),
-          completes-parts n e p (span σ O a (s * 2)) (span σ O a s) (span σ O (a + s) s) parts
+          later x y (totalOf n p (atLeaves σ O (a + s) s)),
+          j .end-is ∙ rw (g, g′, f′) (signed-joined x y (totalOf n p (atLeaves σ O (a + s) s)) (omega arith) (λ u w. totalOf-empty n p (atLeaves σ O (a + s) s) (rw w at r))),
+          completes-parts n e p (atLeaves σ O a (s * 2)) (atLeaves σ O a s) (atLeaves σ O (a + s) s) parts
               (λ i k b c u w.
-              let q = span-in σ O a s i u in
-              let q′ = span-in σ O (a + s) s k w in
+              let q = leaves-in σ O a s i u in
+              let q′ = leaves-in σ O (a + s) s k w in
               places .rising i k b c (omega arith)) x y l r,
         ),
       )
 
   -- the total duration and the completion of the jobs below node v, whose 2 ^ h leaves start at place a
-  pub node : (h v a : ℕ) → v * 2 ^ h ≡ m + a → a + 2 ^ h ≤ m → (sums ! v ≡ totalOf n p (span σ O a (2 ^ h))) × Held n e p (span σ O a (2 ^ h)) (endOf ends v)
+  pub node : (h v a : ℕ) → v * 2 ^ h ≡ m + a → a + 2 ^ h ≤ m → (sums ! v ≡ totalOf n p (atLeaves σ O a (2 ^ h))) × Held n e p (atLeaves σ O a (2 ^ h)) (endOf ends v)
   node zero v a f g = rw (pow-zero 2) (rw (v-is) (leaf a (omega (arith, rw (pow-zero 2) at g))))
     where
       v-is : v ≡ m + a
@@ -172,8 +172,8 @@ module _ (n m : ℕ) (e p : List ℕ) (σ : ℕ → ℕ) (O : Set) (sums : List 
   pub root : (d : ℕ) → m ≡ 2 ^ d → (sums ! 1 ≡ totalOf n p O) × Held n e p O (endOf ends 1)
   root d is =
       let k = node d 1 0 (omega (arith, one-mul (2 ^ d))) (omega arith) in
-      let down : Sub n (span σ O 0 (2 ^ d)) O = λ j b t. span-in σ O 0 (2 ^ d) j t .0 in
-      let up : Sub n O (span σ O 0 (2 ^ d)) = λ j b t. in-span σ O 0 (2 ^ d) j t (omega arith) (omega (arith, places .into j b)) in (
-        k .0 ∙ totalOf-same n p (span σ O 0 (2 ^ d)) O down up,
-        (k .1 .0, k .1 .1, completes-alike n e p (span σ O 0 (2 ^ d)) O down up (k .1 .0) (k .1 .2)),
+      let down : Sub n (atLeaves σ O 0 (2 ^ d)) O = λ j b t. leaves-in σ O 0 (2 ^ d) j t .0 in
+      let up : Sub n O (atLeaves σ O 0 (2 ^ d)) = λ j b t. in-leaves σ O 0 (2 ^ d) j t (omega arith) (omega (arith, places .into j b)) in (
+        k .0 ∙ totalOf-same n p (atLeaves σ O 0 (2 ^ d)) O down up,
+        (k .1 .0, k .1 .1, completes-alike n e p (atLeaves σ O 0 (2 ^ d)) O down up (k .1 .0) (k .1 .2)),
       )

@@ -16,8 +16,8 @@ use Rattle.lists.specs.Lists.{_!_}
 use Rattle.lists.specs.Tests.{pick}
 use Rattle.lists.specs.Sets.{Set, Sub, Parts, totalOf, Ends, Completes, later}
 use Rattle.lists.proofs.Sets.{clash, totalOf-sub, totalOf-parts}
-use Rattle.theta.specs.Theta.{far, signed, Places, span, onward}
-use Rattle.theta.proofs.Nodes.{empty-plus, span-in, in-span, onward-in, in-onward}
+use Rattle.theta.specs.Theta.{far, signed, Places, atLeaves, onward}
+use Rattle.theta.proofs.Nodes.{empty-plus, leaves-in, in-leaves, onward-in, in-onward}
 
 -- a completion with a tail after it exceeds b; no job, no completion
 abbrev pub exceeds : Option ℕ → ℕ → ℕ → Bool
@@ -49,36 +49,36 @@ module _ (n : ℕ) (p : List ℕ) (σ : ℕ → ℕ) (O : Set) where
   tail-small small a = omega (arith, totalOf-sub n p (onward σ O a) O (λ k c u. onward-in σ O a k u .0))
 
   -- the jobs from place a on are the s places' and those after them
-  pub onward-parts : (a s : ℕ) → Parts n (onward σ O a) (span σ O a s) (onward σ O (a + s))
+  pub onward-parts : (a s : ℕ) → Parts n (onward σ O a) (atLeaves σ O a s) (onward σ O (a + s))
   onward-parts a s =
       record {
-        left = λ k c t. let q = span-in σ O a s k t in in-onward σ O a k (q .0) (q .1);
+        left = λ k c t. let q = leaves-in σ O a s k t in in-onward σ O a k (q .0) (q .1);
         right = λ k c t. let q = onward-in σ O (a + s) k t in in-onward σ O a k (q .0) (omega arith);
         each = λ k c t.
             let q = onward-in σ O a k t in
-            elim (decLt (σ k) (a + s)) [ yes d ↦ inl (in-span σ O a s k (q .0) (q .1) d) | no d ↦ inr (in-onward σ O (a + s) k (q .0) (omega arith)) ];
-        apart = λ k c t u. let q = span-in σ O a s k t in let r = onward-in σ O (a + s) k u in omega arith;
+            elim (decLt (σ k) (a + s)) [ yes d ↦ inl (in-leaves σ O a s k (q .0) (q .1) d) | no d ↦ inr (in-onward σ O (a + s) k (q .0) (omega arith)) ];
+        apart = λ k c t u. let q = leaves-in σ O a s k t in let r = onward-in σ O (a + s) k u in omega arith;
       }
 
   -- a job of the s places from a, with all jobs from its place on, completes no later than those places' completion with the tail
-  pub through : (m : ℕ) (e : List ℕ) → Places n m e σ → (b a s : ℕ) (x : Option ℕ) → Completes n e p (span σ O a s) x
+  pub through : (m : ℕ) (e : List ℕ) → Places n m e σ → (b a s : ℕ) (x : Option ℕ) → Completes n e p (atLeaves σ O a s) x
       → exceeds x (totalOf n p (onward σ O (a + s))) b ≡ false
       → (i : ℕ) → i < n → O i ≡ true → a ≤ σ i → σ i < a + s → e ! i + totalOf n p (onward σ O (σ i)) ≤ b
-  through m e places b a s none l f i c t h g = absurd (l i c (in-span σ O a s i t h g))
+  through m e places b a s none l f i c t h g = absurd (l i c (in-leaves σ O a s i t h g))
   through m e places b a s (some x) l f i c t h g =
       let r = a + s - σ i in
       let same : σ i + r ≡ a + s = omega arith in
-      let U = span σ O (σ i) r in
-      let sub : Sub n U (span σ O a s) = λ k d u. let q = span-in σ O (σ i) r k u in in-span σ O a s k (q .0) (omega arith) (omega arith) in
+      let U = atLeaves σ O (σ i) r in
+      let sub : Sub n U (atLeaves σ O a s) = λ k d u. let q = leaves-in σ O (σ i) r k u in in-leaves σ O a s k (q .0) (omega arith) (omega arith) in
       let ends-U : Ends n e p U (e ! i + totalOf n p U) =
       record {
         from = e ! i;
         least = record {
           at = i;
           below = c;
-          member = in-span σ O (σ i) r i t (omega arith) (omega arith);
+          member = in-leaves σ O (σ i) r i t (omega arith) (omega arith);
           is = refl;
-          least = λ k d u. places .rising i k c d (span-in σ O (σ i) r k u .1);
+          least = λ k d u. places .rising i k c d (leaves-in σ O (σ i) r k u .1);
         };
         is = refl;
       } in

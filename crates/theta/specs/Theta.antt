@@ -64,8 +64,8 @@ pub record HoldsSet (n m : ℕ) (e p : List ℕ) (σ : ℕ → ℕ) (O : Set) (s
   pub bare-end : (x : ℕ) → x < m → ((j : ℕ) → j < n → O j ≡ true → σ j ≡ x → ⊥) → endOf ends (m + x) ≡ empty
 
 -- the jobs of O whose places are the s from a: the leaves below a node
-abbrev pub span : (ℕ → ℕ) → Set → ℕ → ℕ → Set
-span σ O a s j = both (O j) (both (leb a (σ j)) (ltb (σ j) (a + s)))
+abbrev pub atLeaves : (ℕ → ℕ) → Set → ℕ → ℕ → Set
+atLeaves σ O a s j = both (O j) (both (leb a (σ j)) (ltb (σ j) (a + s)))
 
 -- the jobs of O whose places are a and those after it
 abbrev pub onward : (ℕ → ℕ) → Set → ℕ → Set

@@ -1,5 +1,4 @@
 -- A call has a good list exactly where no test refuses it; its lists then hold all its jobs.
-use Prim.Native.Nat.{ℕ}
 use native.Mathlib.Omega.{arith}
 use mathlib.Core.Path.{_≡_}
 use Rattle.narrowing.proofs.Moves.{Whole}

@@ -8,9 +8,9 @@ use mathlib.Core.List.{List}
 use mathlib.Core.Option.{Option, none, some}
 use mathlib.Core.Logic.{inl, inr}
 use Rattle.lists.specs.Lists.{_!_}
-use Rattle.lists.specs.Searches.{Greatest, Least}
+use Rattle.lists.specs.Extremes.{Greatest, Least}
 use Rattle.lists.proofs.Sets.{clash, totalOf-beyond}
-use Rattle.lists.proofs.Searches.{greatest-one, least-one}
+use Rattle.lists.proofs.Extremes.{greatest-one, least-one}
 use Rattle.narrowing.specs.Windows.{Win, Side, early, late}
 use Rattle.narrowing.specs.Search.{Found}
 use Rattle.timetable.specs.Time.{Jobs, load, Crowded, Applies, bound}

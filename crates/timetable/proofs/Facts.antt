@@ -10,7 +10,7 @@ use Rattle.lists.specs.Lists.{_!_}
 use Rattle.lists.specs.Tests.{both}
 use Rattle.lists.proofs.Tests.{both-true, true-both}
 use Rattle.narrowing.specs.Windows.{Win, Side, early, late}
-use Rattle.timetable.specs.Time.{Jobs, Runs, runs, Sure, sure, load, Crowded, Applies, bound}
+use Rattle.timetable.specs.Time.{Jobs, Runs, runsAt, Sure, sure, load, Crowded, Applies, bound}
 use Rattle.timetable.specs.Search.{crowded, Member, member}
 
 module _ (p : List ℕ) (W : Win) (k t : ℕ) where
@@ -25,14 +25,14 @@ module _ (p : List ℕ) (W : Win) (k t : ℕ) where
   yes-sure h = true-both (leb (W .l ! k) (t + p ! k)) (ltb t (W .e ! k + p ! k)) (omega (arith, le-leb)) (omega (arith, lt-ltb))
 
 module _ (p s : List ℕ) (k t : ℕ) where
-  pub runs-yes : runs p s k t ≡ true → Runs p s k t
-  unfolding runs
+  pub runs-yes : runsAt p s k t ≡ true → Runs p s k t
+  unfolding runsAt
   runs-yes h =
       let b = both-true (leb (s ! k) t) (ltb t (s ! k + p ! k)) h in
       omega (arith, leb-true, ltb-true)
 
-  pub yes-runs : Runs p s k t → runs p s k t ≡ true
-  unfolding runs
+  pub yes-runs : Runs p s k t → runsAt p s k t ≡ true
+  unfolding runsAt
   yes-runs h = true-both (leb (s ! k) t) (ltb t (s ! k + p ! k)) (omega (arith, le-leb)) (omega (arith, lt-ltb))
 
 module _ (J : Jobs) (W : Win) (j t : ℕ) where

@@ -8,10 +8,10 @@ use mathlib.Core.Option.{Option, none, some}
 use lib.Dec.{eqb}
 use Rattle.lists.specs.Lists.{_!_}
 use Rattle.lists.specs.Tests.{both, only}
-use Rattle.lists.specs.Searches.{Greatest, Least}
+use Rattle.lists.specs.Extremes.{Greatest, Least}
 use Rattle.lists.proofs.Tests.{both-true, true-both, only-le}
 use Rattle.lists.proofs.Sums.{total-le}
-use Rattle.lists.proofs.Searches.{greatest-is, least-is}
+use Rattle.lists.proofs.Extremes.{greatest-is, least-is}
 use Rattle.narrowing.specs.Windows.{Win, Side, early, late, Long, Inside, Tighter}
 use Rattle.narrowing.specs.Rules.{Lawful}
 use Rattle.narrowing.specs.Search.{Found, Searches}

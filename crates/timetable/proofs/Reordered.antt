@@ -11,11 +11,11 @@ use Rattle.joblist.specs.Limits.{jobs, supply}
 use Rattle.joblist.specs.Renumbered.{SameColumn}
 use Rattle.promises.specs.Reordered.{SameAsk}
 use Rattle.promises.proofs.Reordered as general
-use Rattle.timetable.specs.Table.{Call, jobsOf, asks, Good, refusalOf, After}
+use Rattle.timetable.specs.Table.{Call, jobsOf, asks, Good, After}
 use Rattle.timetable.specs.Promise.{Room, Narrows}
 use Rattle.timetable.specs.Reordered.{SameCall}
 use Rattle.timetable.proofs.Order.{SameJobs, alike, alike-back}
-use Rattle.timetable.proofs.Meaning.{grounds, by-rules}
+use Rattle.timetable.proofs.Meaning.{by-rules}
 
 module _ (π σ : ℕ → ℕ) (c d : Call) (t : Turn (jobs (c .win)) π σ) (s : SameCall π c d) where
   same-jobs : SameJobs π (jobsOf c) (jobsOf d)
@@ -40,17 +40,10 @@ module _ (π σ : ℕ → ℕ) (c d : Call) (t : Turn (jobs (c .win)) π σ) (s 
         back = alike-back π σ (jobsOf c) (jobsOf d) t same-jobs;
       }
 
-  pub same-refusal : refusalOf d ≡ refusalOf c
-  unfolding refusalOf
-  same-refusal = general.same-refusal π σ (asks c) (asks d) t same-ask
-
   module _ (a b : After) (f : Narrows c a) (g : Narrows d b) where
     -- the same refusal, 1 to 3
     pub refused-there : (k : ℕ) → k ≤ 3 → a .says ≡ said Word.refused (k ∷ []) → b .says ≡ said Word.refused (k ∷ [])
     refused-there = general.refused-there π σ (asks c) (asks d) t same-ask a b (by-rules c a f) (by-rules d b g)
-
-    pub good-there : Good c → Good d
-    good-there = general.good-there π σ (asks c) (asks d) t same-ask
 
     module _ (good : Good c) (room : Room c) (space : Room d) where
       -- a settled answer here is one there, with the same window for each job

@@ -8,13 +8,13 @@ use mathlib.Core.Option.{Option}
 use lib.Dec.{ltb, leb, eqb}
 use Rattle.lists.specs.Lists.{_!_}
 use Rattle.lists.specs.Tests.{both}
-use Rattle.lists.specs.Searches.{greatest, least}
+use Rattle.lists.specs.Extremes.{greatest, least}
 use Rattle.lists.specs.Sets.{Set}
 use Rattle.lists.specs.Spares.{leaned}
 use Rattle.narrowing.specs.Windows.{Win, Side, early, late, number}
 use Rattle.narrowing.specs.Search.{Search, Move}
 use Rattle.members.specs.Members.{setWords, setOf}
-use Rattle.journal.specs.Journal.{written}
+use Rattle.journal.specs.Journal.{inWords}
 use Rattle.timetable.specs.Time.{Jobs, Sure, sure, load, bound}
 
 -- the test of `Crowded`
@@ -57,7 +57,7 @@ leanMember J W j t = leaned (J .n) (J .r) (J .r ! j) (J .cap) (member J W j t)
 -- the record of a move: its job, side, time and those named
 unfoldable pub naming : Names → Jobs → Move → List ℕ
 unfolding setOf
-naming M J m = written (m .job) (number (m .side)) (m .choice) (setOf setWords (M J (m .before) (m .job) (m .choice)))
+naming M J m = inWords (m .job) (number (m .side)) (m .choice) (setOf setWords (M J (m .before) (m .job) (m .choice)))
 
 -- the writer's
 abbrev pub entry : Jobs → Move → List ℕ

@@ -3,7 +3,7 @@ use Prim.Native.Nat.{ℕ}
 use mathlib.Core.List.{List, [], _∷_}
 use Rattle.narrowing.specs.Windows.{Win, Long, LowestTooShort}
 use Rattle.narrowing.specs.Run.{Out}
-use Rattle.joblist.specs.Limits.{jobs, demands, fourLists, supply}
+use Rattle.joblist.specs.Limits.{jobs, demandColumn, fourLists, supply}
 use Rattle.joblist.specs.GoodList.{GoodList}
 use Rattle.journal.specs.Journal.{roomOf}
 use Rattle.promises.specs.Ask.{Ask}
@@ -35,7 +35,7 @@ asksNaming M c =
     let J = jobsOf c in
     record {
       win = c .win;
-      beside = demands (c .r) ∷ [];
+      beside = demandColumn (c .r) ∷ [];
       alone = supply (c .cap);
       log = c .log;
       room = roomOf (c .log);

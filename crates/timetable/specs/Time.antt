@@ -24,13 +24,13 @@ pub record Runs (p s : List ℕ) (k t : ℕ) : Type 0 where
   pub from : s ! k ≤ t
   pub to : t < s ! k + p ! k
 
-unfoldable pub runs : List ℕ → List ℕ → ℕ → ℕ → Bool
-runs p s k t = both (leb (s ! k) t) (ltb t (s ! k + p ! k))
+unfoldable pub runsAt : List ℕ → List ℕ → ℕ → ℕ → Bool
+runsAt p s k t = both (leb (s ! k) t) (ltb t (s ! k + p ! k))
 
 -- the demands of the jobs that run at t
 unfoldable pub drawn : Jobs → List ℕ → ℕ → ℕ
-unfolding total runs
-drawn J s t = total (λ k. only (runs (J .p) s k t) (J .r ! k)) (J .n)
+unfolding total runsAt
+drawn J s t = total (λ k. only (runsAt (J .p) s k t) (J .r ! k)) (J .n)
 
 -- at every time they add up to at most the capacity
 unfoldable pub Fits : Jobs → List ℕ → Type 0

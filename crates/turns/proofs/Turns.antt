@@ -10,21 +10,21 @@ use Rattle.journal.specs.Journal.{roomOf, rewritten}
 use Rattle.timetable.specs.Time.{bound}
 use Rattle.timetable.specs.Table.{Call, call, Workable}
 use Rattle.searches.specs.declared.Found.{Found}
-use Rattle.searches.specs.Found.{asFound}
+use Rattle.searches.specs.Found.{asFound, nextTime}
 use Rattle.crowding.specs.Asked.{asked}
 use Rattle.timetable.proofs.Moves.{best-applies, time-small}
 use Rattle.searches.proofs.Answers.{found-some}
 use Rattle.noting.specs.Record.{recordOf}
 use Rattle.turns.specs.declared.Place.{Place}
-use Rattle.turns.specs.Moves.{timeAt, Moves}
+use Rattle.turns.specs.Moves.{Moves}
 
 module _ (e l p r : List ℕ) (cap : ℕ) (log : List ℕ) (at : Place) (t : ℕ) (x : Found) where
   abbrev here : Call
   here = call (win e l) p r cap log
 
-  module _ (h : x ≡ asFound (timeAt here at)) (f : x ≡ Found.At t) where
-    found-time : timeAt here at ≡ some t
-    found-time = found-some (timeAt here at) t (sym h ∙ f)
+  module _ (h : x ≡ asFound (nextTime here (at .job) (sideOf (at .side)))) (f : x ≡ Found.At t) where
+    found-time : nextTime here (at .job) (sideOf (at .side)) ≡ some t
+    found-time = found-some (nextTime here (at .job) (sideOf (at .side))) t (sym h ∙ f)
 
     pub turn-time : Workable here → at .job < jobs (here .win) → t ≤ mostTime
     turn-time w b =

@@ -11,7 +11,7 @@ use Rattle.lists.specs.Lists.{_!_}
 use Rattle.narrowing.specs.Windows.{Long, closes, lowestTooShort}
 use Rattle.narrowing.proofs.TooShort.{TooShortSays, too-short-is, finds-too-short}
 use Rattle.journal.specs.Journal.{jobOf, records}
-use Rattle.promises.specs.Ask.{Ask, many, lasts, TooShort}
+use Rattle.promises.specs.Ask.{Ask, jobCount, lasts, TooShort}
 use Rattle.verdicts.specs.Replay.{Trial, Verdict, holds, clashes, rejected, closing, replay, verdictOn}
 use Rattle.verdicts.specs.Fate.{nth, reached, Takes, Held, Closed, Open, Closing, Shut, Fate}
 use Rattle.verdicts.specs.Promise.{Judges}
@@ -25,7 +25,7 @@ module _ (T : Trial) (A : Ask) (y : Judges T A) where
   -- the verdict on the first m records
   unfoldable verdict : ℕ → Verdict
   unfolding verdictOn records
-  verdict m = verdictOn T (many A) (lasts A) (A .win) (records (A .log) 0 m)
+  verdict m = verdictOn T (jobCount A) (lasts A) (A .win) (records (A .log) 0 m)
 
   open-more : (i : ℕ) → Open T A i → Takes T A i → Held T A i → Open T A (suc i)
   open-more i o t q = record { long = o .long; held = λ h b. elim (ℕ-discrete h i) [ yes e ↦ rw e (t, q) | no e ↦ o .held h (omega arith) ] }
@@ -75,13 +75,13 @@ module _ (T : Trial) (A : Ask) (y : Judges T A) where
   closing-from h m x = open-from h (suc m) (x .before) ∙ at-closed h m (x .takes) (x .closed)
 
   -- where no window is too short the verdict is the replay's, else that of a closed window
-  long-verdict : (m : ℕ) → Long (many A) (lasts A) (A .win) → verdict m ≡ from 0 m
+  long-verdict : (m : ℕ) → Long (jobCount A) (lasts A) (A .win) → verdict m ≡ from 0 m
   unfolding verdict from reached verdictOn
-  long-verdict m L = rw (finds-too-short (many A) (lasts A) (A .win) none L)
+  long-verdict m L = rw (finds-too-short (jobCount A) (lasts A) (A .win) none L)
 
   too-short-verdict : (m j : ℕ) → TooShort A j → verdict m ≡ closing 0 j (records (A .log) 0 m)
   unfolding verdict verdictOn
-  too-short-verdict m j s = rw (finds-too-short (many A) (lasts A) (A .win) (some j) s)
+  too-short-verdict m j s = rw (finds-too-short (jobCount A) (lasts A) (A .win) (some j) s)
 
   -- a window is closed after i records, and so many are left
   shut-verdict : (i j m : ℕ) → Shut T A i j → verdict (i + m) ≡ closing i j (records (A .log) i m)
@@ -145,9 +145,9 @@ module _ (T : Trial) (A : Ask) (y : Judges T A) where
           (omega arith, inr (o, y .codes (reached T A i) (nth A i) (suc k) .0 e, λ z. omega arith))
 
   verdict-fate : (count : ℕ) → Fate T A count (verdict count)
-  verdict-fate count = go (lowestTooShort (many A) (lasts A) (A .win)) (too-short-is (many A) (lasts A) (A .win))
+  verdict-fate count = go (lowestTooShort (jobCount A) (lasts A) (A .win)) (too-short-is (jobCount A) (lasts A) (A .win))
     where
-      go : (x : Option ℕ) → TooShortSays (many A) (lasts A) (A .win) x → Fate T A count (verdict count)
+      go : (x : Option ℕ) → TooShortSays (jobCount A) (lasts A) (A .win) x → Fate T A count (verdict count)
       go none L =
           let z : 0 + count ≡ count = omega arith in
           rw (long-verdict count L) (fate-at (0 + count) count z (from 0 count) (fate-from count 0 (record { long = L; held = λ h b. absurd (omega arith) })))
@@ -156,6 +156,6 @@ module _ (T : Trial) (A : Ask) (y : Judges T A) where
           rw (too-short-verdict count j x) (fate-at (0 + count) count z (closing 0 j (records (A .log) 0 count)) (shut-fate 0 j count x))
 
   -- the verdict on the first so many records
-  pub fate-exactly : (count : ℕ) (v : Verdict) → (verdictOn T (many A) (lasts A) (A .win) (records (A .log) 0 count) ≡ v) ↔ Fate T A count v
+  pub fate-exactly : (count : ℕ) (v : Verdict) → (verdictOn T (jobCount A) (lasts A) (A .win) (records (A .log) 0 count) ≡ v) ↔ Fate T A count v
   unfolding verdict
   fate-exactly count v = (λ e. subst (Fate T A count) e (verdict-fate count), λ f. fate-verdict count v f)

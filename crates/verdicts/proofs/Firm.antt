@@ -1,12 +1,10 @@
 -- The facts of `exactly` determine the checker's answer and windows by themselves, over any rules: what meets them is the definition's.
 use Prim.Native.Nat.{ℕ, suc}
-use native.Mathlib.Omega.{arith}
 use mathlib.Core.Path.{_≡_, refl, sym, ap, _∙_}
-use mathlib.Core.Logic.{_⊎_, inl, inr}
 use Rattle.answers.specs.Said.{Word, Said}
-use Rattle.answers.proofs.Same.{not-said}
+use Rattle.answers.proofs.Same.{word-discrete}
 use Rattle.journal.specs.Journal.{records}
-use Rattle.promises.specs.Ask.{Ask, many, lasts}
+use Rattle.promises.specs.Ask.{Ask, jobCount, lasts}
 use Rattle.verdicts.specs.Replay.{Trial, Verdict, holds, clashes, rejected, verdictOn, Checked, finds, judged, refuses, checked}
 use Rattle.verdicts.specs.Promise.{Judges, Exactly}
 use Rattle.verdicts.proofs.Rows.{Case, tested, six, judges, cased, exactly}
@@ -20,25 +18,14 @@ module _ (T : Trial) (A : Ask) (count : ℕ) where
     facts = exactly T A count y due refl
 
     left : (s : Said) → due .says ≡ s → a .says ≡ s → a .win ≡ due .win
-    left s d e = go (word-holds (s .word))
+    left s d e = go (word-discrete (s .word) Word.holds)
       where
-        word-holds : (w : Word) → (w ≡ Word.holds) ⊎ (w ≡ Word.holds → ⊥)
-        word-holds Word.holds = inl refl
-        word-holds Word.clash = inr (not-said Word.clash Word.holds (λ z. omega arith))
-        word-holds Word.rejected = inr (not-said Word.rejected Word.holds (λ z. omega arith))
-        word-holds Word.settled = inr (not-said Word.settled Word.holds (λ z. omega arith))
-        word-holds Word.refused = inr (not-said Word.refused Word.holds (λ z. omega arith))
-        word-holds Word.none = inr (not-said Word.none Word.holds (λ z. omega arith))
-        word-holds Word.overload = inr (not-said Word.overload Word.holds (λ z. omega arith))
-        word-holds Word.written = inr (not-said Word.written Word.holds (λ z. omega arith))
-        word-holds Word.read = inr (not-said Word.read Word.holds (λ z. omega arith))
-
         word-of : (b : Checked) → b .says ≡ s → b .says .word ≡ s .word
         word-of b q = ap (λ (z : Said). z .word) q
 
-        go : (s .word ≡ Word.holds) ⊎ (s .word ≡ Word.holds → ⊥) → a .win ≡ due .win
-        go (inl q) = x .reached (word-of a e ∙ q) ∙ sym (facts .reached (word-of due d ∙ q))
-        go (inr f) = x .submitted (λ z. f (sym (word-of a e) ∙ z)) ∙ sym (facts .submitted (λ z. f (sym (word-of due d) ∙ z)))
+        go : Dec (s .word ≡ Word.holds) → a .win ≡ due .win
+        go (yes q) = x .reached (word-of a e ∙ q) ∙ sym (facts .reached (word-of due d ∙ q))
+        go (no f) = x .submitted (λ z. f (sym (word-of a e) ∙ z)) ∙ sym (facts .submitted (λ z. f (sym (word-of due d) ∙ z)))
 
     pub facts-answer : a ≡ due
     facts-answer = go (cased T A count due refl)
@@ -57,4 +44,4 @@ module _ (T : Trial) (A : Ask) (count : ℕ) where
         go : Case T A count due → a ≡ due
         go (tested k d q) = refusal (suc k) q
         go (six g b q) = refusal 6 q
-        go (judges g b q) = by (verdictOn T (many A) (lasts A) (A .win) (records (A .log) 0 count)) (ap (λ (z : Checked). z .says) q)
+        go (judges g b q) = by (verdictOn T (jobCount A) (lasts A) (A .win) (records (A .log) 0 count)) (ap (λ (z : Checked). z .says) q)

@@ -15,7 +15,7 @@ use Rattle.narrowing.proofs.Schedules.{step-schedule, none-schedule}
 use Rattle.answers.specs.Said.{Word}
 use Rattle.answers.proofs.Same.{not-said}
 use Rattle.journal.specs.Journal.{roomOf, records}
-use Rattle.promises.specs.Ask.{Ask, many, lasts, refusalOf}
+use Rattle.promises.specs.Ask.{Ask, jobCount, lasts, refusalOf}
 use Rattle.promises.specs.Promise.{Scheduled, NoneIn}
 use Rattle.promises.proofs.TooShort.{too-short-none}
 use Rattle.verdicts.specs.Replay.{Trial, Verdict, holds, clashes, rejected, verdictOn, Checked, judged, refuses, orSix, rows, checked}
@@ -41,17 +41,17 @@ module _ (T : Trial) (A : Ask) (y : Judges T A) where
   fate-takes count (rejected a k) (d, inr (o, q, n)) i b = o .held i b .0
 
   -- the records one after the other are steps of the rules
-  reached-step : (i : ℕ) → ((h : ℕ) → h < i → Takes T A h) → Step (many A) (lasts A) (A .rules) (A .win) (reached T A i)
+  reached-step : (i : ℕ) → ((h : ℕ) → h < i → Takes T A h) → Step (jobCount A) (lasts A) (A .rules) (A .win) (reached T A i)
   unfolding reached
-  reached-step zero t = step-refl (many A) (lasts A) (A .rules) (A .win)
+  reached-step zero t = step-refl (jobCount A) (lasts A) (A .rules) (A .win)
   reached-step (suc i) t =
-      step-trans (many A) (lasts A) (A .rules) (A .win) (reached T A i) _ (reached-step i (λ h b. t h (omega arith)))
+      step-trans (jobCount A) (lasts A) (A .rules) (A .win) (reached T A i) _ (reached-step i (λ h b. t h (omega arith)))
       (y .step (reached T A i) _ (t i (omega arith)))
 
   fate-kept : (count : ℕ) (v : Verdict) → Fate T A count v → (s : List ℕ) → Scheduled A (A .win) s → Scheduled A (judged (A .win) count v .win) s
   fate-kept count (holds U) f s x =
       subst (λ (W : Win). Scheduled A W s) (sym (f .0))
-      (step-schedule (many A) (lasts A) (A .rules) (A .fits) (y .sound) (A .win) (reached T A count)
+      (step-schedule (jobCount A) (lasts A) (A .rules) (A .fits) (y .sound) (A .win) (reached T A count)
       (reached-step count (λ h b. f .1 .held h b .0)) s x)
   fate-kept count (clashes j) f s x = x
   fate-kept count (rejected i k) f s x = x
@@ -60,13 +60,13 @@ module _ (T : Trial) (A : Ask) (y : Judges T A) where
   shut-none : (count j : ℕ) → Shut T A count j → NoneIn A
   shut-none zero j x = too-short-none A j (x .listed) (x .shorter)
   shut-none (suc h) j (z, q) =
-      step-none (many A) (lasts A) (A .rules) (A .win) (reached T A (suc h)) (reached-step (suc h) (closing-takes h z))
-      (closed-none-left (many A) (lasts A) (A .rules) (reached T A (suc h)) _ (y .listed _ _ (z .takes)) (lt-ltb _ _ (z .closed)))
+      step-none (jobCount A) (lasts A) (A .rules) (A .win) (reached T A (suc h)) (reached-step (suc h) (closing-takes h z))
+      (closed-none-left (jobCount A) (lasts A) (A .rules) (reached T A (suc h)) _ (y .listed _ _ (z .takes)) (lt-ltb _ _ (z .closed)))
 
   fate-none : (count : ℕ) (v : Verdict) → Fate T A count v → judged (A .win) count v .says .word ≡ Word.clash → (s : List ℕ) → Scheduled A (A .win) s → ⊥
   fate-none count (holds U) f e s x = not-said Word.holds Word.clash (λ q. omega arith) e
   fate-none count (clashes j) z e s x =
-      none-schedule (many A) (lasts A) (A .rules) (A .fits) (y .sound) (A .win) (shut-none count j z) s x
+      none-schedule (jobCount A) (lasts A) (A .rules) (A .fits) (y .sound) (A .win) (shut-none count j z) s x
   fate-none count (rejected i k) f e s x = not-said Word.rejected Word.clash (λ q. omega arith) e
 
   -- what is promised beside the answer
@@ -90,7 +90,7 @@ module _ (T : Trial) (A : Ask) (y : Judges T A) where
   rows-sound : (count k : ℕ) → Promised (rows T A count k)
   unfolding rows
   rows-sound count zero =
-      let v = verdictOn T (many A) (lasts A) (A .win) (records (A .log) 0 count) in
+      let v = verdictOn T (jobCount A) (lasts A) (A .win) (records (A .log) 0 count) in
       six-sound (ltb (roomOf (A .log)) count) _ (fate-sound count v (fate-exactly T A y count v .0 refl))
   rows-sound count (suc k) = refused-sound (suc k)
 

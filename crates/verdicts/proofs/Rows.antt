@@ -14,7 +14,7 @@ use Rattle.answers.proofs.Same.{not-said, said-apart}
 use Rattle.joblist.proofs.Refusals.{refusal-exactly}
 use Rattle.journal.specs.Journal.{roomOf, records}
 use Rattle.journal.proofs.Records.{room-short}
-use Rattle.promises.specs.Ask.{Ask, many, lasts, columns, Good, refusalOf}
+use Rattle.promises.specs.Ask.{Ask, jobCount, lasts, columns, Good, refusalOf}
 use Rattle.promises.proofs.Calls.{good-call, call-good}
 use Rattle.verdicts.specs.Replay.{Trial, Verdict, holds, clashes, rejected, verdictOn, Checked, judged, refuses, orSix, rows, checked}
 use Rattle.verdicts.specs.Fate.{reached, Open, Shut, Fate}
@@ -23,7 +23,7 @@ use Rattle.verdicts.proofs.Fates.{fate-exactly}
 
 module _ (T : Trial) (A : Ask) (count : ℕ) where
   abbrev verdict : Verdict
-  verdict = verdictOn T (many A) (lasts A) (A .win) (records (A .log) 0 count)
+  verdict = verdictOn T (jobCount A) (lasts A) (A .win) (records (A .log) 0 count)
 
   -- the answer is a refusal's, 6, or the verdict's
   pub data Case (a : Checked) : Type 0 where
@@ -142,16 +142,16 @@ module _ (T : Trial) (A : Ask) (count : ℕ) where
         there : a .says ≡ said Word.refused (k ∷ []) → Case a → RefusedRow A count k
         there e (tested m d q) =
             let z : suc m ≡ k = ap (λ (z : Said). z .numbers ! 0) (says-of _ q _ e) in
-            inl (omega arith, refusal-exactly (many A) (columns A) (A .alone) k .0 (d ∙ z))
+            inl (omega arith, refusal-exactly (jobCount A) (columns A) (A .alone) k .0 (d ∙ z))
         there e (six g b q) = inr (sym (ap (λ (z : Said). z .numbers ! 0) (says-of _ q _ e)), g, room-short (A .log) count .0 b)
         there e (judges g b q) = absurd (word-not verdict (ap (λ (z : Said). z .word) (says-of _ q _ e)))
 
         back : RefusedRow A count k → Case a → a .says ≡ said Word.refused (k ∷ [])
         back (inl (b, t)) (tested m d q) =
-            let z : suc m ≡ k = sym d ∙ refusal-exactly (many A) (columns A) (A .alone) k .1 t in
+            let z : suc m ≡ k = sym d ∙ refusal-exactly (jobCount A) (columns A) (A .alone) k .1 t in
             ap (λ (z : Checked). z .says) q ∙ ap (λ (i : ℕ). said Word.refused (i ∷ [])) z
-        back (inl (b, t)) (six g d q) = absurd (omega (arith, sym (call-good A g) ∙ refusal-exactly (many A) (columns A) (A .alone) k .1 t))
-        back (inl (b, t)) (judges g d q) = absurd (omega (arith, sym (call-good A g) ∙ refusal-exactly (many A) (columns A) (A .alone) k .1 t))
+        back (inl (b, t)) (six g d q) = absurd (omega (arith, sym (call-good A g) ∙ refusal-exactly (jobCount A) (columns A) (A .alone) k .1 t))
+        back (inl (b, t)) (judges g d q) = absurd (omega (arith, sym (call-good A g) ∙ refusal-exactly (jobCount A) (columns A) (A .alone) k .1 t))
         back (inr (e, g, b)) (tested m d q) = absurd (omega (arith, sym d ∙ call-good A g))
         back (inr (e, g, b)) (six f d q) = ap (λ (z : Checked). z .says) q ∙ ap (λ (i : ℕ). said Word.refused (i ∷ [])) (sym e)
         back (inr (e, g, b)) (judges f d q) = absurd (omega (arith, room-short (A .log) count .1 b))

@@ -7,7 +7,7 @@ use mathlib.Core.Logic.{_⊎_}
 use Rattle.lists.specs.Lists.{_!_}
 use Rattle.narrowing.specs.Windows.{Win, Long}
 use Rattle.journal.specs.Journal.{jobOf, recordAt}
-use Rattle.promises.specs.Ask.{Ask, many, lasts, TooShort}
+use Rattle.promises.specs.Ask.{Ask, jobCount, lasts, TooShort}
 use Rattle.verdicts.specs.Replay.{Trial, Verdict, holds, clashes, rejected}
 
 -- record i of the call's log
@@ -33,7 +33,7 @@ Closed T A i = reached T A (suc i) .l ! jobOf (nth A i) < reached T A (suc i) .e
 
 -- no window is too short, and the first i records are good and close none
 pub record Open (T : Trial) (A : Ask) (i : ℕ) : Type 0 where
-  pub long : Long (many A) (lasts A) (A .win)
+  pub long : Long (jobCount A) (lasts A) (A .win)
   pub held : (h : ℕ) → h < i → Takes T A h × Held T A h
 
 -- record h is the first that closes a window

@@ -15,7 +15,7 @@ use Rattle.answers.specs.Said.{Word, Said, said}
 use Rattle.joblist.specs.Limits.{mostTime}
 use Rattle.joblist.specs.GoodList.{Given}
 use Rattle.journal.specs.Journal.{recordWords, jobOf, roomOf}
-use Rattle.promises.specs.Ask.{Ask, many, lasts, columns, Good}
+use Rattle.promises.specs.Ask.{Ask, jobCount, lasts, columns, Good}
 use Rattle.promises.specs.Table.{After}
 use Rattle.promises.specs.Promise.{Scheduled, Narrows}
 use Rattle.verdicts.specs.Replay.{Trial, rejected, Checked, finds, checked}
@@ -26,10 +26,10 @@ use Rattle.verdicts.specs.Fate.{nth, reached, Open, Shut, Fate}
 pub record Judges (T : Trial) (A : Ask) : Type 0 where
   pub codes : (W : Win) (x : List ℕ) (k : ℕ) → (T .code W x ≡ k) ↔ T .coded W x k
   pub goods : (W : Win) (x : List ℕ) → (T .code W x ≡ 0) ↔ T .good W x
-  pub listed : (W : Win) (x : List ℕ) → T .good W x → jobOf x < many A
-  pub step : (W : Win) (x : List ℕ) → T .good W x → Step (many A) (lasts A) (A .rules) W (T .changed W x)
+  pub listed : (W : Win) (x : List ℕ) → T .good W x → jobOf x < jobCount A
+  pub step : (W : Win) (x : List ℕ) → T .good W x → Step (jobCount A) (lasts A) (A .rules) W (T .changed W x)
   pub reasons : (W : Win) (x : List ℕ) → T .good W x → T .reasoned W x
-  pub sound : Sound (many A) (lasts A) (A .rules) (A .fits)
+  pub sound : Sound (jobCount A) (lasts A) (A .rules) (A .fits)
 
 -- the number of records that an answer takes: all where it holds or clashes, those before the bad one where it is rejected
 abbrev pub takenBy : Word → ℕ → ℕ
@@ -48,7 +48,7 @@ taken a = takenBy (a .word) (a .numbers ! 0)
 
 -- refusal k's row: one of the tests 1 to 3, or 6: the log is shorter than a record's words for each claimed record
 abbrev pub RefusedRow : Ask → ℕ → ℕ → Type 0
-RefusedRow A count k = ((1 ≤ k) × Given k (many A) (columns A) (A .alone)) ⊎ ((k ≡ 6) × Good A × (length (A .log) < recordWords * count))
+RefusedRow A count k = ((1 ≤ k) × Given k (jobCount A) (columns A) (A .alone)) ⊎ ((k ≡ 6) × Good A × (length (A .log) < recordWords * count))
 
 -- the list is good, and the log holds the claimed records
 abbrev pub Claimed : Ask → ℕ → Type 0
@@ -109,5 +109,5 @@ pub record WritesGood (T : Trial) (A : Ask) : Type 0 where
   pub words : (m : Move) → length (A .entry m) ≡ recordWords
   pub job : (m : Move) → jobOf (A .entry m) ≡ m .job
   pub to : (W : Win) (j : ℕ) (s : Side) (c : ℕ) → T .changed W (A .entry (move W j s c)) ≡ after (A .search) W j s c
-  pub good : Good A → (W : Win) → Long (many A) (lasts A) W → ((k : ℕ) → W .l ! k ≤ mostTime) → (j : ℕ) (s : Side) (i : ℕ) (v : Side) (c : ℕ)
+  pub good : Good A → (W : Win) → Long (jobCount A) (lasts A) W → ((k : ℕ) → W .l ! k ≤ mostTime) → (j : ℕ) (s : Side) (i : ℕ) (v : Side) (c : ℕ)
       → Choice (A .search) (A .rules) W j s (move W i v c) → T .good W (A .entry (move W i v c))

@@ -8,7 +8,7 @@ use lib.Dec.{ltb}
 use Rattle.narrowing.specs.Windows.{Win, closes, lowestTooShort}
 use Rattle.answers.specs.Said.{Word, Said, said}
 use Rattle.journal.specs.Journal.{jobOf, roomOf, records}
-use Rattle.promises.specs.Ask.{Ask, many, lasts, refusalOf}
+use Rattle.promises.specs.Ask.{Ask, jobCount, lasts, refusalOf}
 
 -- how a record is judged on the windows reached so far: the code of the first test that fails, 0 where none does; the windows after it; in facts, what a
 -- good record is and when a code is given; and what is promised of a record that is taken
@@ -82,7 +82,7 @@ orSix false six v = v
 unfoldable pub rows : Trial → Ask → ℕ → ℕ → Checked
 unfolding roomOf records verdictOn
 rows T A count zero =
-    let v = judged (A .win) count (verdictOn T (many A) (lasts A) (A .win) (records (A .log) 0 count)) in
+    let v = judged (A .win) count (verdictOn T (jobCount A) (lasts A) (A .win) (records (A .log) 0 count)) in
     orSix (ltb (roomOf (A .log)) count) (refuses (A .win) 6) v
 rows T A count (suc k) = refuses (A .win) (suc k)
 

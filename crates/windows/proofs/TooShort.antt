@@ -8,7 +8,7 @@ use mathlib.Core.List.{List}
 use mathlib.Core.Option.{Option, none, some}
 use lib.Dec.{ltb}
 use borrow.Author.Tests.{lt-ltb, le-ltb, ltb-true, ltb-false}
-use Rattle.lists.specs.Searches.{foundOr}
+use Rattle.lists.specs.Extremes.{foundOr}
 use Rattle.narrowing.specs.Windows.{Win, Long, LowestTooShort, lowestTooShort, closes}
 use Rattle.narrowing.proofs.TooShort.{TooShortSays, too-short-is, finds-too-short}
 

@@ -7,7 +7,7 @@ ghost use lib.Dec.{leb, ltb};
 ghost use lib.IntN.{pos, _+ℤ_, _-ℤ_};
 ghost use lib.ListN.{length, take, drop};
 ghost use Rattle.lists.specs.Tests.{both};
-ghost use Rattle.lists.specs.Searches.{foundOr};
+ghost use Rattle.lists.specs.Extremes.{foundOr};
 ghost use Rattle.narrowing.specs.Windows.{win, closes, lowestTooShort, moved, sideOf};
 ghost use Rattle.joblist.specs.Limits.{mostJobs, mostTime};
 ghost use Rattle.timetable.specs.Time.{bound};

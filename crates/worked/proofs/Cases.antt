@@ -4,12 +4,12 @@ use Rattle.lists.specs.Lists.{Every}
 use Rattle.members.specs.Members.{onesOf}
 use Rattle.timetable.specs.Search.{leanMember, naming}
 use Rattle.timetable.specs.Table.{narrowedBy}
-use Rattle.overloads.specs.Promise.{checked}
+use Rattle.overloads.specs.Promise.{overloadSaid}
 use Rattle.worked.specs.Rows.{Right}
 use Rattle.worked.specs.Cases.{onRecord}
 
 pub cases : Every Right onRecord
-unfolding narrowedBy naming leanMember checked onesOf
+unfolding narrowedBy naming leanMember overloadSaid onesOf
 cases = (
   refl,  -- 1
   (

@@ -21,7 +21,7 @@ use Rattle.joblist.proofs.Refusals.{refusal-exactly}
 use Rattle.promises.specs.Ask as ask
 use Rattle.promises.specs.Promise as promise
 use Rattle.promises.proofs.Calls.{call-good}
-use Rattle.timetable.specs.Time.{runs, drawn, Fits, Early, Applies, bound}
+use Rattle.timetable.specs.Time.{runsAt, drawn, Fits, Early, Applies, bound}
 use Rattle.timetable.specs.Search.{crowded, best, search}
 use Rattle.timetable.specs.Table.{Call, jobsOf, asks, Good, refusalOf, After}
 use Rattle.timetable.specs.Reasons.{Reasons}
@@ -81,9 +81,9 @@ settling-all a h e w = (rw w at (h good2 .settled e)) .one .stable 0 early 5 (om
 
 fits5 : Fits (jobsOf case5) (0 ∷ 2 ∷ [])
 unfolding Fits drawn Rattle.lists.specs.Sums.total
-fits5 t = go (runs (2 ∷ 2 ∷ []) (0 ∷ 2 ∷ []) 0 t) refl (runs (2 ∷ 2 ∷ []) (0 ∷ 2 ∷ []) 1 t) refl
+fits5 t = go (runsAt (2 ∷ 2 ∷ []) (0 ∷ 2 ∷ []) 0 t) refl (runsAt (2 ∷ 2 ∷ []) (0 ∷ 2 ∷ []) 1 t) refl
   where
-    go : (x : Bool) → runs (2 ∷ 2 ∷ []) (0 ∷ 2 ∷ []) 0 t ≡ x → (y : Bool) → runs (2 ∷ 2 ∷ []) (0 ∷ 2 ∷ []) 1 t ≡ y → 0 + only x 1 + only y 1 ≤ 1
+    go : (x : Bool) → runsAt (2 ∷ 2 ∷ []) (0 ∷ 2 ∷ []) 0 t ≡ x → (y : Bool) → runsAt (2 ∷ 2 ∷ []) (0 ∷ 2 ∷ []) 1 t ≡ y → 0 + only x 1 + only y 1 ≤ 1
     go true a true b = absurd (let q = runs-yes (2 ∷ 2 ∷ []) (0 ∷ 2 ∷ []) 0 t a in let r = runs-yes (2 ∷ 2 ∷ []) (0 ∷ 2 ∷ []) 1 t b in omega (arith, q .to, r .from))
     go true a false b = omega arith
     go false a true b = omega arith

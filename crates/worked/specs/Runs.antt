@@ -6,7 +6,7 @@ use mathlib.Core.List.{List, [], _∷_}
 use lib.ListN.{replicate}
 use Rattle.answers.specs.Said.{Word, Said, said}
 use Rattle.timetable.specs.Table.{Call, call, After, leaves, narrowed}
-use Rattle.overloads.specs.Promise.{checked}
+use Rattle.overloads.specs.Promise.{overloadSaid}
 use Rattle.worked.specs.Rows.{RunRow, Job, windowsOf, durationsOf, demandsOf, Span, spans, upon}
 
 abbrev pub lent : ℕ → List Job → ℕ → Call
@@ -39,7 +39,7 @@ ragged number cap js words k =
 
 -- the overload check leaves the windows alone, and looks at no demand
 abbrev pub heads : ℕ → List Job → Said → RunRow After
-heads number js a = record { number = number; done = leaves (checked (windowsOf js) (durationsOf js)) (windowsOf js) []; due = leaves a (windowsOf js) [] }
+heads number js a = record { number = number; done = leaves (overloadSaid (windowsOf js) (durationsOf js)) (windowsOf js) []; due = leaves a (windowsOf js) [] }
 
 abbrev pub overloaded : ℕ → List Job → ℕ → ℕ → RunRow After
 overloaded number js a b = heads number js (said Word.overload (a ∷ b ∷ []))

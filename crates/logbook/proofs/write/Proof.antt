@@ -6,7 +6,7 @@ use mathlib.Core.Path.{_≡_, sym, ap, _∙_}
 use lib.ListN.{length}
 use borrow.Author.Needs.{needs}
 use Rattle.members.specs.Members.{setWords}
-use Rattle.journal.specs.Journal.{recordWords, roomOf, written}
+use Rattle.journal.specs.Journal.{recordWords, roomOf, inWords}
 use Rattle.journal.proofs.Records.{room-words, rewritten-out, rewritten-parts, written-length}
 use Rattle.logbook.proofs.write.Statement.{statement}
 use Rattle.logbook.proofs.write.Tie as tie
@@ -78,7 +78,7 @@ returns-2 c =
     let words = laid .before .before .before .count in
     c .before .before .lay2 .ensures
     ∙ rw (laid .lay .ensures)
-    (rewritten-parts (a .log .now) (a .k) (written (a .job) (a .side) (a .time) (a .t6)) (room-left passed)
+    (rewritten-parts (a .log .now) (a .k) (inWords (a .job) (a .side) (a .time) (a .t6)) (room-left passed)
     (written-length (a .job) (a .side) (a .time) (a .t6) (set-sized laid)) (a .job ∷ a .side ∷ a .time ∷ words .result ∷ []) (a .t6)
     (ap (λ (m : ℕ). a .job ∷ a .side ∷ a .time ∷ m ∷ a .t6) (words .ensures)))
 

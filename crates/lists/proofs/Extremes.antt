@@ -6,7 +6,7 @@ use native.Mathlib.Decide.{ℕ-discrete, decLt}
 use mathlib.Core.Path.{_≡_, refl, ap}
 use mathlib.Core.Bool.{Bool, true, false}
 use mathlib.Core.Option.{Option, none, some}
-use Rattle.lists.specs.Searches.{orElse, greatest, least, Greatest, Least, LastWith, FirstWith}
+use Rattle.lists.specs.Extremes.{orElse, greatest, least, Greatest, Least, LastWith, FirstWith}
 
 module _ (P : ℕ → Type 0) (f : ℕ → Bool) (sound : (t : ℕ) → f t ≡ true → P t) (full : (t : ℕ) → P t → f t ≡ true) where
   failed : (t u : ℕ) → t ≡ u → f u ≡ false → P t → ⊥
