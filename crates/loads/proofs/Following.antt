@@ -19,7 +19,7 @@ use Rattle.crowding.specs.Asked.{asked}
 use Rattle.timetable.proofs.Moves.{moved-size}
 use Rattle.timetable.proofs.Good.{durations-sized, ends-sized, demand-most}
 use Rattle.profile.specs.declared.kept.Outline.{Outline}
-use Rattle.profile.specs.Numbers.{IsLesser, IsGreater}
+use Rattle.minmax.specs.MinMax.{IsLesser, IsGreater}
 use Rattle.profile.specs.Raises.{raised, mostLevel}
 use Rattle.profile.specs.Keeps.{Growable, Grows}
 use Rattle.profile.proofs.Keeping.{keeps-same, keeps-low}

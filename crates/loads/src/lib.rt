@@ -61,9 +61,9 @@ pub fn follow(
     let e = est[job];
     let l = lct[job];
     if side == 0 {
-        let lo = profile::greater(l - p, old + p);
+        let lo = minmax::greater(l - p, old + p);
         return profile::grow(ts, ld, kept, lo, e + p, r);
     }
-    let hi = profile::lesser(old - p, e + p);
+    let hi = minmax::lesser(old - p, e + p);
     profile::grow(ts, ld, kept, l - p, hi, r)
 }

@@ -11,7 +11,7 @@ use Rattle.lists.proofs.Tests.{counts-empty}
 use Rattle.profile.specs.Steps.{behindAll}
 use Rattle.profile.specs.Raises.{raised, Low}
 use Rattle.profile.specs.declared.kept.Outline.{Outline}
-use Rattle.profile.specs.Keeps.{Keeps, Starts, Grows, LastOver, FirstOver}
+use Rattle.profile.specs.Keeps.{Keeps, Starts, Grows}
 use Rattle.profile.proofs.Raised.{Raises, raised-before, raised-behind, level-low}
 
 -- functions that agree everywhere are kept alike
@@ -91,24 +91,3 @@ module _ (ts ld : List ℕ) (h : 1 < length ts) (s : length ld ≡ length ts) wh
           peak = λ t. omega arith;
         };
       }
-
--- ---- searches
-
-module _ (ts ld : List ℕ) (k : Outline) (limit a b : ℕ) where
-  -- nothing is over the limit
-  pub last-low : a ≤ b → k .peak ≤ limit → LastOver ts ld k limit a b a
-  last-low h p f K =
-      record { from = omega arith; to = h; has = λ t e d. absurd (omega arith); none-behind = λ t u v o. omega (arith, K .peak t) }
-
-  pub first-low : a ≤ b → k .peak ≤ limit → FirstOver ts ld k limit a b b
-  first-low h p f K =
-      record { from = h; to = omega arith; has = λ d. absurd (omega arith); none-before = λ t u v o. omega (arith, K .peak t) }
-
-  -- there is nothing to look at
-  pub last-empty : a ≤ b → b ≤ a → LastOver ts ld k limit a b a
-  last-empty h e f K =
-      record { from = omega arith; to = h; has = λ t q d. absurd (omega arith); none-behind = λ t u v o. absurd (omega arith) }
-
-  pub first-empty : a ≤ b → b ≤ a → FirstOver ts ld k limit a b b
-  first-empty h e f K =
-      record { from = h; to = omega arith; has = λ d. absurd (omega arith); none-before = λ t u v o. absurd (omega arith) }

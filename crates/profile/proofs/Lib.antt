@@ -1,5 +1,4 @@
 pub mod Pieces
-pub mod Walks
 pub mod Stores
 pub mod Cuts
 pub mod Raised

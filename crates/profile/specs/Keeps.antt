@@ -1,9 +1,8 @@
--- A function that two lists keep, with a level that it nowhere passes; and what is made of it and found in it.
+-- A function that two lists keep, with a level that it nowhere passes; and what is made of it.
 use Prim.Native.Nat.{ℕ, _+_, _≤_, _<_}
 use mathlib.Core.Path.{_≡_}
 use mathlib.Core.List.{List}
 use lib.ListN.{length}
-use Rattle.lists.specs.Extremes.{LastWith, FirstWith}
 use Rattle.profile.specs.Steps.{behindAll, Points, Levels}
 use Rattle.profile.specs.Raises.{raised, mostLevel, Low}
 use Rattle.profile.specs.declared.kept.Outline.{Outline}
@@ -33,11 +32,3 @@ pub record Grows (ts ld : List ℕ) (k : Outline) (lo hi r : ℕ) (us ls : List 
   pub size : length us ≡ length ts
   pub few : n .m ≤ k .m + 2
   pub keeps : (f : ℕ → ℕ) → Keeps f ts ld k → Keeps (raised f lo hi r) us ls n
-
--- of each function that is kept, x tells the last time from a up to b at which it lies over the limit, if any
-abbrev pub LastOver : List ℕ → List ℕ → Outline → ℕ → ℕ → ℕ → ℕ → Type 0
-LastOver ts ld k limit a b x = (f : ℕ → ℕ) → Keeps f ts ld k → LastWith (λ t. limit < f t) a b x
-
--- x tells the first
-abbrev pub FirstOver : List ℕ → List ℕ → Outline → ℕ → ℕ → ℕ → ℕ → Type 0
-FirstOver ts ld k limit a b x = (f : ℕ → ℕ) → Keeps f ts ld k → FirstWith (λ t. limit < f t) a b x

@@ -1,7 +1,7 @@
--- The tests as the code makes them: the largest number of a list against the limit, the tests of three lists, and those of four by way of the three.
+-- The tests as the code makes them: the greatest number of a list against the limit, the tests of three lists, and those of four by way of the three.
 use Prim.Native.Nat.{ℕ, suc, _+_, _≤_, _<_}
 use native.Mathlib.Omega.{arith}
-use native.Mathlib.Decide.{decLe}
+use native.Mathlib.Decide.{decLe, decLt}
 use native.Mathlib.Numerals.{add-one}
 use mathlib.Core.Path.{_≡_, refl, sym, ap, _∙_}
 use mathlib.Core.Bool.{Bool, true, false, not}
@@ -11,12 +11,13 @@ use lib.Seq.{drop-cons}
 use lib.Dec.{eqb, leb, ltb}
 use borrow.Author.Tests.{le-leb, lt-leb, lt-ltb, le-ltb, eq-eqb, ne-eqb}
 use Rattle.lists.specs.Lists.{_!_}
-use Rattle.lists.specs.Tests.{both, pick, unless}
+use Rattle.lists.specs.Tests.{both, unless}
+use Rattle.minmax.specs.MinMax.{IsGreater}
 use Rattle.narrowing.specs.Windows.{Win}
 use Rattle.joblist.specs.Limits.{Column, demandColumn, jobs, mostJobs, mostTime, mostDemand, threeLists, twoLists, fourLists, supply}
 use Rattle.joblist.specs.GoodList.{sized, atMost, within, refusal}
 
--- ---- the largest number so far is `top`, the numbers from i on are left
+-- ---- the greatest number so far is `top`, the numbers from i on are left
 
 both-assoc : (a b c : Bool) → both a (both b c) ≡ both (both a b) c
 both-assoc true b c = refl
@@ -38,18 +39,22 @@ both-never false = refl
 pub most-none : (m : ℕ) (xs : List ℕ) → both (leb 0 m) (atMost m xs) ≡ atMost m xs
 most-none m xs = rw (le-leb 0 m (omega arith))
 
--- the larger of two is within the limit exactly when both are
-larger-within : (t x m : ℕ) → both (leb t m) (leb x m) ≡ leb (pick (leb t x) x t) m
-larger-within t x m =
-    elim (decLe t x) [
-      | yes h ↦ rw (le-leb t x h) (elim (decLe x m) [ yes k ↦ rw (le-leb x m k, le-leb t m (omega arith)) | no k ↦ rw (lt-leb x m (omega arith)) (both-never (leb t m)) ])
-      | no h ↦ rw (lt-leb t x (omega arith)) (elim (decLe t m) [ yes k ↦ rw (le-leb t m k, le-leb x m (omega arith)) | no k ↦ rw (lt-leb t m (omega arith)) ])
+-- the greater of two is within the limit exactly when both are
+greater-within : (t x r m : ℕ) → IsGreater t x r → both (leb t m) (leb x m) ≡ leb r m
+greater-within t x r m g =
+    elim (decLe r m) [
+      | yes h ↦ rw (le-leb r m h, le-leb t m (omega (arith, g .0)), le-leb x m (omega (arith, g .1)))
+      | no h ↦ elim (decLt t x) [
+        | yes k ↦ rw (lt-leb r m (omega arith), lt-leb x m (omega (arith, g .2 k))) (both-never (leb t m))
+        | no k ↦ rw (lt-leb r m (omega arith), lt-leb t m (omega (arith, g .3 (omega arith))))
+      ]
     ]
 
-pub most-more : (m : ℕ) (xs : List ℕ) (t i : ℕ) → i < length xs
-    → both (leb t m) (atMost m (drop i xs)) ≡ both (leb (pick (leb t (xs ! i)) (xs ! i) t) m) (atMost m (drop (i + 1) xs))
+pub most-more : (m : ℕ) (xs : List ℕ) (t i r : ℕ) → IsGreater t (xs ! i) r → i < length xs
+    → both (leb t m) (atMost m (drop i xs)) ≡ both (leb r m) (atMost m (drop (i + 1) xs))
 unfolding atMost
-most-more m xs t i h = rw (add-one, drop-cons xs i 0, ← larger-within t (xs ! i) m) (both-assoc (leb t m) (leb (xs ! i) m) (atMost m (drop (suc i) xs)))
+most-more m xs t i r g h =
+    rw (add-one, drop-cons xs i 0, ← greater-within t (xs ! i) r m g) (both-assoc (leb t m) (leb (xs ! i) m) (atMost m (drop (suc i) xs)))
 
 pub most-end : (m : ℕ) (xs : List ℕ) (t i : ℕ) → length xs ≤ i → both (leb t m) (atMost m (drop i xs)) ≡ leb t m
 unfolding atMost
@@ -96,7 +101,7 @@ pub of-three : (W : Win) (p : List ℕ) → refusal (jobs W) (threeLists W p) []
     ≡ unless (both (eqb (length (W .l)) (jobs W)) (eqb (length p) (jobs W))) 1 (unless (leb (jobs W) mostJobs) 2 (unless (within (threeLists W p)) 3 0))
 of-three W p = rw (three-is W p, sized-three W p)
 
--- tests 1 to 3 of the three lists, s, f and w, and with them those of the demandColumn, d, and of the capacity, c: the first number where there is one
+-- tests 1 to 3 of the three lists, s, f and w, and with them those of the demands, d, and of the capacity, c: the first number where there is one
 first-of-three : (s f w d c : Bool) → (unless s 1 (unless f 2 (unless w 3 0)) ≡ 0 → ⊥)
     → unless s 1 (unless f 2 (unless (both (both d w) c) 3 0)) ≡ unless s 1 (unless f 2 (unless w 3 0))
 first-of-three false f w d c h = refl
@@ -128,7 +133,7 @@ module _ (W : Win) (p r : List ℕ) (cap : ℕ) where
   unfolding refusal
   of-four = rw (sized-last (jobs W) (threeLists W p) (demandColumn r), within-last (threeLists W p) (demandColumn r), within-supply cap)
 
-  -- the demandColumn are not as many as the jobs
+  -- the demands are not as many as the jobs
   pub four-unequal : (length r ≡ jobs W → ⊥) → four ≡ 1
   four-unequal h = rw (of-four, ne-eqb (length r) (jobs W) h)
 
@@ -138,7 +143,7 @@ module _ (W : Win) (p r : List ℕ) (cap : ℕ) where
       rw (of-four, eq-eqb (length r) (jobs W) h, three-is W p)
       (first-of-three (sized (jobs W) (threeLists W p)) (leb (jobs W) mostJobs) (within (threeLists W p)) (atMost mostDemand r) (leb cap mostDemand) (λ z. k (three-is W p ∙ z)))
 
-  -- and else the demandColumn and the capacity are tested
+  -- and else the demands and the capacity are tested
   pub four-rest : length r ≡ jobs W → three ≡ 0 → four ≡ unless (both (atMost mostDemand r) (leb cap mostDemand)) 3 0
   four-rest h k =
       rw (of-four, eq-eqb (length r) (jobs W) h)

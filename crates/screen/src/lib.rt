@@ -1,10 +1,11 @@
 // Tests 1 to 3 of job lists in code, in the order of their numbers (document 01, 'Answer table'), and the limits (document 01, 'Job lists').
+use minmax::greater;
 ghost use mathlib.Core.Path.{_≡_};
 ghost use mathlib.Core.Bool.{not};
 ghost use mathlib.Core.List.{[]};
 ghost use lib.Dec.{leb};
 ghost use lib.ListN.{length};
-ghost use Rattle.lists.specs.Tests.{pick, both};
+ghost use Rattle.lists.specs.Tests.{both};
 ghost use Rattle.narrowing.specs.Windows.{win};
 ghost use Rattle.joblist.specs.Limits.{mostDemand, fourLists, threeLists, twoLists, supply};
 ghost use Rattle.joblist.specs.GoodList.{atMost, within, refusal};
@@ -21,23 +22,14 @@ pub const MOST_DEMAND: u32 = 10_000;
 // The most resources that a project may name.
 pub const MOST_RESOURCES: u32 = 8;
 
-fn larger(a: u32, b: u32) -> u32
-    ensures { λ r. ⌜ r ≡ pick (leb a b) b a ⌝ }
-{
-    if a <= b {
-        return b;
-    }
-    a
-}
-
-// Whether some number of the list is above `most`: its largest one is.
+// Whether some number of the list is above `most`: its greatest one is.
 fn above(list: &[u32], most: u32) -> bool
     ensures { λ r. ⌜ r ≡ not (atMost most (now (list .entry))) ⌝ }
 {
     let mut top: u32 = 0;
     let mut i = 0;
     while i < list.len() {
-        top = larger(top, list[i]);
+        top = greater(top, list[i]);
         i += 1;
     }
     most < top

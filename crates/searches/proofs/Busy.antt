@@ -7,9 +7,9 @@ use mathlib.Core.Bool.{true, false}
 use mathlib.Core.List.{List}
 use Rattle.lists.specs.Tests.{between}
 use Rattle.lists.proofs.Tests.{between-yes, between-before, between-behind}
-use Rattle.profile.specs.Numbers.{IsLesser, IsGreater}
+use Rattle.minmax.specs.MinMax.{IsLesser, IsGreater}
 use Rattle.profile.specs.declared.kept.Outline.{Outline}
-use Rattle.profile.specs.Keeps.{LastOver, FirstOver}
+use Rattle.peaks.specs.Peaks.{LastOver, FirstOver}
 use Rattle.searches.specs.Busy.{Busy, DemandIn, LastBusy, FirstBusy}
 
 module _ (g : ℕ → ℕ) (cap r s f : ℕ) where

@@ -27,12 +27,12 @@ fn early(ts: &[u32], ld: &[u32], kept: Outline, cap: u32, r: u32, e: u32, s: u32
         return f;
     }
     let rest = cap - r;
-    let mid = profile::lesser(s, f);
-    let x = profile::last_over(ts, ld, kept, mid, f, cap);
+    let mid = minmax::lesser(s, f);
+    let x = peaks::last_over(ts, ld, kept, mid, f, cap);
     if mid < x {
         return x;
     }
-    profile::last_over(ts, ld, kept, e, mid, rest)
+    peaks::last_over(ts, ld, kept, e, mid, rest)
 }
 
 // Side 1: the first time from s up to l that is crowded for a job of demand r, and l where there is none. Its sure part is from s up to f.
@@ -44,12 +44,12 @@ fn late(ts: &[u32], ld: &[u32], kept: Outline, cap: u32, r: u32, s: u32, f: u32,
         return s;
     }
     let rest = cap - r;
-    let mid = profile::greater(s, f);
-    let x = profile::first_over(ts, ld, kept, s, mid, cap);
+    let mid = minmax::greater(s, f);
+    let x = peaks::first_over(ts, ld, kept, s, mid, cap);
     if x < mid {
         return x;
     }
-    profile::first_over(ts, ld, kept, mid, l, rest)
+    peaks::first_over(ts, ld, kept, mid, l, rest)
 }
 
 // The time at which a rule moves the job's side next: on side 0 the greatest crowded time of e .. e + p - 1, on side 1 the least of l - p .. l - 1.

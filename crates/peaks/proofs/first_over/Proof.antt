@@ -1,12 +1,11 @@
--- `profile::over::first_over` meets its contract. The loop's invariant: piece i lies in the stretch, and every function kept is clear of the limit
+-- `peaks::first_over` meets its contract. The loop's invariant: piece i lies in the stretch, and every function kept is clear of the limit
 -- before it (`Up`). What falls is the number of pieces left.
 use Prim.Native.Nat.{_-_}
 use native.Mathlib.Omega.{arith}
 use borrow.Author.Needs.{needs}
-use Rattle.profile.proofs.Keeping.{first-low, first-empty}
-use Rattle.profile.proofs.Walks.{Up, up-start, up-step, up-none, up-found}
-use Rattle.profile.proofs.over.first_over.Statement.{statement}
-use Rattle.profile.proofs.over.first_over.Tie as tie
+use Rattle.peaks.proofs.Walks.{in-lists, Up, up-start, up-step, up-none, up-found, first-low, first-empty}
+use Rattle.peaks.proofs.first_over.Statement.{statement}
+use Rattle.peaks.proofs.first_over.Tie as tie
 
 abbrev Inv-loop : tie.InvT-loop
 Inv-loop ts ld a b limit m i₀ i = Up ts ld m limit a b i
@@ -30,16 +29,16 @@ mul-if3 : tie.Need-mul-if3 Inv-loop μ-loop
 mul-if3 c = search needs
 
 shared-slice-read-if3 : tie.Need-shared-slice-read-if3 Inv-loop μ-loop
-shared-slice-read-if3 c = let A = c .before .loop .inv .at in omega (arith, A .listed, A .points .grid .inside, A .points .beside)
+shared-slice-read-if3 c = omega (arith, in-lists _ _ _ _ _ _ _ (c .before .loop .inv .at))
 
 add-i : tie.Need-add-i Inv-loop μ-loop
-add-i c = let A = c .before .before .loop .inv .at in omega (arith, A .listed, A .points .grid .inside)
+add-i c = omega (arith, in-lists _ _ _ _ _ _ _ (c .before .before .loop .inv .at))
 
 mul-if4 : tie.Need-mul-if4 Inv-loop μ-loop
-mul-if4 c = let A = c .before .before .loop .inv .at in omega (arith, A .listed, A .points .grid .inside)
+mul-if4 c = omega (arith, in-lists _ _ _ _ _ _ _ (c .before .before .loop .inv .at))
 
 shared-slice-read-if4 : tie.Need-shared-slice-read-if4 Inv-loop μ-loop
-shared-slice-read-if4 c = let A = c .before .before .before .loop .inv .at in omega (arith, A .listed, A .points .grid .inside)
+shared-slice-read-if4 c = omega (arith, in-lists _ _ _ _ _ _ _ (c .before .before .before .loop .inv .at))
 
 returns-3 : tie.Need-returns-3 Inv-loop μ-loop
 returns-3 c = λ f K. up-none _ _ _ _ _ _ _ (c .before .before .before .before .loop .inv) (c .before .before .if3 .taken) (c .if4 .taken) f (K .levels)
@@ -54,7 +53,7 @@ mul-greater : tie.Need-mul-greater Inv-loop μ-loop
 mul-greater c = search needs
 
 shared-slice-read-greater : tie.Need-shared-slice-read-greater Inv-loop μ-loop
-shared-slice-read-greater c = let A = c .before .before .before .loop .inv .at in omega (arith, A .listed, A .points .grid .inside)
+shared-slice-read-greater c = omega (arith, in-lists _ _ _ _ _ _ _ (c .before .before .before .loop .inv .at))
 
 greater-requires : tie.Need-greater-requires Inv-loop μ-loop
 greater-requires c κs = search needs

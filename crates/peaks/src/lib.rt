@@ -1,12 +1,12 @@
 // The last and the first time of a stretch at which a kept function lies over a limit. They are looked for only where the peak does, and only at the points:
 // from one to the next the function is the same.
-use crate::kept::Outline;
-use crate::points::find;
-use crate::points::greater;
-use crate::points::lesser;
+use minmax::greater;
+use minmax::lesser;
+use profile::Outline;
+use profile::find;
 ghost use Prim.Native.Nat.{_<_, _≤_};
 ghost use Rattle.profile.specs.Steps.{behindAll, Points};
-ghost use Rattle.profile.specs.Keeps.{LastOver, FirstOver};
+ghost use Rattle.peaks.specs.Peaks.{LastOver, FirstOver};
 
 // One more than the last t with a <= t < b over the limit, and a where there is none. Walks the pieces down from the one of b - 1, to that of
 // a at most.

@@ -1,11 +1,10 @@
--- `profile::over::last_over` meets its contract. The loop's invariant: piece i lies in the stretch, and every function kept is clear of the limit behind
+-- `peaks::last_over` meets its contract. The loop's invariant: piece i lies in the stretch, and every function kept is clear of the limit behind
 -- it (`Down`). What falls is i.
 use native.Mathlib.Omega.{arith}
 use borrow.Author.Needs.{needs}
-use Rattle.profile.proofs.Keeping.{last-low, last-empty}
-use Rattle.profile.proofs.Walks.{Down, down-start, down-inner, down-step, down-none, down-found}
-use Rattle.profile.proofs.over.last_over.Statement.{statement}
-use Rattle.profile.proofs.over.last_over.Tie as tie
+use Rattle.peaks.proofs.Walks.{in-lists, Down, down-start, down-inner, down-step, down-none, down-found, last-low, last-empty}
+use Rattle.peaks.proofs.last_over.Statement.{statement}
+use Rattle.peaks.proofs.last_over.Tie as tie
 
 abbrev Inv-loop : tie.InvT-loop
 Inv-loop ts ld a b limit m i₀ i = Down ts ld m limit a b i
@@ -32,13 +31,13 @@ mul-if3 : tie.Need-mul-if3 Inv-loop μ-loop
 mul-if3 c = search needs
 
 shared-slice-read-if3 : tie.Need-shared-slice-read-if3 Inv-loop μ-loop
-shared-slice-read-if3 c = let A = c .before .loop .inv .at in omega (arith, A .listed, A .points .grid .inside, A .points .beside)
+shared-slice-read-if3 c = omega (arith, in-lists _ _ _ _ _ _ _ (c .before .loop .inv .at))
 
 mul-if4 : tie.Need-mul-if4 Inv-loop μ-loop
 mul-if4 c = search needs
 
 shared-slice-read-if4 : tie.Need-shared-slice-read-if4 Inv-loop μ-loop
-shared-slice-read-if4 c = let A = c .before .before .before .loop .inv .at in omega (arith, A .listed, A .points .grid .inside)
+shared-slice-read-if4 c = omega (arith, in-lists _ _ _ _ _ _ _ (c .before .before .before .loop .inv .at))
 
 returns-3 : tie.Need-returns-3 Inv-loop μ-loop
 returns-3 c = λ f K. down-none _ _ _ _ _ _ _ (c .before .before .before .before .loop .inv) (c .before .before .if3 .taken) (c .if4 .taken) f (K .levels)
@@ -53,13 +52,13 @@ loop-again : tie.Need-loop-again Inv-loop μ-loop
 loop-again c = down-step _ _ _ _ _ _ _ (c .before .before .before .before .loop .inv) (c .before .before .if3 .taken) (c .if4 .left)
 
 add-lesser : tie.Need-add-lesser Inv-loop μ-loop
-add-lesser c = let A = c .before .before .loop .inv .at in omega (arith, A .listed, A .points .grid .inside)
+add-lesser c = omega (arith, in-lists _ _ _ _ _ _ _ (c .before .before .loop .inv .at))
 
 mul-lesser : tie.Need-mul-lesser Inv-loop μ-loop
-mul-lesser c = let A = c .before .before .loop .inv .at in omega (arith, A .listed, A .points .grid .inside)
+mul-lesser c = omega (arith, in-lists _ _ _ _ _ _ _ (c .before .before .loop .inv .at))
 
 shared-slice-read-lesser : tie.Need-shared-slice-read-lesser Inv-loop μ-loop
-shared-slice-read-lesser c = let A = c .before .before .before .loop .inv .at in omega (arith, A .listed, A .points .grid .inside)
+shared-slice-read-lesser c = omega (arith, in-lists _ _ _ _ _ _ _ (c .before .before .before .loop .inv .at))
 
 lesser-requires : tie.Need-lesser-requires Inv-loop μ-loop
 lesser-requires c κs = search needs
