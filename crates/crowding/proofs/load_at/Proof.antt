@@ -22,6 +22,14 @@ abbrev μ-loop : tie.MeasureT-loop
 loop-holds : tie.Need-loop-holds Inv-loop μ-loop
 loop-holds c = (omega arith, sym (load-zero _ _ _ _))
 
+-- ---- a turn, and the start of the call
+
+abbrev Turn : Type 0
+Turn = tie.In-loop Inv-loop μ-loop
+
+abbrev started : Turn → tie.Start Inv-loop μ-loop
+started d = d .before .before .before .before .before .before
+
 mul-share : tie.Need-mul-share Inv-loop μ-loop
 mul-share c = search needs
 
@@ -32,25 +40,25 @@ mul-share-2 : tie.Need-mul-share-2 Inv-loop μ-loop
 mul-share-2 c = search needs
 
 shared-slice-read-share-2 : tie.Need-shared-slice-read-share-2 Inv-loop μ-loop
-shared-slice-read-share-2 c = omega (arith, ends-sized (c .before .before .before .before .before .before .before .before .pre .0))
+shared-slice-read-share-2 c = omega (arith, ends-sized (started (c .before .before) .pre .0))
 
 mul-share-3 : tie.Need-mul-share-3 Inv-loop μ-loop
 mul-share-3 c = search needs
 
 shared-slice-read-share-3 : tie.Need-shared-slice-read-share-3 Inv-loop μ-loop
-shared-slice-read-share-3 c = omega (arith, durations-sized (c .before .before .before .before .before .before .before .before .before .pre .0))
+shared-slice-read-share-3 c = omega (arith, durations-sized (started (c .before .before .before) .pre .0))
 
 mul-share-4 : tie.Need-mul-share-4 Inv-loop μ-loop
 mul-share-4 c = search needs
 
 shared-slice-read-share-4 : tie.Need-shared-slice-read-share-4 Inv-loop μ-loop
-shared-slice-read-share-4 c = omega (arith, demands-sized (c .before .before .before .before .before .before .before .before .before .before .pre .0))
+shared-slice-read-share-4 c = omega (arith, demands-sized (started (c .before .before .before .before) .pre .0))
 
 share-requires : tie.Need-share-requires Inv-loop μ-loop
 share-requires c κs =
-    let l = c .before .before .before .before .before in
-    let s = l .before .before .before .before .before in
-    (start-most (s .pre .0) (l .loop .k), duration-most (s .pre .0) (l .loop .k), s .pre .1)
+    let d = c .before .before .before .before in
+    let s = started d .pre in
+    (start-most (s .0) (d .before .loop .k), duration-most (s .0) (d .before .loop .k), s .1)
 
 -- used by `add-sum` too: what fits is the load with one job more
 loop-again : tie.Need-loop-again Inv-loop μ-loop
@@ -60,9 +68,9 @@ loop-again c =
 
 add-sum : tie.Need-add-sum Inv-loop μ-loop
 add-sum c =
-    let l = c .before .before .before .before .before .before in
-    let s = l .before .before .before .before .before in
-    omega (arith, loop-again c .1, load-fits (s .pre .0) (s .args .job) (s .args .t) (l .loop .k + 1) (omega arith))
+    let d = c .before .before .before .before .before in
+    let s = started d in
+    omega (arith, loop-again c .1, load-fits (s .pre .0) (s .args .job) (s .args .t) (d .before .loop .k + 1) (omega arith))
 
 add-k : tie.Need-add-k Inv-loop μ-loop
 add-k c = search needs
