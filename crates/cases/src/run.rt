@@ -30,15 +30,15 @@ fn begun(sink: &mut [u8], case: u64) -> usize
     requires { ⌜ 0 < length (now sink) ⌝ }
     ensures { λ r. ⌜ r < length (now (sink .entry)) ⌝ }
 {
-    let at = lines::digits(sink, 0, case);
-    lines::byte(sink, at, b' ')
+    let at = printing::digits(sink, 0, case);
+    printing::byte(sink, at, b' ')
 }
 
 fn ended(sink: &mut [u8], at: usize)
     requires { ⌜ at < length (now sink) ⌝ }
 {
-    let end = lines::end(sink, at);
-    lines::flush(sink, end);
+    let end = printing::end(sink, at);
+    printing::flush(sink, end);
 }
 
 fn counted(answer: Answer) -> usize {
@@ -57,7 +57,7 @@ fn windows(sink: &mut [u8], at: usize, est: &[u32], lct: &[u32]) -> usize
     let mut next = at;
     let mut i = 0;
     while i < est.len() && i < lct.len() {
-        next = lines::numbers(sink, next, &[est[i], lct[i]]);
+        next = printing::numbers(sink, next, &[est[i], lct[i]]);
         i += 1;
     }
     next
@@ -70,7 +70,7 @@ fn records(sink: &mut [u8], at: usize, log: &[u32], count: usize) -> usize
     let mut next = at;
     let mut k = 0;
     while k < count {
-        next = lines::numbers(sink, next, desk::show_record(log, k));
+        next = printing::numbers(sink, next, desk::show_record(log, k));
         k += 1;
     }
     next
@@ -90,7 +90,7 @@ fn narrow_said(
 {
     let answer = desk::narrow(est, lct, dur, dem, cap, log);
     let first = begun(sink, case);
-    let said = lines::said::narrowing(sink, first, answer);
+    let said = printing::said::narrowing(sink, first, answer);
     let shown = windows(sink, said, est, lct);
     let end = records(sink, shown, log, counted(answer));
     ended(sink, end);
@@ -123,7 +123,7 @@ fn overload_said(sink: &mut [u8], case: u64, est: &[u32], lct: &[u32], dur: &[u3
 {
     let answer = desk::overload(est, lct, dur);
     let first = begun(sink, case);
-    let end = lines::said::overloading(sink, first, answer);
+    let end = printing::said::overloading(sink, first, answer);
     ended(sink, end);
 }
 

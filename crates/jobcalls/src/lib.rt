@@ -70,7 +70,7 @@ fn windows(sink: &mut [u8], at: usize, words: &[u32]) -> usize
     ensures { λ r. ⌜ r < length (now (sink .entry)) ⌝ }
 {
     let end = packed::start(words, 2);
-    lines::numbers(sink, at, &words[..end])
+    printing::numbers(sink, at, &words[..end])
 }
 
 // narrow CAP est lct dur dem log
@@ -87,12 +87,12 @@ pub fn narrow_or_check(
 {
     match on_words(words, task, cap, count) {
         Told::Narrowed(answer) => {
-            let told = lines::said::narrowing(sink, 0, answer);
+            let told = printing::said::narrowing(sink, 0, answer);
             let behind = windows(sink, told, words);
-            lines::list(sink, behind, packed::list(words, 4))
+            printing::list(sink, behind, packed::list(words, 4))
         }
         Told::Checked(answer) => {
-            let told = lines::said::checking(sink, 0, answer);
+            let told = printing::said::checking(sink, 0, answer);
             windows(sink, told, words)
         }
     }
@@ -104,8 +104,8 @@ pub fn record(sink: &mut [u8], words: &[u32], k: usize) -> usize
     ensures { λ r. ⌜ r < length (now (sink .entry)) ⌝ }
 {
     let log = packed::list(words, 0);
-    let told = lines::text(sink, 0, b"record");
-    lines::list(sink, told, desk::show_record(log, k))
+    let told = printing::text(sink, 0, b"record");
+    printing::list(sink, told, desk::show_record(log, k))
 }
 
 // overload est lct dur
@@ -117,5 +117,5 @@ pub fn overload(sink: &mut [u8], words: &[u32]) -> usize
     let lct = packed::list(words, 1);
     let dur = packed::list(words, 2);
     let answer = desk::overload(est, lct, dur);
-    lines::said::overloading(sink, 0, answer)
+    printing::said::overloading(sink, 0, answer)
 }

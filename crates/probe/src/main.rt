@@ -30,7 +30,7 @@ fn unreadable(sink: &mut [u8]) -> usize
     requires { ⌜ 0 < length (now sink) ⌝ }
     ensures { λ r. ⌜ r < length (now (sink .entry)) ⌝ }
 {
-    lines::text(sink, 0, b"unreadable")
+    printing::text(sink, 0, b"unreadable")
 }
 
 // Makes the call, and puts its answer into the sink, from its first byte on.
@@ -75,8 +75,8 @@ fn line(source: &mut [u8], sink: &mut [u8], c: Cursor, words: &mut [u32], text: 
     let call = request.call;
     let taken = request.line;
     let at = answer(sink, call, taken, words, text);
-    let end = lines::end(sink, at);
-    lines::flush(sink, end);
+    let end = printing::end(sink, at);
+    printing::flush(sink, end);
     next_line(source, taken.cursor)
 }
 

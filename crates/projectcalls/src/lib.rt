@@ -105,9 +105,9 @@ pub fn read(
         horizon,
     };
     let answer = on_words(words, task, text);
-    let told = lines::said::reading(sink, 0, answer);
+    let told = printing::said::reading(sink, 0, answer);
     let end = packed::start(words, 6);
-    lines::numbers(sink, told, &words[..end])
+    printing::numbers(sink, told, &words[..end])
 }
 
 // write CAP dur dem jobs successors buffer
@@ -120,6 +120,6 @@ pub fn write(sink: &mut [u8], words: &[u32], cap: u32, buffer: &mut [u8]) -> usi
     let jobs = packed::list(words, 2);
     let successors = packed::list(words, 3);
     let answer = desk::write_patterson(cap, dur, dem, jobs, successors, buffer);
-    let told = lines::said::writing(sink, 0, answer);
-    lines::bytes(sink, told, buffer)
+    let told = printing::said::writing(sink, 0, answer);
+    printing::bytes(sink, told, buffer)
 }

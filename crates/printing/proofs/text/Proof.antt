@@ -1,11 +1,11 @@
--- `lines::text` is safe and ends. The loop's invariant: the place lies within the sink, which stays as long as it was.
+-- `printing::text` is safe and ends. The loop's invariant: the place lies within the sink, which stays as long as it was.
 -- The measure is what is left of the bytes. Assumes nothing.
 use mathlib.Core.Path.{_≡_}
 use Prim.Native.Nat.{_≤_, _<_, _-_}
 use borrow.Author.Needs.{needs}
 use lib.ListN.{length}
-use Rattle.lines.proofs.text.Statement.{statement}
-use Rattle.lines.proofs.text.Tie as tie
+use Rattle.printing.proofs.text.Statement.{statement}
+use Rattle.printing.proofs.text.Tie as tie
 
 abbrev Inv-loop : tie.InvT-loop
 Inv-loop sink₀ at bytes next₀ i₀ sink next i = (i ≤ length bytes) × (length sink ≡ length sink₀) × (next < length sink)

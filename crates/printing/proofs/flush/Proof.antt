@@ -2,10 +2,10 @@ use mathlib.Core.Path.{sym}
 use native.Mathlib.Omega.{arith}
 use lib.Seq.{length-take-le}
 use borrow.Author.Needs.{needs}
-use Rattle.lines.proofs.flush.Statement.{statement}
-use Rattle.lines.proofs.flush.Tie as tie
-use Rattle.lines.proofs.flush.Reads as reads
-use Rattle.lines.proofs.flush.Lts as lts
+use Rattle.printing.proofs.flush.Statement.{statement}
+use Rattle.printing.proofs.flush.Tie as tie
+use Rattle.printing.proofs.flush.Reads as reads
+use Rattle.printing.proofs.flush.Lts as lts
 
 slice-aggregate-write-all : tie.Need-slice-aggregate-write-all
 slice-aggregate-write-all c = sym (length-take-le _ _ (omega arith))
