@@ -1,19 +1,19 @@
 // Writes the runs on the record (document 01, 'Runs on the record'), cases 1 to 13, a line for each run in the text's
 // order: the case number, the answer word and its numbers, and for narrowing each job's earliest start and latest
 // end, then the words of the counted records.
-mod run;
-
 use logbook::RECORD;
-use run::narrow_line;
-use run::overload_line;
+use runs::narrow_line;
+use runs::overload_line;
 ghost use Prim.Native.Nat.{_<_};
 ghost use lib.ListN.{length};
 
-// The room of a log, in records, where the text names none.
-const ROOM: usize = 8;
+// The words of a record, and of a log where the text names no room: eight records.
+const ONE: u32 = RECORD as u32;
+
+const USUAL: u32 = 8 * ONE;
 
 fn narrow_usual(case: u64, cap: u32, jobs: &[u32]) {
-    narrow_line(case, cap, jobs, &mut [0; ROOM * RECORD]);
+    narrow_line(case, cap, jobs, USUAL);
 }
 
 fn cases_1_to_5() {
@@ -25,8 +25,8 @@ fn cases_1_to_5() {
 }
 
 fn cases_6_to_9() {
-    narrow_line(6, 1, &[0, 3, 1, 2], &mut [0; 3 * RECORD]);
-    narrow_line(6, 1, &[0, 3, 1, 2], &mut [0; 2 * RECORD]);
+    narrow_line(6, 1, &[0, 3, 1, 2], 3 * ONE);
+    narrow_line(6, 1, &[0, 3, 1, 2], 2 * ONE);
     narrow_usual(7, 1, &[0, 3, 2, 1, 0, 3, 2, 1]);
     narrow_usual(7, 1, &[0, 4, 2, 1, 0, 4, 2, 1]);
     narrow_usual(8, 1, &[1, 1, 0, 5]);

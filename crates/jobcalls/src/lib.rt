@@ -1,19 +1,13 @@
-// The calls over a job list: narrowing, the check of a log, the record that is shown, and the overload check, made over the lists of a line,
-// which stand packed in lent words. Each call changes its lists there, and puts its answer and the lists that it may change into the sink,
-// from its first byte on.
-use answers::Answer;
-use answers::CheckAnswer;
+// The calls over a job list: narrowing, the check of a log, and the overload check, made over the lists of a line, which stand packed in lent words.
+// Each call changes its lists there; the result is what it says.
+use printing::said::Saying;
+use printing::said::checking;
+use printing::said::narrowing;
+use printing::said::overloading;
 use requests::JOBS;
 use requests::Task;
 ghost use mathlib.Core.Path.{_≡_};
-ghost use Prim.Native.Nat.{_<_};
 ghost use lib.ListN.{length};
-
-// What a call over a job list and its log answers.
-enum Told {
-    Narrowed(Answer),
-    Checked(CheckAnswer),
-}
 
 // Room for a list of jobs. The `ensures` gives only the length, which lending the array as a slice needs.
 fn room() -> [u32; JOBS]
@@ -31,15 +25,16 @@ fn made(
     log: &mut [u32],
     task: Task,
     count: usize,
-) -> Told {
+) -> Saying {
     match task {
-        Task::Narrow => Told::Narrowed(desk::narrow(est, lct, dur, dem, cap, log)),
-        Task::Check => Told::Checked(desk::check_log(est, lct, dur, dem, cap, log, count)),
+        Task::Narrow => narrowing(desk::narrow(est, lct, dur, dem, cap, log)),
+        Task::Check => checking(desk::check_log(est, lct, dur, dem, cap, log, count)),
     }
 }
 
-// The call made over the packed lists est lct dur dem log, which are changed in their places.
-fn on_words(words: &mut [u32], task: Task, cap: u32, count: usize) -> Told {
+// narrow CAP est lct dur dem log
+// check CAP COUNT est lct dur dem log
+pub fn narrow_or_check(words: &mut [u32], task: Task, cap: u32, count: usize) -> Saying {
     let mut est = room();
     let mut lct = room();
     let mut dur = room();
@@ -49,7 +44,7 @@ fn on_words(words: &mut [u32], task: Task, cap: u32, count: usize) -> Told {
     let l = n.b;
     let p = n.c;
     let d = n.d;
-    let answer = made(
+    let says = made(
         &mut est[..e],
         &mut lct[..l],
         &dur[..p],
@@ -61,61 +56,13 @@ fn on_words(words: &mut [u32], task: Task, cap: u32, count: usize) -> Told {
     );
     packed::put(words, 0, &est);
     packed::put(words, 1, &lct);
-    answer
-}
-
-// The windows, est and lct, as they stand in the words.
-fn windows(sink: &mut [u8], at: usize, words: &[u32]) -> usize
-    requires { ⌜ at < length (now sink) ⌝ }
-    ensures { λ r. ⌜ r < length (now (sink .entry)) ⌝ }
-{
-    let end = packed::start(words, 2);
-    printing::numbers(sink, at, &words[..end])
-}
-
-// narrow CAP est lct dur dem log
-// check CAP COUNT est lct dur dem log
-pub fn narrow_or_check(
-    sink: &mut [u8],
-    words: &mut [u32],
-    task: Task,
-    cap: u32,
-    count: usize,
-) -> usize
-    requires { ⌜ 0 < length (now sink) ⌝ }
-    ensures { λ r. ⌜ r < length (now (sink .entry)) ⌝ }
-{
-    match on_words(words, task, cap, count) {
-        Told::Narrowed(answer) => {
-            let told = printing::said::narrowing(sink, 0, answer);
-            let behind = windows(sink, told, words);
-            printing::list(sink, behind, packed::list(words, 4))
-        }
-        Told::Checked(answer) => {
-            let told = printing::said::checking(sink, 0, answer);
-            windows(sink, told, words)
-        }
-    }
-}
-
-// record K log
-pub fn record(sink: &mut [u8], words: &[u32], k: usize) -> usize
-    requires { ⌜ 0 < length (now sink) ⌝ }
-    ensures { λ r. ⌜ r < length (now (sink .entry)) ⌝ }
-{
-    let log = packed::list(words, 0);
-    let told = printing::text(sink, 0, b"record");
-    printing::list(sink, told, desk::show_record(log, k))
+    says
 }
 
 // overload est lct dur
-pub fn overload(sink: &mut [u8], words: &[u32]) -> usize
-    requires { ⌜ 0 < length (now sink) ⌝ }
-    ensures { λ r. ⌜ r < length (now (sink .entry)) ⌝ }
-{
+pub fn overload(words: &[u32]) -> Saying {
     let est = packed::list(words, 0);
     let lct = packed::list(words, 1);
     let dur = packed::list(words, 2);
-    let answer = desk::overload(est, lct, dur);
-    printing::said::overloading(sink, 0, answer)
+    overloading(desk::overload(est, lct, dur))
 }

@@ -6,18 +6,13 @@
 pub mod said;
 
 use libc::STDOUT_FILENO;
+ghost use mathlib.Core.Path.{_≡_};
 ghost use Prim.Native.Nat.{_<_};
-ghost use lib.ListN.{length};
-
-// Writes what waits to standard output.
-pub fn flush(sink: &[u8], at: usize)
-    requires { ⌜ at < length (now sink) ⌝ }
-{
-    io::write_all(STDOUT_FILENO, &sink[..at]);
-}
+ghost use lib.ListN.{length, set};
 
 pub fn byte(sink: &mut [u8], at: usize, b: u8) -> usize
     requires { ⌜ at < length (now sink) ⌝ }
+    ensures { λ _. ⌜ now (sink .exit) ≡ set (now (sink .entry)) at b ⌝ }
     ensures { λ r. ⌜ r < length (now (sink .entry)) ⌝ }
 {
     sink[at] = b;
@@ -97,11 +92,19 @@ pub fn bytes(sink: &mut [u8], at: usize, xs: &[u8]) -> usize
     next
 }
 
-pub fn end(sink: &mut [u8], at: usize) -> usize
+// Ends a line, and writes out what waits.
+pub fn finish(sink: &mut [u8], at: usize)
     requires { ⌜ at < length (now sink) ⌝ }
-    ensures { λ r. ⌜ r < length (now (sink .entry)) ⌝ }
+    ensures { λ _. ⌜ now (sink .exit) ≡ set (now (sink .entry)) at 10 ⌝ }
 {
-    byte(sink, at, b'\n')
+    let end = byte(sink, at, b'\n');
+    flush(sink, end);
+}
+
+fn flush(sink: &[u8], at: usize)
+    requires { ⌜ at < length (now sink) ⌝ }
+{
+    io::write_all(STDOUT_FILENO, &sink[..at]);
 }
 
 fn wide(x: u32) -> u64 {

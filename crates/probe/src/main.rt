@@ -13,58 +13,15 @@
 // `unreadable` where the line has any other form.
 //
 // The lists of a line stand packed in one lent list of words, as the line has them, and a call changes them there: so what is
-// written behind an answer are stretches of these words.
+// written behind an answer are stretches of these words (the crates `requests` and `replies`).
 use intake::Cursor;
-use intake::is_whole;
 use intake::next_line;
-use requests::Call;
-use requests::Line;
+use replies::reply;
 use requests::TEXT;
 use requests::WORDS;
 ghost use mathlib.Core.Path.{_≡_};
 ghost use Prim.Native.Nat.{_<_};
 ghost use lib.ListN.{length};
-ghost use Rattle.io.specs.Counts.{Counts};
-
-fn unreadable(sink: &mut [u8]) -> usize
-    requires { ⌜ 0 < length (now sink) ⌝ }
-    ensures { λ r. ⌜ r < length (now (sink .entry)) ⌝ }
-{
-    printing::text(sink, 0, b"unreadable")
-}
-
-// Makes the call, and puts its answer into the sink, from its first byte on.
-fn answer(sink: &mut [u8], call: Call, line: Line, words: &mut [u32], text: &mut [u8]) -> usize
-    requires { ⌜ 0 < length (now sink) ⌝ }
-    requires { ⌜ Counts (line .bytes) (now text) ⌝ }
-    ensures { λ r. ⌜ r < length (now (sink .entry)) ⌝ }
-{
-    if !is_whole(line.cursor) {
-        return unreadable(sink);
-    }
-    let n = line.bytes;
-    match call {
-        Call::Jobs(task) => jobcalls::narrow_or_check(
-            sink,
-            words,
-            task,
-            line.first,
-            line.long as usize,
-        ),
-        Call::Record => jobcalls::record(sink, words, line.long as usize),
-        Call::Overload => jobcalls::overload(sink, words),
-        Call::Read(layout) => projectcalls::read(
-            sink,
-            words,
-            layout,
-            line.first,
-            line.second,
-            &text[..n],
-        ),
-        Call::Write => projectcalls::write(sink, words, line.first, &mut text[..n]),
-        Call::Unknown => unreadable(sink),
-    }
-}
 
 // Answers the line that the cursor is at the start of, and goes to the start of the next. The answer is written out before
 // anything more is read, so that it is seen at once.
@@ -74,9 +31,9 @@ fn line(source: &mut [u8], sink: &mut [u8], c: Cursor, words: &mut [u32], text: 
     let request = requests::take(source, c, words, text);
     let call = request.call;
     let taken = request.line;
-    let at = answer(sink, call, taken, words, text);
-    let end = printing::end(sink, at);
-    printing::flush(sink, end);
+    let n = taken.bytes;
+    let at = reply(sink, call, taken, words, &mut text[..n]);
+    printing::finish(sink, at);
     next_line(source, taken.cursor)
 }
 

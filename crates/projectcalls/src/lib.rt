@@ -1,12 +1,14 @@
 // The calls over a project list: read in the Patterson layout (document 02, Item 1) or the PSPLIB layout (Item 13), and written in the
-// Patterson layout (Item 13). They are made over the lists of a line, which stand packed in lent words. Each call changes its lists there, and puts
-// its answer and the lists that it may change into the sink, from its first byte on.
+// Patterson layout (Item 13). They are made over the lists of a line, which stand packed in lent words. Each call changes its lists there; the
+// result is what it says.
 use answers::ReadAnswer;
+use printing::said::Saying;
+use printing::said::reading;
+use printing::said::writing;
 use requests::JOBS;
 use requests::Layout;
 use requests::PAIRS;
 ghost use mathlib.Core.Path.{_≡_};
-ghost use Prim.Native.Nat.{_<_};
 ghost use lib.ListN.{length};
 
 // Room for a list of jobs. The `ensures` gives only the length, which lending the array as a slice needs.
@@ -24,10 +26,10 @@ fn long_room() -> [u32; PAIRS]
 }
 
 // What a reader is asked: the layout and the two numbers.
-struct Task {
-    layout: Layout,
-    resource: u32,
-    horizon: u32,
+pub struct Task {
+    pub layout: Layout,
+    pub resource: u32,
+    pub horizon: u32,
 }
 
 // The only place where the layouts part.
@@ -58,8 +60,9 @@ fn put_four(words: &mut [u32], est: &[u32], lct: &[u32], dur: &[u32], dem: &[u32
     packed::put(words, 3, dem);
 }
 
-// The call made over the packed lists est lct dur dem jobs successors, which are changed in their places.
-fn on_words(words: &mut [u32], task: Task, text: &[u8]) -> ReadAnswer {
+// patterson RESOURCE HORIZON est lct dur dem jobs successors text
+// psplib RESOURCE HORIZON est lct dur dem jobs successors text
+pub fn read(words: &mut [u32], task: Task, text: &[u8]) -> Saying {
     let mut est = room();
     let mut lct = room();
     let mut dur = room();
@@ -83,43 +86,14 @@ fn on_words(words: &mut [u32], task: Task, text: &[u8]) -> ReadAnswer {
     );
     put_four(words, &est, &lct, &dur, &dem);
     packed::put(words, 4, &jobs);
-    answer
-}
-
-// patterson RESOURCE HORIZON est lct dur dem jobs successors text
-// psplib RESOURCE HORIZON est lct dur dem jobs successors text
-pub fn read(
-    sink: &mut [u8],
-    words: &mut [u32],
-    layout: Layout,
-    resource: u32,
-    horizon: u32,
-    text: &[u8],
-) -> usize
-    requires { ⌜ 0 < length (now sink) ⌝ }
-    ensures { λ r. ⌜ r < length (now (sink .entry)) ⌝ }
-{
-    let task = Task {
-        layout,
-        resource,
-        horizon,
-    };
-    let answer = on_words(words, task, text);
-    let told = printing::said::reading(sink, 0, answer);
-    let end = packed::start(words, 6);
-    printing::numbers(sink, told, &words[..end])
+    reading(answer)
 }
 
 // write CAP dur dem jobs successors buffer
-pub fn write(sink: &mut [u8], words: &[u32], cap: u32, buffer: &mut [u8]) -> usize
-    requires { ⌜ 0 < length (now sink) ⌝ }
-    ensures { λ r. ⌜ r < length (now (sink .entry)) ⌝ }
-{
+pub fn write(words: &[u32], cap: u32, buffer: &mut [u8]) -> Saying {
     let dur = packed::list(words, 0);
     let dem = packed::list(words, 1);
     let jobs = packed::list(words, 2);
     let successors = packed::list(words, 3);
-    let answer = desk::write_patterson(cap, dur, dem, jobs, successors, buffer);
-    let told = printing::said::writing(sink, 0, answer);
-    printing::bytes(sink, told, buffer)
+    writing(desk::write_patterson(cap, dur, dem, jobs, successors, buffer))
 }

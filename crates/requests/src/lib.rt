@@ -1,9 +1,9 @@
 // A call as a line of input asks it (independent/README.md has the forms): its name, its numbers, its lists and its bytes.
-mod form; // form.rt: a line of a given form
 mod names; // names.rt: the calls' names, and the form of each one's line
 
-pub use form::Line;
+use forms::Line;
 use intake::Cursor;
+use intake::is_whole;
 use intake::word;
 pub use names::Call;
 pub use names::JOBS;
@@ -17,7 +17,7 @@ ghost use Rattle.io.specs.Counts.{Counts};
 // Longer than any call's name, so that no longer word is taken for one.
 const LETTERS: usize = 16;
 
-// The call that a line names, and the line behind that name.
+// The call that a line asks for, and the line behind its name. Of a line with another form than its call's nothing is known.
 pub struct Request {
     pub call: Call,
     pub line: Line,
@@ -31,7 +31,8 @@ pub fn take(source: &mut [u8], c: Cursor, words: &mut [u32], text: &mut [u8]) ->
     let mut letters = [0u8; LETTERS];
     let w = word(source, c, &mut letters);
     let n = w.value as usize;
-    let call = names::named(&letters[..n]);
-    let line = form::read(source, w.cursor, names::form(call), words, text);
+    let named = names::named(&letters[..n]);
+    let line = forms::read(source, w.cursor, names::form(named), words, text);
+    let call = names::asked(named, is_whole(line.cursor));
     Request { call, line }
 }

@@ -1,7 +1,7 @@
 // The calls' names, and the form of each one's line.
-use crate::form::Form;
-use crate::form::Lists;
 use check::same;
+use forms::Form;
+use forms::Lists;
 
 // The most entries of a list of jobs, the most words of a log, the most pairs, and the most bytes of a text or a buffer.
 pub const JOBS: usize = 1200;
@@ -27,7 +27,7 @@ pub enum Task {
     Check,
 }
 
-// The calls; of no other name is anything known.
+// The calls; of no other line is anything known.
 pub enum Call {
     Jobs(Task),
     Record,
@@ -59,6 +59,14 @@ pub fn named(word: &[u8]) -> Call {
     }
     if same(word, b"write") {
         return Call::Write;
+    }
+    Call::Unknown
+}
+
+// The call that a line asks for, by its name and by whether it has that call's form.
+pub fn asked(named: Call, whole: bool) -> Call {
+    if whole {
+        return named;
     }
     Call::Unknown
 }

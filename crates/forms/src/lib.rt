@@ -1,4 +1,4 @@
-// A line of a given form, behind its first word.
+// A line of input of a given form, read whole behind its first word: its numbers, its lists and its bytes.
 use fields::bytes;
 use fields::lists;
 use intake::Cursor;

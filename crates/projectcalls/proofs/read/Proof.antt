@@ -1,9 +1,9 @@
--- `projectcalls::on_words` is safe. An array of which a part was lent is as long as it was. Assumes nothing.
+-- `projectcalls::read` is safe. An array of which a part was lent is as long as it was. Assumes nothing.
 use mathlib.Core.Path.{_∙_, sym}
 use Rattle.packed.proofs.Places.{front-back}
 use borrow.Author.Needs.{needs}
-use Rattle.projectcalls.proofs.on_words.Statement.{statement}
-use Rattle.projectcalls.proofs.on_words.Tie as tie
+use Rattle.projectcalls.proofs.read.Statement.{statement}
+use Rattle.projectcalls.proofs.read.Tie as tie
 
 -- the call of `made`, seen from where the first list is put back
 abbrev called : tie.After-est5 → tie.After-made
@@ -135,14 +135,17 @@ slice-aggregate-put c =
 put-requires : tie.Need-put-requires
 put-requires c κs = search needs
 
+reading-requires : tie.Need-reading-requires
+reading-requires c κs = search needs
+
 same-length : tie.Need-same-length
 same-length c = search needs
 
 returns : tie.Need-returns
 returns c = search needs
 
-pub on-words-spec : {M : Type 1} → statement M
-on-words-spec =
+pub read-spec : {M : Type 1} → statement M
+read-spec =
     tie.close
     (tie.spec
     room-requires
@@ -176,5 +179,6 @@ on-words-spec =
     put-four-requires
     slice-aggregate-put
     put-requires
+    reading-requires
     same-length
     returns)

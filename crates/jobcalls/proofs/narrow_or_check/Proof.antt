@@ -1,9 +1,9 @@
--- `jobcalls::on_words` is safe. An array of which a part was lent is as long as it was. Assumes nothing.
+-- `jobcalls::narrow_or_check` is safe. An array of which a part was lent is as long as it was. Assumes nothing.
 use mathlib.Core.Path.{_∙_, sym}
 use Rattle.packed.proofs.Places.{front-back}
 use borrow.Author.Needs.{needs}
-use Rattle.jobcalls.proofs.on_words.Statement.{statement}
-use Rattle.jobcalls.proofs.on_words.Tie as tie
+use Rattle.jobcalls.proofs.narrow_or_check.Statement.{statement}
+use Rattle.jobcalls.proofs.narrow_or_check.Tie as tie
 
 -- the call of `made`, seen from where the first list is put back
 abbrev called : tie.After-est5 → tie.After-made
@@ -102,8 +102,8 @@ same-length c = search needs
 returns : tie.Need-returns
 returns c = search needs
 
-pub on-words-spec : {M : Type 1} → statement M
-on-words-spec =
+pub narrow-or-check-spec : {M : Type 1} → statement M
+narrow-or-check-spec =
     tie.close
     (tie.spec
     room-requires
