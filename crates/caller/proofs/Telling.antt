@@ -10,7 +10,7 @@ use Rattle.answers.specs.declared.CheckAnswer.{CheckAnswer}
 use Rattle.answers.specs.declared.ReadAnswer.{ReadAnswer}
 use Rattle.answers.specs.Said.{Word, says, saysCheck, saysRead}
 use Rattle.desk.specs.Lists.{Win}
-use Rattle.desk.specs.Narrowing.{Call, NoneIn, leaves, Narrows}
+use Rattle.desk.specs.Narrowing.{Call, leaves, Narrows}
 use Rattle.desk.specs.Checking.{finds, Checks}
 use Rattle.desk.specs.Reading.{Lent, TextCall, Reads}
 use Rattle.caller.specs.Told.{ToldSettles, ToldHolds, ToldReads}
@@ -19,59 +19,31 @@ use Rattle.caller.specs.Told.{ToldSettles, ToldHolds, ToldReads}
 not-true : false ≡ true → ⊥
 not-true e = let q : _≡_ {A = ℕ} 0 1 = cc in omega arith
 
--- a result that is true exactly where the word is w
-yes-exactly : (a w : Word) → a ≡ w → (true ≡ true) ↔ (a ≡ w)
-yes-exactly a w e = (λ z. e, λ z. refl)
+-- a result that is true exactly where the word of an answer is w
+pub yes-exactly : {A : Type 0} (word : A → Word) (a b : A) → a ≡ b → (true ≡ true) ↔ (word a ≡ word b)
+yes-exactly word a b e = (λ z. ap word e, λ z. refl)
 
-no-exactly : (a w : Word) → (a ≡ w → ⊥) → (false ≡ true) ↔ (a ≡ w)
-no-exactly a w f = (λ z. absurd (not-true z), λ z. absurd (f z))
+pub no-exactly : {A : Type 0} (word : A → Word) (a b : A) (w : Word) → (word b ≡ w → ⊥) → a ≡ b → (false ≡ true) ↔ (word a ≡ w)
+no-exactly word a b w f e = (λ z. absurd (not-true z), λ z. absurd (f (sym (ap word e) ∙ z)))
 
-module _ (c : Call) (U : Win) (log : List ℕ) (a : Answer) (h : Narrows c (leaves (says a) U log)) where
-  pub settles-yes : (n : ℕ) → a ≡ Answer.Settled n → ToldSettles c U log true
-  settles-yes n q =
-      let e = ap (λ (x : Answer). says x .word) q in
-      record {
-        says = says a;
-        narrows = h;
-        settled = yes-exactly (says a .word) Word.settled e;
-        free = λ g b. ((λ z. h .largest g .free b .1 .0 e, λ z. refl), λ f. absurd (f refl));
-      }
+pub tells-settles : (c : Call) (U : Win) (log : List ℕ) (a : Answer) (r : Bool) → Narrows c (leaves (says a) U log) → (r ≡ true) ↔ (says a .word ≡ Word.settled)
+    → ToldSettles c U log r
+tells-settles c U log a r h e =
+    record {
+      says = says a;
+      narrows = h;
+      settled = e;
+      free = λ g b. let x = h .largest g .free b in ((λ z. x .1 .0 (e .0 z), λ w. e .1 (x .1 .1 w)), λ f. x .2 .0 (clashes (x .0) f));
+    }
+  where
+    clashes : (says a .word ≡ Word.settled) ⊎ (says a .word ≡ Word.clash) → (r ≡ true → ⊥) → says a .word ≡ Word.clash
+    clashes (inl s) f = absurd (f (e .1 s))
+    clashes (inr s) f = s
 
-  pub settles-no : (b : Answer) → (says b .word ≡ Word.settled → ⊥) → a ≡ b → ToldSettles c U log false
-  settles-no b other q =
-      record {
-        says = says a;
-        narrows = h;
-        settled = no-exactly (says a .word) Word.settled f;
-        free = λ g b. let x = h .largest g .free b in ((λ z. absurd (not-true z), λ z. absurd (f (x .1 .1 z))), λ z. x .2 .0 (clashes (x .0)));
-      }
-    where
-      f : says a .word ≡ Word.settled → ⊥
-      f e = other (sym (ap (λ (x : Answer). says x .word) q) ∙ e)
+pub tells-holds : (c : Call) (count : ℕ) (U : Win) (a : CheckAnswer) (r : Bool) → Checks c count (finds (saysCheck a) U) → (r ≡ true) ↔ (saysCheck a .word ≡ Word.holds)
+    → ToldHolds c count U r
+tells-holds c count U a r h e = record { says = saysCheck a; checks = h; holds = e }
 
-      clashes : (says a .word ≡ Word.settled) ⊎ (says a .word ≡ Word.clash) → says a .word ≡ Word.clash
-      clashes (inl e) = absurd (f e)
-      clashes (inr e) = e
-
-module _ (c : Call) (count : ℕ) (U : Win) (a : CheckAnswer) (h : Checks c count (finds (saysCheck a) U)) where
-  pub holds-yes : (n : ℕ) → a ≡ CheckAnswer.Holds n → ToldHolds c count U true
-  holds-yes n q = record { says = saysCheck a; checks = h; holds = yes-exactly (saysCheck a .word) Word.holds (ap (λ (x : CheckAnswer). saysCheck x .word) q) }
-
-  pub holds-no : (b : CheckAnswer) → (saysCheck b .word ≡ Word.holds → ⊥) → a ≡ b → ToldHolds c count U false
-  holds-no b other q =
-      record {
-        says = saysCheck a;
-        checks = h;
-        holds = no-exactly (saysCheck a .word) Word.holds (λ e. other (sym (ap (λ (x : CheckAnswer). saysCheck x .word) q) ∙ e));
-      }
-
-module _ (c : TextCall) (L : Lent) (a : ReadAnswer) (h : Reads c (record { says = saysRead a; lent = L })) where
-  pub reads-yes : (cap pairs : ℕ) → a ≡ ReadAnswer.Read cap pairs → ToldReads c L true
-  reads-yes cap pairs q =
-      let e = ap (λ (x : ReadAnswer). saysRead x .word) q in
-      record { says = saysRead a; reads = h; read = yes-exactly (saysRead a .word) Word.read e; long = λ z. h .long e }
-
-  pub reads-no : (b : ReadAnswer) → (saysRead b .word ≡ Word.read → ⊥) → a ≡ b → ToldReads c L false
-  reads-no b other q =
-      let f : saysRead a .word ≡ Word.read → ⊥ = λ e. other (sym (ap (λ (x : ReadAnswer). saysRead x .word) q) ∙ e) in
-      record { says = saysRead a; reads = h; read = no-exactly (saysRead a .word) Word.read f; long = λ z. absurd (not-true z) }
+pub tells-reads : (c : TextCall) (L : Lent) (a : ReadAnswer) (r : Bool) → Reads c (record { says = saysRead a; lent = L }) → (r ≡ true) ↔ (saysRead a .word ≡ Word.read)
+    → ToldReads c L r
+tells-reads c L a r h e = record { says = saysRead a; reads = h; read = e; long = λ z. h .long (e .0 z) }

@@ -2,10 +2,24 @@
 use answers::Answer;
 use answers::CheckAnswer;
 use answers::ReadAnswer;
+ghost use mathlib.Core.Path.{_≡_};
+ghost use mathlib.Core.Bool.{true};
+ghost use mathlib.Core.Logic.{_↔_};
+ghost use Rattle.answers.specs.Said.{Word, says, saysCheck, saysRead};
 ghost use Rattle.desk.specs.Lists.{win};
 ghost use Rattle.desk.specs.Narrowing.{call};
 ghost use Rattle.desk.specs.Reading.{patterson};
 ghost use Rattle.caller.specs.Told.{ToldSettles, ToldHolds, ToldReads};
+
+fn settled(answer: Answer) -> bool
+    ensures { λ r. ⌜ (r ≡ true) ↔ (says answer .word ≡ Word.settled) ⌝ }
+{
+    match answer {
+        Answer::Settled(_) => true,
+        Answer::Clash(_, _) => false,
+        Answer::Refused(_) => false,
+    }
+}
 
 // Whether the windows of a job list could be narrowed, with room in the log for the reasons.
 pub fn settles(
@@ -18,11 +32,17 @@ pub fn settles(
 ) -> bool
     ensures { λ r. ⌜ ToldSettles (call (win (now (est .entry)) (now (lct .entry))) (now (dur .entry)) (now (dem .entry)) cap (now (log .entry))) (win (now (est .exit)) (now (lct .exit))) (now (log .exit)) r ⌝ }
 {
-    let answer = desk::narrow(est, lct, dur, dem, cap, log);
+    settled(desk::narrow(est, lct, dur, dem, cap, log))
+}
+
+fn held(answer: CheckAnswer) -> bool
+    ensures { λ r. ⌜ (r ≡ true) ↔ (saysCheck answer .word ≡ Word.holds) ⌝ }
+{
     match answer {
-        Answer::Settled(_) => true,
-        Answer::Clash(_, _) => false,
-        Answer::Refused(_) => false,
+        CheckAnswer::Holds(_) => true,
+        CheckAnswer::Clash(_, _) => false,
+        CheckAnswer::Rejected(_, _) => false,
+        CheckAnswer::Refused(_) => false,
     }
 }
 
@@ -38,12 +58,15 @@ pub fn holds(
 ) -> bool
     ensures { λ r. ⌜ ToldHolds (call (win (now (est .entry)) (now (lct .entry))) (now (dur .entry)) (now (dem .entry)) cap (now (log .entry))) count (win (now (est .exit)) (now (lct .exit))) r ⌝ }
 {
-    let answer = desk::check_log(est, lct, dur, dem, cap, log, count);
+    held(desk::check_log(est, lct, dur, dem, cap, log, count))
+}
+
+fn read(answer: ReadAnswer) -> bool
+    ensures { λ r. ⌜ (r ≡ true) ↔ (saysRead answer .word ≡ Word.read) ⌝ }
+{
     match answer {
-        CheckAnswer::Holds(_) => true,
-        CheckAnswer::Clash(_, _) => false,
-        CheckAnswer::Rejected(_, _) => false,
-        CheckAnswer::Refused(_) => false,
+        ReadAnswer::Read(_, _) => true,
+        ReadAnswer::Refused(_) => false,
     }
 }
 
@@ -63,9 +86,5 @@ pub fn reads(
         (record { est = now (est .exit); lct = now (lct .exit); dur = now (dur .exit); dem = now (dem .exit); jobs = now (jobs .exit); successors = now (successors .exit) })
         r ⌝ }
 {
-    let answer = desk::read_patterson(text, 0, horizon, est, lct, dur, dem, jobs, successors);
-    match answer {
-        ReadAnswer::Read(_, _) => true,
-        ReadAnswer::Refused(_) => false,
-    }
+    read(desk::read_patterson(text, 0, horizon, est, lct, dur, dem, jobs, successors))
 }
