@@ -23,10 +23,12 @@ use Rattle.psplib.specs.Psplib.{join, tables, sections, psplib}
 use Rattle.psplib.proofs.Joined.{join-long, join-limited}
 
 -- tables that were read: so many rows, each within its limits
-pub relations-take : (n : ℕ) (ts rest : List Token) (sss : List (List ℕ)) → inTurn (relation n) 0 n ts ≡ good sss rest → (length sss ≡ n) × Every (λ ss. Limited n (linked ss)) sss × (length rest ≤ length ts)
+pub relations-take : (n : ℕ) (ts rest : List Token) (sss : List (List ℕ)) → inTurn (relation n) 0 n ts ≡ good sss rest
+    → (length sss ≡ n) × Every (λ ss. Limited n (linked ss)) sss × (length rest ≤ length ts)
 relations-take n ts rest sss e = in-turn-takes (relation n) (λ ss. Limited n (linked ss)) (λ j u v ss p. relation-within n j u v ss p) 0 n ts rest sss e
 
-pub requests-take : (n k : ℕ) (ts rest : List Token) (qs : List Need) → inTurn (request k) 0 n ts ≡ good qs rest → (length qs ≡ n) × Every (λ q. Limited n (needed q)) qs × (length rest ≤ length ts)
+pub requests-take : (n k : ℕ) (ts rest : List Token) (qs : List Need) → inTurn (request k) 0 n ts ≡ good qs rest
+    → (length qs ≡ n) × Every (λ q. Limited n (needed q)) qs × (length rest ≤ length ts)
 requests-take n k ts rest qs e = in-turn-takes (request k) (λ q. Limited n (needed q)) (λ j u v q p. request-within n k j u v q p) 0 n ts rest qs e
 
 relations-codes : (n c : ℕ) (ts : List Token) → inTurn (relation n) 0 n ts ≡ bad c → OfText c

@@ -46,7 +46,8 @@ module _ (n res : ℕ) (s relations : List ℕ) (at : ℕ) (here : drop at s ≡
   no-relation : (c : ℕ) → seeing n Relations res 0 0 (tokens (drop at s)) ≡ bad c → inTurn (relation n) 0 n (tokens (behindLines 2 relations)) ≡ bad c
   no-relation c e = said-bad (map linked) _ c (sym (relations-said n (tokens (behindLines 2 relations))) ∙ rw (← here) (rows-bad n Relations res (tokens (drop at s)) c e))
 
-  pub relations-read : (durs dems : List ℕ) (pairs to : ℕ) → WalkedSays (seeing n Relations res 0 0 (tokens (drop at s))) s n durs dems (Walked.Read pairs to) → Related n s relations at pairs
+  pub relations-read : (durs dems : List ℕ) (pairs to : ℕ) → WalkedSays (seeing n Relations res 0 0 (tokens (drop at s))) s n durs dems (Walked.Read pairs to)
+      → Related n s relations at pairs
   relations-read durs dems pairs to f =
       let t = rows-good n Relations res (tokens (drop at s)) (tokens (drop to s)) (f .0) (f .1) in
       let q = said-good (map linked) (inTurn (relation n) 0 n (tokens (drop at s))) (t .0) (tokens (drop to s)) (sym (relations-said n (tokens (drop at s))) ∙ t .1) in
@@ -63,7 +64,8 @@ module _ (n k res : ℕ) (s requests : List ℕ) (to : ℕ) (here : drop to s �
   no-request : (c : ℕ) → seeing n (Requests k) res 0 0 (tokens (drop to s)) ≡ bad c → inTurn (request k) 0 n (tokens (behindLines 3 requests)) ≡ bad c
   no-request c e = said-bad (map needed) _ c (sym (requests-said n k (tokens (behindLines 3 requests))) ∙ rw (← here) (rows-bad n (Requests k) res (tokens (drop to s)) c e))
 
-  pub requests-read : (durs dems : List ℕ) (m end : ℕ) → WalkedSays (seeing n (Requests k) res 0 0 (tokens (drop to s))) s n durs dems (Walked.Read m end) → Requested n k res requests durs dems
+  pub requests-read : (durs dems : List ℕ) (m end : ℕ) → WalkedSays (seeing n (Requests k) res 0 0 (tokens (drop to s))) s n durs dems (Walked.Read m end)
+      → Requested n k res requests durs dems
   requests-read durs dems m end f =
       let t = rows-good n (Requests k) res (tokens (drop to s)) (tokens (drop end s)) (f .0) (f .1) in
       let q = said-good (map needed) (inTurn (request k) 0 n (tokens (drop to s))) (t .0) (tokens (drop end s)) (sym (requests-said n k (tokens (drop to s))) ∙ t .1) in
