@@ -87,9 +87,10 @@ put-requires c κs = search needs
 
 slice-aggregate-put-2 : tie.Need-slice-aggregate-put-2
 slice-aggregate-put-2 c =
-    let made = called (c .before .before .before .before .before) .made in
-    let copied = filled (called (c .before .before .before .before .before)) .copy-four in
-    let house = housed (filled (called (c .before .before .before .before .before))) .before .before .room2 in
+    let put = c .before .before .before .before .before in
+    let made = called put .made in
+    let copied = filled (called put) .copy-four in
+    let house = housed (filled (called put)) .before .before .room2 in
     front-back 1200 (copied .result .b) (copied .last .1 .1 .0) (made .last .1 .0) (house .ensures ∙ sym (copied .kept .1 .1 .0))
     (copied .ensures .1 .0 .within) (made .kept .1 .0)
 

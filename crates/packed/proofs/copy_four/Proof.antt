@@ -28,7 +28,12 @@ same-length-4 : tie.Need-same-length-4
 same-length-4 c = search needs
 
 returns : tie.Need-returns
-returns c = (c .before .before .before .before .before .before .before .before .before .before .before .before .before .before .copy .ensures, (c .before .before .before .before .before .before .before .before .before .before .copy2 .ensures, (c .before .before .before .before .before .before .copy3 .ensures, c .before .before .copy4 .ensures)))
+returns c =
+    let fourth = c .before .before in
+    let third = fourth .before .before .before .before in
+    let second = third .before .before .before .before in
+    let first = second .before .before .before .before in
+    (first .copy .ensures, (second .copy2 .ensures, (third .copy3 .ensures, fourth .copy4 .ensures)))
 
 pub copy-four-spec : {M : Type 1} → statement M
 copy-four-spec =
