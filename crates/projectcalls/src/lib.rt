@@ -1,12 +1,12 @@
 // The calls over a project list: read in the Patterson layout (document 02, Item 1) or the PSPLIB layout (Item 13), and written in the
 // Patterson layout (Item 13). They are made over the lists of a line, which stand packed in lent words. Each call changes its lists there; the
 // result is what it says.
-use answers::ReadAnswer;
 use printing::said::Saying;
 use printing::said::reading;
 use printing::said::writing;
+use readers::Task;
+use readers::read_text;
 use requests::JOBS;
-use requests::Layout;
 use requests::PAIRS;
 ghost use mathlib.Core.Path.{_≡_};
 ghost use lib.ListN.{length};
@@ -23,33 +23,6 @@ fn long_room() -> [u32; PAIRS]
     ensures { λ r. ⌜ 70000 ≡ length r ⌝ }
 {
     [0; PAIRS]
-}
-
-// What a reader is asked: the layout and the two numbers.
-pub struct Task {
-    pub layout: Layout,
-    pub resource: u32,
-    pub horizon: u32,
-}
-
-// The only place where the layouts part.
-fn made(
-    task: Task,
-    text: &[u8],
-    est: &mut [u32],
-    lct: &mut [u32],
-    dur: &mut [u32],
-    dem: &mut [u32],
-    jobs: &mut [u32],
-    successors: &mut [u32],
-) -> ReadAnswer {
-    let r = task.resource;
-    let h = task.horizon;
-    let layout = task.layout;
-    match layout {
-        Layout::Patterson => desk::read_patterson(text, r, h, est, lct, dur, dem, jobs, successors),
-        Layout::Psplib => desk::read_psplib(text, r, h, est, lct, dur, dem, jobs, successors),
-    }
 }
 
 // Puts the first four lists back into the words.
@@ -74,7 +47,7 @@ pub fn read(words: &mut [u32], task: Task, text: &[u8]) -> Saying {
     let p = n.c;
     let d = n.d;
     let j = packed::copy(words, 4, &mut jobs);
-    let answer = made(
+    let answer = read_text(
         task,
         text,
         &mut est[..e],

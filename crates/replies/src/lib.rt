@@ -19,7 +19,7 @@ fn made(call: Call, line: Line, words: &mut [u32], text: &mut [u8]) -> Saying {
         Call::Record => bare(RECORD),
         Call::Overload => jobcalls::overload(words),
         Call::Read(layout) => {
-            let task = projectcalls::Task {
+            let task = readers::Task {
                 layout,
                 resource: first,
                 horizon: line.second,

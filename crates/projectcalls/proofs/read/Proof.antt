@@ -5,15 +5,19 @@ use borrow.Author.Needs.{needs}
 use Rattle.projectcalls.proofs.read.Statement.{statement}
 use Rattle.projectcalls.proofs.read.Tie as tie
 
--- the call of `made`, seen from where the first list is put back
-abbrev called : tie.After-est5 → tie.After-made
+-- the call of the reader, seen from where the first list is put back
+abbrev called : tie.After-est5 → tie.After-read-text
 called c = c .before .before .before .before .before .before .before .before .before
 
--- the lists copied out, seen from there
-abbrev filled : tie.After-made → tie.After-copy-four
+-- the first four lists copied out, seen from there
+abbrev filled : tie.After-read-text → tie.After-copy-four
 filled c = c .before .before .before .before .before .before .before .before .before .before .before .before .before .before .before .before
 
--- the last array made, seen from there; the others stand before it
+-- the list of jobs copied out, seen from there
+abbrev listed : tie.After-read-text → tie.After-copy
+listed c = c .before .before .before .before .before .before .before .before .before
+
+-- the last array made, seen from where they are copied; the others stand before it
 abbrev housed : tie.After-copy-four → tie.After-long-room
 housed c = c .before .before .before .before .before .before
 
@@ -56,42 +60,42 @@ copy-requires c κs = search needs
 array-borrow-prefix-est : tie.Need-array-borrow-prefix-est
 array-borrow-prefix-est c = search needs
 
-slice-aggregate-made : tie.Need-slice-aggregate-made
-slice-aggregate-made c = search needs
+slice-aggregate-read-text : tie.Need-slice-aggregate-read-text
+slice-aggregate-read-text c = search needs
 
 array-borrow-prefix-lct : tie.Need-array-borrow-prefix-lct
 array-borrow-prefix-lct c = search needs
 
-slice-aggregate-made-2 : tie.Need-slice-aggregate-made-2
-slice-aggregate-made-2 c = search needs
+slice-aggregate-read-text-2 : tie.Need-slice-aggregate-read-text-2
+slice-aggregate-read-text-2 c = search needs
 
 array-borrow-prefix-dur : tie.Need-array-borrow-prefix-dur
 array-borrow-prefix-dur c = search needs
 
-slice-aggregate-made-3 : tie.Need-slice-aggregate-made-3
-slice-aggregate-made-3 c = search needs
+slice-aggregate-read-text-3 : tie.Need-slice-aggregate-read-text-3
+slice-aggregate-read-text-3 c = search needs
 
 array-borrow-prefix-dem : tie.Need-array-borrow-prefix-dem
 array-borrow-prefix-dem c = search needs
 
-slice-aggregate-made-4 : tie.Need-slice-aggregate-made-4
-slice-aggregate-made-4 c = search needs
+slice-aggregate-read-text-4 : tie.Need-slice-aggregate-read-text-4
+slice-aggregate-read-text-4 c = search needs
 
 array-borrow-prefix-jobs : tie.Need-array-borrow-prefix-jobs
 array-borrow-prefix-jobs c = search needs
 
-slice-aggregate-made-5 : tie.Need-slice-aggregate-made-5
-slice-aggregate-made-5 c = search needs
+slice-aggregate-read-text-5 : tie.Need-slice-aggregate-read-text-5
+slice-aggregate-read-text-5 c = search needs
 
 list-mut-requires : tie.Need-list-mut-requires
 list-mut-requires c κs = search needs
 
-made-requires : tie.Need-made-requires
-made-requires c κs = search needs
+read-text-requires : tie.Need-read-text-requires
+read-text-requires c κs = search needs
 
 slice-aggregate-put-four : tie.Need-slice-aggregate-put-four
 slice-aggregate-put-four c =
-    let made = called c .made in
+    let made = called c .read-text in
     let copied = filled (called c) .copy-four in
     let house = housed (filled (called c)) .before .before .before .before .room in
     front-back 1200 (copied .result .a) (copied .last .1 .0) (made .last .1 .1 .0) (house .ensures ∙ sym (copied .kept .1 .0))
@@ -99,25 +103,28 @@ slice-aggregate-put-four c =
 
 slice-aggregate-put-four-2 : tie.Need-slice-aggregate-put-four-2
 slice-aggregate-put-four-2 c =
-    let made = called (c .before) .made in
-    let copied = filled (called (c .before)) .copy-four in
-    let house = housed (filled (called (c .before))) .before .before .before .room2 in
+    let put = c .before in
+    let made = called put .read-text in
+    let copied = filled (called put) .copy-four in
+    let house = housed (filled (called put)) .before .before .before .room2 in
     front-back 1200 (copied .result .b) (copied .last .1 .1 .0) (made .last .1 .1 .1 .0) (house .ensures ∙ sym (copied .kept .1 .1 .0))
     (copied .ensures .1 .0 .within) (made .kept .1 .1 .1 .0)
 
 slice-aggregate-put-four-3 : tie.Need-slice-aggregate-put-four-3
 slice-aggregate-put-four-3 c =
-    let made = called (c .before .before) .made in
-    let copied = filled (called (c .before .before)) .copy-four in
-    let house = housed (filled (called (c .before .before))) .before .before .room3 in
+    let put = c .before .before in
+    let made = called put .read-text in
+    let copied = filled (called put) .copy-four in
+    let house = housed (filled (called put)) .before .before .room3 in
     front-back 1200 (copied .result .c) (copied .last .1 .1 .1 .0) (made .last .1 .1 .1 .1 .0) (house .ensures ∙ sym (copied .kept .1 .1 .1 .0))
     (copied .ensures .1 .1 .0 .within) (made .kept .1 .1 .1 .1 .0)
 
 slice-aggregate-put-four-4 : tie.Need-slice-aggregate-put-four-4
 slice-aggregate-put-four-4 c =
-    let made = called (c .before .before .before) .made in
-    let copied = filled (called (c .before .before .before)) .copy-four in
-    let house = housed (filled (called (c .before .before .before))) .before .room4 in
+    let put = c .before .before .before in
+    let made = called put .read-text in
+    let copied = filled (called put) .copy-four in
+    let house = housed (filled (called put)) .before .room4 in
     front-back 1200 (copied .result .d) (copied .last .1 .1 .1 .1 .0) (made .last .1 .1 .1 .1 .1 .0) (house .ensures ∙ sym (copied .kept .1 .1 .1 .1 .0))
     (copied .ensures .1 .1 .1 .within) (made .kept .1 .1 .1 .1 .1 .0)
 
@@ -126,9 +133,10 @@ put-four-requires c κs = search needs
 
 slice-aggregate-put : tie.Need-slice-aggregate-put
 slice-aggregate-put c =
-    let made = called (c .before .before .before .before .before .before .before .before) .made in
-    let copied = called (c .before .before .before .before .before .before .before .before) .before .before .before .before .before .before .before .before .before .copy in
-    let house = housed (filled (called (c .before .before .before .before .before .before .before .before))) .long-room in
+    let put = c .before .before .before .before .before .before .before .before in
+    let made = called put .read-text in
+    let copied = listed (called put) .copy in
+    let house = housed (filled (called put)) .long-room in
     front-back 70000 (copied .result) (copied .last .1 .1 .0) (made .last .1 .1 .1 .1 .1 .1 .0) (house .ensures ∙ sym (copied .kept .1 .1 .0))
     (copied .ensures .within) (made .kept .1 .1 .1 .1 .1 .1 .0)
 
@@ -161,17 +169,17 @@ read-spec =
     slice-aggregate-copy
     copy-requires
     array-borrow-prefix-est
-    slice-aggregate-made
+    slice-aggregate-read-text
     array-borrow-prefix-lct
-    slice-aggregate-made-2
+    slice-aggregate-read-text-2
     array-borrow-prefix-dur
-    slice-aggregate-made-3
+    slice-aggregate-read-text-3
     array-borrow-prefix-dem
-    slice-aggregate-made-4
+    slice-aggregate-read-text-4
     array-borrow-prefix-jobs
-    slice-aggregate-made-5
+    slice-aggregate-read-text-5
     list-mut-requires
-    made-requires
+    read-text-requires
     slice-aggregate-put-four
     slice-aggregate-put-four-2
     slice-aggregate-put-four-3
