@@ -5,7 +5,7 @@ pub use Rattle.lists.specs.Tests.{both, only}
 unfoldable pub use Rattle.lists.specs.Sums.{total}
 unfoldable pub use Rattle.lists.specs.Sets.{totalOf}
 pub use Rattle.lists.specs.Sets.{Set, LeastOf, GreatestOf}
-pub use Rattle.lists.specs.Turns.{Turn, SameList}
+pub use Rattle.lists.specs.Permutations.{Permutes, SameList}
 unfoldable pub use Rattle.narrowing.specs.Windows.{Long, slack}
 pub use Rattle.narrowing.specs.Windows.{Win, win, Side, early, late, number, sideOf, moved, closes, Inside, LowestTooShort}
 pub use Rattle.joblist.specs.Limits.{mostTime, mostDemand, mostJobs, mostResources, Column, timeColumn, demandColumn, jobs, fourLists, threeLists, twoLists, supply}

@@ -7,7 +7,7 @@ use mathlib.Core.List.{List, [], _∷_, _++_}
 use mathlib.Core.Logic.{inl, inr}
 use lib.ListN.{length}
 use Rattle.lists.specs.Lists.{_!_, Every}
-use Rattle.lists.specs.Turns.{Turn, SameList}
+use Rattle.lists.specs.Permutations.{Permutes, SameList}
 use Rattle.lists.proofs.Lists.{beyond}
 use Rattle.narrowing.specs.Windows.{Win}
 use Rattle.narrowing.specs.Renumbered.{SameWin}
@@ -16,7 +16,7 @@ use Rattle.joblist.specs.GoodList.{Sized, Within, Above, Any, Given, ref
 use Rattle.joblist.specs.Renumbered.{SameColumn, SameColumns}
 use Rattle.joblist.proofs.Refusals.{refusal-exactly}
 
-module _ (n : ℕ) (π σ : ℕ → ℕ) (t : Turn n π σ) where
+module _ (n : ℕ) (π σ : ℕ → ℕ) (t : Permutes n π σ) where
   sized-same : (cs ds : List Column) → SameColumns n π cs ds → Every (Sized n) cs → Every (Sized n) ds
   sized-same [] [] v s = tt
   sized-same (c ∷ cs) (d ∷ ds) v s = (v .0 .size ∙ s .0, sized-same cs ds (v .1) (s .1))
@@ -65,7 +65,7 @@ module _ (n : ℕ) (π σ : ℕ → ℕ) (t : Turn n π σ) where
         refusal-exactly n ds es k .1 (given-same k (refusal-exactly n cs es k .0 refl))
 
 -- the lists of the calls
-module _ (π σ : ℕ → ℕ) (W U : Win) (p q : List ℕ) (t : Turn (jobs W) π σ) (b : jobs U ≡ jobs W) (w : SameWin (jobs W) π W U)
+module _ (π σ : ℕ → ℕ) (W U : Win) (p q : List ℕ) (t : Permutes (jobs W) π σ) (b : jobs U ≡ jobs W) (w : SameWin (jobs W) π W U)
     (l : length (U .l) ≡ length (W .l)) (d : SameList (jobs W) π p q) (m : length q ≡ length p) where
   one : (xs ys : List ℕ) (most : ℕ) → length ys ≡ length xs → SameList (jobs W) π xs ys
       → SameColumn (jobs W) π (record { list = xs; most = most }) (record { list = ys; most = most })

@@ -3,7 +3,7 @@ use Prim.Native.Nat.{ℕ}
 use mathlib.Core.Path.{_≡_}
 use mathlib.Core.List.{List, [], _∷_}
 use lib.ListN.{length}
-use Rattle.lists.specs.Turns.{SameList}
+use Rattle.lists.specs.Permutations.{SameList}
 use Rattle.joblist.specs.Limits.{Column}
 use Rattle.joblist.specs.GoodList.{Sized}
 

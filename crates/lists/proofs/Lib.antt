@@ -2,7 +2,7 @@ pub mod Tests
 pub mod Lists
 pub mod Sums
 pub mod Extremes
-pub mod Turns
+pub mod Permutations
 pub mod Stretches
 pub mod Judged
 pub mod Chains

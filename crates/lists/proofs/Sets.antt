@@ -58,7 +58,13 @@ totalOf-parts zero p T L R h = refl
 totalOf-parts (suc m) p T L R h =
     omega (
       arith,
-      totalOf-parts m p T L R (record { left = λ k b. h .left k (omega arith); right = λ k b. h .right k (omega arith); each = λ k b. h .each k (omega arith); apart = λ k b. h .apart k (omega arith) }),
+      totalOf-parts m p T L R
+          (record {
+            left = λ k b. h .left k (omega arith);
+            right = λ k b. h .right k (omega arith);
+            each = λ k b. h .each k (omega arith);
+            apart = λ k b. h .apart k (omega arith);
+          }),
       go (T m) refl (L m) refl (R m) refl,
     )
   where

@@ -2,7 +2,7 @@ pub mod Lists
 pub mod Tests
 pub mod Sums
 pub mod Extremes
-pub mod Turns
+pub mod Permutations
 pub mod Sets
 pub mod Spares
 pub mod Orders

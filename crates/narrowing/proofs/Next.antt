@@ -7,7 +7,7 @@ use mathlib.Core.Logic.{_⊎_, inl, inr}
 use mathlib.Core.Option.{Option, none, some}
 use Rattle.narrowing.specs.Windows.{Win, Side, early, late, Long}
 use Rattle.narrowing.specs.Rules.{Family, Stable}
-use Rattle.narrowing.specs.Search.{Search, Found, Searches, move}
+use Rattle.narrowing.specs.Search.{Search, Offered, Searches, move}
 use Rattle.narrowing.specs.Run.{Next, rests, moves, orMove, orNext, firstMove, resume, nextMove}
 use Rattle.narrowing.specs.Rounds.{placeOf, Passed, Choice}
 
@@ -110,7 +110,7 @@ module _ (R : Search) (W : Win) where
 
 module _ (R : Search) (G : Family) (search : Searches R G) (W : Win) (L : Long (R .n) (R .p) W) where
   quiet-rule : (k : ℕ) (u : Side) → k < R .n → R .best W k u ≡ none → (c : ℕ) → G W k u c → ⊥
-  quiet-rule k u b e = subst (Found (G W k u) (R .bound u)) e (search .best-is W k u L b)
+  quiet-rule k u b e = subst (Offered (G W k u) (R .bound u)) e (search .best-is W k u L b)
 
   -- no rule applies, or the move that is made
   abbrev pub Ahead : ℕ → Side → Next → Type 0
@@ -125,7 +125,7 @@ module _ (R : Search) (G : Family) (search : Searches R G) (W : Win) (L : Long (
         before = refl;
         listed = q .0;
         chosen = q .1;
-        applies = subst (Found (G W i v) (R .bound v)) (q .1) (search .best-is W i v L (q .0));
+        applies = subst (Offered (G W i v) (R .bound v)) (q .1) (search .best-is W i v L (q .0));
         passed = λ k u b r. quiet-rule k u b (q .2 k u b r);
       }
 

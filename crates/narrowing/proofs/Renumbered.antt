@@ -5,9 +5,9 @@ use mathlib.Core.Path.{_≡_, ap}
 use mathlib.Core.List.{List}
 use mathlib.Core.Logic.{inl, inr}
 use Rattle.lists.specs.Lists.{_!_}
-use Rattle.lists.specs.Turns.{Turn, SameList}
+use Rattle.lists.specs.Permutations.{Permutes, SameList}
 use Rattle.lists.proofs.Lists.{listed, listed-at}
-use Rattle.lists.proofs.Turns.{turned, list-back}
+use Rattle.lists.proofs.Permutations.{turned, list-back}
 use Rattle.narrowing.specs.Windows.{Win, Long, Inside}
 use Rattle.narrowing.specs.Rules.{Family, Either, Some, Stable, Candidate, Largest, NoCandidate}
 use Rattle.narrowing.specs.Renumbered.{SameWin, Alike}
@@ -19,11 +19,11 @@ pub renumbered-same : (n : ℕ) (π : ℕ → ℕ) (W : Win) → SameWin n π W 
 unfolding renumbered
 renumbered-same n π W = record { early = λ k b. listed-at n _ k b; late = λ k b. listed-at n _ k b }
 
-pub win-back : (n : ℕ) (π σ : ℕ → ℕ) → Turn n π σ → (W U : Win) → SameWin n π W U → SameWin n σ U W
+pub win-back : (n : ℕ) (π σ : ℕ → ℕ) → Permutes n π σ → (W U : Win) → SameWin n π W U → SameWin n σ U W
 win-back n π σ h W U v =
     record { early = λ k b. cc (v .early (σ k) (h .onto k b), h .back k b); late = λ k b. cc (v .late (σ k) (h .onto k b), h .back k b) }
 
-module _ (n : ℕ) (π σ : ℕ → ℕ) (h : Turn n π σ) (p q : List ℕ) (d : SameList n π p q) (G H : Family) (a : Alike n π G H) where
+module _ (n : ℕ) (π σ : ℕ → ℕ) (h : Permutes n π σ) (p q : List ℕ) (d : SameList n π p q) (G H : Family) (a : Alike n π G H) where
   -- a candidate, renumbered, is one of the renumbered jobs
   candidate-same : (W U X : Win) → SameWin n π W U → Candidate n p G W X → Candidate n q H U (renumbered n π X)
   unfolding Stable Long Alike
@@ -46,7 +46,7 @@ module _ (n : ℕ) (π σ : ℕ → ℕ) (h : Turn n π σ) (p q : List ℕ) (d 
   within W U X Y v f g = g .holds (renumbered n π X) (candidate-same W U X v (f .one))
 
 -- the same jobs listed in another order get the same window for each job
-pub largest-same : (n : ℕ) (π σ : ℕ → ℕ) → Turn n π σ → (p q : List ℕ) → SameList n π p q → (G H : Family) → Alike n π G H → Alike n σ H G
+pub largest-same : (n : ℕ) (π σ : ℕ → ℕ) → Permutes n π σ → (p q : List ℕ) → SameList n π p q → (G H : Family) → Alike n π G H → Alike n σ H G
     → (W U X Y : Win) → SameWin n π W U → Largest n p G W X → Largest n q H U Y → SameWin n π X Y
 largest-same n π σ h p q d G H a c W U X Y v f g =
     let i = within n π σ h p q d G H a W U X Y v f g in

@@ -13,13 +13,13 @@ pub record Search : Type 0 where
   pub bound : Side → ℕ → ℕ
 
 -- the choice found, whose bound is `to c`, or that there is none
-abbrev pub Found : (ℕ → Type 0) → (ℕ → ℕ) → Option ℕ → Type 0
-Found P to none = (b : ℕ) → P b → ⊥
-Found P to (some c) = P (to c)
+abbrev pub Offered : (ℕ → Type 0) → (ℕ → ℕ) → Option ℕ → Type 0
+Offered P to none = (b : ℕ) → P b → ⊥
+Offered P to (some c) = P (to c)
 
 -- the search offers a move of the rules, and one wherever a rule applies
 pub record Searches (R : Search) (G : Family) : Type 0 where
-  pub best-is : (W : Win) (j : ℕ) (s : Side) → Long (R .n) (R .p) W → j < R .n → Found (G W j s) (R .bound s) (R .best W j s)
+  pub best-is : (W : Win) (j : ℕ) (s : Side) → Long (R .n) (R .p) W → j < R .n → Offered (G W j s) (R .bound s) (R .best W j s)
 
 -- the windows after job j's side s is moved by the choice c
 abbrev pub after : Search → Win → ℕ → Side → ℕ → Win

@@ -5,8 +5,8 @@ use native.Mathlib.Omega.{arith}
 use mathlib.Core.Path.{_≡_, sym, ap, subst, _∙_}
 use mathlib.Core.List.{[], _∷_}
 use mathlib.Core.Logic.{_⊎_, inl, inr}
-use Rattle.lists.specs.Turns.{Turn}
-use Rattle.lists.proofs.Turns.{turned, list-back}
+use Rattle.lists.specs.Permutations.{Permutes}
+use Rattle.lists.proofs.Permutations.{turned, list-back}
 use Rattle.narrowing.specs.Windows.{Win}
 use Rattle.narrowing.specs.Rules.{Largest, NoCandidate}
 use Rattle.narrowing.specs.Renumbered.{SameWin}
@@ -24,7 +24,7 @@ use Rattle.promises.proofs.Calls.{good-call, call-good}
 
 -- ---- of the lists alone
 
-module _ (π σ : ℕ → ℕ) (K L : Task) (t : Turn (K .n) π σ) (s : SameTask π σ K L) where
+module _ (π σ : ℕ → ℕ) (K L : Task) (t : Permutes (K .n) π σ) (s : SameTask π σ K L) where
   task-refusal : refusal (L .n) (columns L) (L .alone) ≡ refusal (K .n) (columns K) (K .alone)
   task-refusal =
       ap (λ (n : ℕ). refusal n (columns L) (L .alone)) (s .count)
@@ -79,7 +79,7 @@ module _ (π σ : ℕ → ℕ) (K L : Task) (t : Turn (K .n) π σ) (s : SameTas
 
 -- ---- with a log
 
-module _ (π σ : ℕ → ℕ) (A B : Ask) (t : Turn (jobCount A) π σ) (s : SameAsk π σ A B) where
+module _ (π σ : ℕ → ℕ) (A B : Ask) (t : Permutes (jobCount A) π σ) (s : SameAsk π σ A B) where
   pub same-refusal : refusalOf B ≡ refusalOf A
   unfolding refusalOf
   same-refusal = task-refusal π σ (taskOf A) (taskOf B) t s

@@ -2,7 +2,7 @@
 -- again in the windows left. The logs may differ.
 use Prim.Native.Nat.{ℕ}
 use mathlib.Core.Path.{_≡_}
-use Rattle.lists.specs.Turns.{SameList}
+use Rattle.lists.specs.Permutations.{SameList}
 use Rattle.narrowing.specs.Windows.{Win}
 use Rattle.narrowing.specs.Rules.{Stable}
 use Rattle.narrowing.specs.Renumbered.{SameWin, Alike}

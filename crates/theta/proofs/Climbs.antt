@@ -136,10 +136,13 @@ start-holds m n e p σ O none-in =
     record {
       joins = λ v a b. record {
         sum-is = rw (zeros (2 * m) v, zeros (2 * m) (2 * v), zeros (2 * m) (2 * v + 1));
-        end-is = rw (getD-replicate (2 * m) v empty (pos 0) (omega arith), getD-replicate (2 * m) (2 * v) empty (pos 0) (omega arith), getD-replicate (2 * m) (2 * v + 1) empty (pos 0) (omega arith), zeros (2 * m) (2 * v + 1));
+        end-is = rw (bare v (omega arith), bare (2 * v) (omega arith), bare (2 * v + 1) (omega arith), zeros (2 * m) (2 * v + 1));
       };
       full-sum = λ j b t. absurd (none-in j b t);
       full-end = λ j b t. absurd (none-in j b t);
       bare-sum = λ x b f. zeros (2 * m) (m + x);
-      bare-end = λ x b f. getD-replicate (2 * m) (m + x) empty (pos 0) (omega arith);
+      bare-end = λ x b f. bare (m + x) (omega arith);
     }
+  where
+    bare : (v : ℕ) → v < 2 * m → endOf (replicate (2 * m) empty) v ≡ empty
+    bare v b = getD-replicate (2 * m) v empty (pos 0) b

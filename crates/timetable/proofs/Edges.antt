@@ -12,7 +12,7 @@ use Rattle.lists.specs.Extremes.{Greatest, Least}
 use Rattle.lists.proofs.Sets.{clash, totalOf-beyond}
 use Rattle.lists.proofs.Extremes.{greatest-one, least-one}
 use Rattle.narrowing.specs.Windows.{Win, Side, early, late}
-use Rattle.narrowing.specs.Search.{Found}
+use Rattle.narrowing.specs.Search.{Offered}
 use Rattle.timetable.specs.Time.{Jobs, load, Crowded, Applies, bound}
 use Rattle.timetable.specs.Search.{Member, member, best}
 use Rattle.timetable.specs.Edges.{Edge, PartEdge, Looked, MovesAt}
@@ -44,14 +44,16 @@ module _ (J : Jobs) (W : Win) (j : ℕ) where
   ends t c h =
       let y = leaver t (suc t) (less-load t (suc t) c h) in
       let m = y .1 in
-      let past : suc t < W .e ! (y .0) + J .p ! (y .0) → ⊥ = λ d. y .2 (record { listed = m .listed; other = m .other; takes = m .takes; sure-there = record { from = omega (arith, m .sure-there .from); to = d } }) in
+      let past : suc t < W .e ! (y .0) + J .p ! (y .0) → ⊥ =
+      λ d. y .2 (record { listed = m .listed; other = m .other; takes = m .takes; sure-there = record { from = omega (arith, m .sure-there .from); to = d } }) in
       record { other = y .0; member = m; edge = elim (decLt (suc t) (W .e ! (y .0) + J .p ! (y .0))) [ yes d ↦ absurd (past d) | no d ↦ omega (arith, m .sure-there .to) ] }
 
   begins : (u : ℕ) → Crowded J W j (suc u) → (Crowded J W j u → ⊥) → PartEdge J W j late (suc u)
   begins u c h =
       let y = leaver (suc u) u (less-load (suc u) u c h) in
       let m = y .1 in
-      let sooner : W .l ! (y .0) ≤ u + J .p ! (y .0) → ⊥ = λ d. y .2 (record { listed = m .listed; other = m .other; takes = m .takes; sure-there = record { from = d; to = omega (arith, m .sure-there .to) } }) in
+      let sooner : W .l ! (y .0) ≤ u + J .p ! (y .0) → ⊥ =
+      λ d. y .2 (record { listed = m .listed; other = m .other; takes = m .takes; sure-there = record { from = d; to = omega (arith, m .sure-there .to) } }) in
       record { other = y .0; member = m; edge = elim (decLe (W .l ! (y .0)) (u + J .p ! (y .0))) [ yes d ↦ absurd (sooner d) | no d ↦ omega (arith, m .sure-there .from) ] }
 
   -- ---- the time that the rule moves to is an edge
@@ -116,6 +118,6 @@ module _ (J : Jobs) (W : Win) (j : ℕ) where
     pub edges-enough : (s : Side) → ((t : ℕ) → Looked J W j s t → Applies J W j s (bound s t) → ⊥) → (b : ℕ) → Applies J W j s b → ⊥
     edges-enough s q = go (best J W j s) refl (best-is J W j s h)
       where
-        go : (x : Option ℕ) → best J W j s ≡ x → Found (Applies J W j s) (bound s) x → (b : ℕ) → Applies J W j s b → ⊥
+        go : (x : Option ℕ) → best J W j s ≡ x → Offered (Applies J W j s) (bound s) x → (b : ℕ) → Applies J W j s b → ⊥
         go none e f = f
         go (some t) e f = absurd (q t (next-looked s t (best-next s t e)) f)

@@ -14,7 +14,7 @@ use Rattle.lists.proofs.Sums.{total-le}
 use Rattle.lists.proofs.Extremes.{greatest-is, least-is}
 use Rattle.narrowing.specs.Windows.{Win, Side, early, late, Long, Inside, Tighter}
 use Rattle.narrowing.specs.Rules.{Lawful}
-use Rattle.narrowing.specs.Search.{Found, Searches}
+use Rattle.narrowing.specs.Search.{Offered, Searches}
 use Rattle.timetable.specs.Time.{Jobs, sure, load, Crowded, Applies, bound}
 use Rattle.timetable.specs.Search.{crowded, best, search}
 use Rattle.timetable.proofs.Facts.{sure-yes, yes-sure, crowded-yes, yes-crowded}
@@ -62,18 +62,18 @@ module _ (J : Jobs) (W : Win) (j : ℕ) where
   unfolding best
   least-crowded = least-is (Crowded J W j) (crowded J W j) (λ t h. crowded-yes J W j t h) (λ t h. yes-crowded J W j t h) (J .p ! j) (W .l ! j - J .p ! j)
 
-  early-found : (x : Option ℕ) → Greatest (Crowded J W j) (W .e ! j) (J .p ! j) x → Found (Applies J W j early) (bound early) x
+  early-found : (x : Option ℕ) → Greatest (Crowded J W j) (W .e ! j) (J .p ! j) x → Offered (Applies J W j early) (bound early) x
   early-found none d = none-early
     where
       none-early : (b : ℕ) → Applies J W j early b → ⊥
       none-early (suc t) a = d t (record { from = a .from; to = a .to; has = a .crowded })
   early-found (some t) d = record { from = d .0 .from; to = d .0 .to; crowded = d .0 .has }
 
-  late-found : J .p ! j ≤ W .l ! j → (x : Option ℕ) → Least (Crowded J W j) (W .l ! j - J .p ! j) (J .p ! j) x → Found (Applies J W j late) (bound late) x
+  late-found : J .p ! j ≤ W .l ! j → (x : Option ℕ) → Least (Crowded J W j) (W .l ! j - J .p ! j) (J .p ! j) x → Offered (Applies J W j late) (bound late) x
   late-found h none d = λ t a. d t (record { from = omega (arith, a .from); to = omega (arith, a .to); has = a .crowded })
   late-found h (some t) d = record { from = omega (arith, d .0 .from); to = omega (arith, d .0 .to); crowded = d .0 .has }
 
-  pub best-is : (s : Side) → J .p ! j ≤ W .l ! j → Found (Applies J W j s) (bound s) (best J W j s)
+  pub best-is : (s : Side) → J .p ! j ≤ W .l ! j → Offered (Applies J W j s) (bound s) (best J W j s)
   best-is early h = early-found (best J W j early) greatest-crowded
   best-is late h = late-found h (best J W j late) least-crowded
 

@@ -26,12 +26,12 @@ number-of-side (suc k) h = omega arith
 -- ---- the search
 
 module _ (c : Call) (w : Workable c) (j : ℕ) (s : Side) (b : j < jobs (c .win)) where
-  best-is : search.Found (Applies (jobsOf c) (c .win) j s) (bound s) (best (jobsOf c) (c .win) j s)
+  best-is : search.Offered (Applies (jobsOf c) (c .win) j s) (bound s) (best (jobsOf c) (c .win) j s)
   best-is = searches (jobsOf c) .best-is (c .win) j s (w .long) b
 
   -- the time found is one at which the rule applies
   pub best-applies : (t : ℕ) → best (jobsOf c) (c .win) j s ≡ some t → Applies (jobsOf c) (c .win) j s (bound s t)
-  best-applies t h = subst (search.Found (Applies (jobsOf c) (c .win) j s) (bound s)) h best-is
+  best-applies t h = subst (search.Offered (Applies (jobsOf c) (c .win) j s) (bound s)) h best-is
 
 -- ---- a move
 

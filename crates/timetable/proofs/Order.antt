@@ -7,9 +7,9 @@ use lib.Dec.{eqb}
 use Rattle.lists.specs.Lists.{_!_}
 use Rattle.lists.specs.Tests.{both, only}
 use Rattle.lists.specs.Sums.{total}
-use Rattle.lists.specs.Turns.{Turn, SameList}
+use Rattle.lists.specs.Permutations.{Permutes, SameList}
 use Rattle.lists.proofs.Sums.{total-cong}
-use Rattle.lists.proofs.Turns.{turned, total-turn, eqb-turn, list-back}
+use Rattle.lists.proofs.Permutations.{turned, total-turn, eqb-turn, list-back}
 use Rattle.narrowing.specs.Windows.{Win, early, late}
 use Rattle.narrowing.specs.Renumbered.{SameWin, Alike}
 use Rattle.timetable.specs.Time.{Jobs, sure, load, Crowded, Applies}
@@ -24,7 +24,7 @@ pub record SameJobs (π : ℕ → ℕ) (J I : Jobs) : Type 0 where
 summand : Jobs → Win → ℕ → ℕ → ℕ → ℕ
 summand J W j t k = only (both (not (eqb k j)) (sure (J .p) W k t)) (J .r ! k)
 
-module _ (π σ : ℕ → ℕ) (J I : Jobs) (h : Turn (J .n) π σ) (s : SameJobs π J I) where
+module _ (π σ : ℕ → ℕ) (J I : Jobs) (h : Permutes (J .n) π σ) (s : SameJobs π J I) where
   module _ (W U : Win) (v : SameWin (J .n) π W U) where
     summand-same : (j t k : ℕ) → j < J .n → k < J .n → summand I U j t k ≡ summand J W (π j) t (π k)
     unfolding summand sure
@@ -56,11 +56,11 @@ module _ (π σ : ℕ → ℕ) (J I : Jobs) (h : Turn (J .n) π σ) (s : SameJob
         takes = rw (s .count) (list-back (J .n) π σ h (J .r) (I .r) (s .takes));
       }
 
-turn-count : (n m : ℕ) (π σ : ℕ → ℕ) → m ≡ n → Turn n π σ → Turn m π σ
+turn-count : (n m : ℕ) (π σ : ℕ → ℕ) → m ≡ n → Permutes n π σ → Permutes m π σ
 turn-count n m π σ e h = rw e h
 
 -- and back
-pub alike-back : (π σ : ℕ → ℕ) (J I : Jobs) (h : Turn (J .n) π σ) (s : SameJobs π J I) → Alike (J .n) σ (Applies I) (Applies J)
+pub alike-back : (π σ : ℕ → ℕ) (J I : Jobs) (h : Permutes (J .n) π σ) (s : SameJobs π J I) → Alike (J .n) σ (Applies I) (Applies J)
 alike-back π σ J I h s =
     subst (λ (m : ℕ). Alike m σ (Applies I) (Applies J)) (s .count)
     (alike σ π I J (turn-count (J .n) (I .n) σ π (s .count) (turned (J .n) π σ h)) (jobs-back π σ J I h s))

@@ -4,7 +4,7 @@ use Prim.Native.Nat.{ℕ, _≤_}
 use mathlib.Core.Path.{_≡_, refl, ap}
 use mathlib.Core.List.{List, [], _∷_}
 use lib.ListN.{length}
-use Rattle.lists.specs.Turns.{Turn, SameList}
+use Rattle.lists.specs.Permutations.{Permutes, SameList}
 use Rattle.narrowing.specs.Renumbered.{SameWin}
 use Rattle.answers.specs.Said.{Word, said}
 use Rattle.joblist.specs.Limits.{jobs, supply}
@@ -17,7 +17,7 @@ use Rattle.timetable.specs.Reordered.{SameCall}
 use Rattle.timetable.proofs.Order.{SameJobs, alike, alike-back}
 use Rattle.timetable.proofs.Meaning.{by-rules}
 
-module _ (π σ : ℕ → ℕ) (c d : Call) (t : Turn (jobs (c .win)) π σ) (s : SameCall π c d) where
+module _ (π σ : ℕ → ℕ) (c d : Call) (t : Permutes (jobs (c .win)) π σ) (s : SameCall π c d) where
   same-jobs : SameJobs π (jobsOf c) (jobsOf d)
   same-jobs = record { count = s .count; supply = s .supply; lasts = s .lasts; takes = s .takes }
 

@@ -3,7 +3,7 @@
 use Prim.Native.Nat.{ℕ}
 use mathlib.Core.Path.{_≡_}
 use lib.ListN.{length}
-use Rattle.lists.specs.Turns.{SameList}
+use Rattle.lists.specs.Permutations.{SameList}
 use Rattle.narrowing.specs.Renumbered.{SameWin}
 use Rattle.joblist.specs.Limits.{jobs}
 use Rattle.timetable.specs.Table.{Call}

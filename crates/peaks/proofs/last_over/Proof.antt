@@ -25,7 +25,9 @@ find-requires : tie.Need-find-requires Inv-loop μ-loop
 find-requires c κs = (c .before .before .before .before .before .pre .0 .grid, omega arith)
 
 loop-holds : tie.Need-loop-holds Inv-loop μ-loop
-loop-holds c = down-start _ _ _ _ _ _ (c .before .before .before .before .before .before .pre .0) (c .before .if2 .left) (c .before .before .before .before .before .before .pre .2) _ (c .find .ensures)
+loop-holds c =
+    let p = c .before .before .before .before .before .before .pre in
+    down-start _ _ _ _ _ _ (p .0) (c .before .if2 .left) (p .2) _ (c .find .ensures)
 
 mul-if3 : tie.Need-mul-if3 Inv-loop μ-loop
 mul-if3 c = search needs

@@ -15,7 +15,9 @@ returns : tie.Need-returns
 returns c = rw (not-true (atMost mostDemand (c .before .before .before .args .dem .now)) (sym (c .before .above .ensures) ∙ c .if1 .taken))
 
 returns-2 : tie.Need-returns-2
-returns-2 c = rw (not-false (atMost mostDemand (c .before .before .before .args .dem .now)) (sym (c .before .above .ensures) ∙ c .if1 .left)) (above-not mostDemand (c .before .before .before .args .cap))
+returns-2 c =
+    let a = c .before .before .before .args in
+    rw (not-false (atMost mostDemand (a .dem .now)) (sym (c .before .above .ensures) ∙ c .if1 .left)) (above-not mostDemand (a .cap))
 
 pub overdrawn-spec : {M : Type 1} → statement M
 overdrawn-spec = tie.close (tie.spec above-requires returns returns-2)

@@ -5,7 +5,7 @@ use mathlib.Core.List.{List}
 use Rattle.lists.specs.Lists.{_!_}
 
 -- π is a permutation of the numbers below n, and σ its inverse
-pub record Turn (n : ℕ) (π σ : ℕ → ℕ) : Type 0 where
+pub record Permutes (n : ℕ) (π σ : ℕ → ℕ) : Type 0 where
   pub into : (k : ℕ) → k < n → π k < n
   pub onto : (k : ℕ) → k < n → σ k < n
   pub there : (k : ℕ) → k < n → σ (π k) ≡ k
