@@ -36,11 +36,13 @@ fn accept(
     heads: &mut [u32; screen::MOST_JOBS],
     tails: &mut [u32; screen::MOST_JOBS],
 ) -> Parsed
-    requires { ⌜ ((r : Read Project) × (q : List ℕ) × ParsedSays r (now text) resource (now dur) q parsed) × (length (now dur) ≡ mostJobs) × (now heads ≡ replicate mostJobs 0) × (now tails ≡ replicate mostJobs 0) ⌝ }
+    requires { ⌜ ((r : Read Project) × (q : List ℕ) × ParsedSays r (now text) resource (now dur) q parsed)
+        × (length (now dur) ≡ mostJobs) × (now heads ≡ replicate mostJobs 0) × (now tails ≡ replicate mostJobs 0) ⌝ }
     requires { ⌜ ((j : ℕ) → now dur ! j ≤ mostTime) ⌝ }
     ensures { λ a. ⌜ ((r : Read Project) (q : List ℕ) → ParsedSays r (now (text .entry)) resource (now (dur .entry)) q parsed → (L : Lent) → LongAs L sizes → DecidedSays
         (record { text = r; resource = resource; horizon = horizon; lent = L }) (now (text .entry))
-        (record { heads = now (heads .exit); tails = now (tails .exit); dur = now (dur .entry); dem = q }) a) × (length (now (heads .exit)) ≡ mostJobs) × (length (now (tails .exit)) ≡ mostJobs) ⌝ }
+        (record { heads = now (heads .exit); tails = now (tails .exit); dur = now (dur .entry); dem = q }) a)
+        × (length (now (heads .exit)) ≡ mostJobs) × (length (now (tails .exit)) ≡ mostJobs) ⌝ }
 {
     if screen::MOST_TIME < horizon {
         return Parsed::Refused(31);
@@ -66,7 +68,8 @@ fn accept(
 
 // Whether a text of the Patterson layout is taken, for one resource (from 0) and a horizon, with lent lists of these lengths.
 pub fn decide_patterson(text: &[u8], resource: u32, horizon: u32, sizes: Sizes) -> Decided
-    ensures { λ a. ⌜ ((L : Lent) → LongAs L sizes → DecidedSays (record { text = patterson (now (text .entry)); resource = resource; horizon = horizon; lent = L }) (now (text .entry)) (a .draft) (a .parsed)) × Drafted (a .draft) ⌝ }
+    ensures { λ a. ⌜ ((L : Lent) → LongAs L sizes → DecidedSays
+        (record { text = patterson (now (text .entry)); resource = resource; horizon = horizon; lent = L }) (now (text .entry)) (a .draft) (a .parsed)) × Drafted (a .draft) ⌝ }
 {
     let mut dur = [0u32; screen::MOST_JOBS];
     let mut dem = [0u32; screen::MOST_JOBS];
@@ -94,7 +97,8 @@ pub fn decide_patterson(text: &[u8], resource: u32, horizon: u32, sizes: Sizes) 
 
 // The same of a text of the PSPLIB layout.
 pub fn decide_psplib(text: &[u8], resource: u32, horizon: u32, sizes: Sizes) -> Decided
-    ensures { λ a. ⌜ ((L : Lent) → LongAs L sizes → DecidedSays (record { text = psplib (now (text .entry)); resource = resource; horizon = horizon; lent = L }) (now (text .entry)) (a .draft) (a .parsed)) × Drafted (a .draft) ⌝ }
+    ensures { λ a. ⌜ ((L : Lent) → LongAs L sizes → DecidedSays
+        (record { text = psplib (now (text .entry)); resource = resource; horizon = horizon; lent = L }) (now (text .entry)) (a .draft) (a .parsed)) × Drafted (a .draft) ⌝ }
 {
     let mut dur = [0u32; screen::MOST_JOBS];
     let mut dem = [0u32; screen::MOST_JOBS];

@@ -75,8 +75,10 @@ pub fn fill(
     dur: &mut [u32],
     dem: &mut [u32],
 )
-    requires { ⌜ Drafted draft × ((j : ℕ) → draft .tails ! j ≤ h) × (length (now est) ≤ mostJobs) × (length (now lct) ≤ mostJobs) × (length (now dur) ≤ mostJobs) × (length (now dem) ≤ mostJobs) ⌝ }
-    ensures { λ _. ⌜ FilledFrom draft h (now (est .entry)) (now (lct .entry)) (now (dur .entry)) (now (dem .entry)) (now (est .exit)) (now (lct .exit)) (now (dur .exit)) (now (dem .exit)) ⌝ }
+    requires { ⌜ Drafted draft × ((j : ℕ) → draft .tails ! j ≤ h)
+        × (length (now est) ≤ mostJobs) × (length (now lct) ≤ mostJobs) × (length (now dur) ≤ mostJobs) × (length (now dem) ≤ mostJobs) ⌝ }
+    ensures { λ _. ⌜ FilledFrom draft h (now (est .entry)) (now (lct .entry)) (now (dur .entry)) (now (dem .entry))
+        (now (est .exit)) (now (lct .exit)) (now (dur .exit)) (now (dem .exit)) ⌝ }
 {
     let heads = draft.heads;
     let tails = draft.tails;

@@ -1,4 +1,5 @@
--- What the rounds over a text's pairs say, and refusals 33 and 34 of document 02, Item 1, and the longest chains where neither is given: number 0 stands for none.
+-- What the rounds over a text's pairs say; and refusals 33 and 34 of document 02, Item 1, with the longest chains where neither is given: number 0
+-- stands for none.
 use Prim.Native.Nat.{ℕ, zero, suc, _+_, _≤_, _<_}
 use mathlib.Core.Path.{_≡_}
 use mathlib.Core.Bool.{Bool, true, false}

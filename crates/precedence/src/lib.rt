@@ -66,7 +66,9 @@ pub fn longest_chains(
 ) -> u32
     requires { ⌜ (n ≤ mostJobs) × (length (now dur) ≡ mostJobs) × (now heads ≡ replicate mostJobs 0) × (now tails ≡ replicate mostJobs 0) × (h ≤ mostTime) ⌝ }
     requires { ⌜ ((j : ℕ) → now dur ! j ≤ mostTime) ⌝ }
-    ensures { λ r. ⌜ ((ps : List Pair) (end : List Token) → comes n table (now (text .entry)) (rowsAt at) ≡ good ps end → Below n (Precedes ps) → OrderSays ps n (now (dur .entry)) h (now (heads .exit)) (now (tails .exit)) r) × (length (now (heads .exit)) ≡ mostJobs) × (length (now (tails .exit)) ≡ mostJobs) ⌝ }
+    ensures { λ r. ⌜ ((ps : List Pair) (end : List Token) → comes n table (now (text .entry)) (rowsAt at) ≡ good ps end → Below n (Precedes ps)
+        → OrderSays ps n (now (dur .entry)) h (now (heads .exit)) (now (tails .exit)) r)
+        × (length (now (heads .exit)) ≡ mostJobs) × (length (now (tails .exit)) ≡ mostJobs) ⌝ }
 {
     let ones = [1u32; screen::MOST_JOBS];
     let mut levels = [0u32; screen::MOST_JOBS];

@@ -18,24 +18,24 @@ use Rattle.deciding.proofs.accept.Tie as tie
 
 -- ---- behind the horizon, where the text was read
 
-abbrev Parsed-text : Type 0
-Parsed-text = tie.After-parsed2
+abbrev ReadText : Type 0
+ReadText = tie.After-parsed2
 
-abbrev started : Parsed-text → tie.Start
+abbrev started : ReadText → tie.Start
 started e = e .before .before .before .before
 
-abbrev shape : Parsed-text → Shape
+abbrev shape : ReadText → Shape
 shape e = e .parsed2 .given .0 .0
 
-near : (e : Parsed-text) → started e .args .horizon ≤ mostTime
+near : (e : ReadText) → started e .args .horizon ≤ mostTime
 near e = e .before .before .if1 .left
 
-is-read : (e : Parsed-text) → started e .args .parsed ≡ Parsed.Read (shape e)
+is-read : (e : ReadText) → started e .args .parsed ≡ Parsed.Read (shape e)
 is-read e = e .parsed2 .given .1
 
 -- ---- behind 37
 
-abbrev read-before : tie.Else2 → Parsed-text
+abbrev read-before : tie.Else2 → ReadText
 read-before e = e .before .before .before
 
 chosen : (e : tie.Else2) → started (read-before e) .args .resource < shape (read-before e) .k

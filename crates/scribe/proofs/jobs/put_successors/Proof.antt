@@ -38,13 +38,13 @@ mark-of-requires c κs = search needs
 
 -- ---- behind the choice of the byte: the start of the call, and the loop
 
-abbrev Marked-byte : Type 0
-Marked-byte = tie.After-mark-of Inv-loop μ-loop
+abbrev MarkedByte : Type 0
+MarkedByte = tie.After-mark-of Inv-loop μ-loop
 
-abbrev started : Marked-byte → tie.Start Inv-loop μ-loop
+abbrev started : MarkedByte → tie.Start Inv-loop μ-loop
 started e = e .before .before .before .before .before .before
 
-abbrev looped : Marked-byte → tie.At-loop Inv-loop μ-loop
+abbrev looped : MarkedByte → tie.At-loop Inv-loop μ-loop
 looped e = e .before .before .before
 
 put-requires : tie.Need-put-requires Inv-loop μ-loop
