@@ -60,30 +60,40 @@ returns c =
     let t = c .before .before .before .decide-psplib .ensures .0 (lists s) (record { est = refl; lct = refl; dur = refl; dem = refl; jobs = refl; successors = refl }) in
     refused-reads (asks s) _ (rw (c .before .parsed .given .1) at t)
 
+-- ---- where the lists are written
+
+abbrev Written : Type 0
+Written = tie.After-write-pairs
+
+abbrev filled : Written → tie.After-fill
+filled w = w .before .before .before .before .before .before .before .before .before .before .before
+
+abbrev decided : Written → tie.After-parsed2
+decided w = filled w .before .before .before .before .before .before .before
+
 same-length : tie.Need-same-length
-same-length c = search needs
+same-length c = filled (c .before .before .before .before) .fill .kept .1 .1 .0
 
 same-length-2 : tie.Need-same-length-2
-same-length-2 c = search needs
+same-length-2 c = filled (c .before .before .before .before) .fill .kept .1 .1 .1 .0
 
 same-length-3 : tie.Need-same-length-3
-same-length-3 c = search needs
+same-length-3 c = filled (c .before .before .before .before) .fill .kept .1 .1 .1 .1 .0
 
 same-length-4 : tie.Need-same-length-4
-same-length-4 c = search needs
+same-length-4 c = filled (c .before .before .before .before) .fill .kept .1 .1 .1 .1 .1 .0
 
 same-length-5 : tie.Need-same-length-5
-same-length-5 c = search needs
+same-length-5 c = c .before .before .before .before .write-pairs .kept .1 .1 .1 .1 .0
 
 same-length-6 : tie.Need-same-length-6
-same-length-6 c = search needs
+same-length-6 c = c .before .before .before .before .write-pairs .kept .1 .1 .1 .1 .1 .0
 
 returns-2 : tie.Need-returns-2
 returns-2 c =
-    let written = c .before .before .before .before in
-    let filled = written .before .before .before .before .before .before .before .before .before .before .before in
-    let e = filled .before .before .before .before .before .before .before in
-    taken _ _ _ _ (accepted e) _ (e .before .before .decide-psplib .ensures .1) (filled .fill .ensures) (written .write-pairs .ensures)
+    let w = c .before .before .before .before in
+    let e = decided w in
+    taken _ _ _ _ (accepted e) _ (e .before .before .decide-psplib .ensures .1) (filled w .fill .ensures) (w .write-pairs .ensures)
 
 pub read-psplib-spec : {M : Type 1} → statement M
 read-psplib-spec =
