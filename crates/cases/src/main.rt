@@ -1,9 +1,11 @@
 // Writes the runs on the record (document 01, 'Runs on the record'), cases 1 to 13, a line for each run in the text's
 // order: the case number, the answer word and its numbers, and for narrowing each job's earliest start and latest
 // end, then the words of the counted records.
+mod run;
+
 use logbook::RECORD;
-use runs::narrow_line;
-use runs::overload_line;
+use run::narrow_line;
+use run::overload_line;
 ghost use Prim.Native.Nat.{_<_};
 ghost use lib.ListN.{length};
 

@@ -8,6 +8,11 @@ use requests::JOBS;
 use requests::Task;
 ghost use mathlib.Core.Path.{_≡_};
 ghost use lib.ListN.{length};
+ghost use Rattle.answers.specs.Said.{Said};
+ghost use Rattle.desk.specs.Lists.{win};
+ghost use Rattle.desk.specs.Overloads.{Overloads};
+ghost use Rattle.printing.specs.Sayings.{Tells};
+ghost use Rattle.packed.specs.Packed.{listOf};
 
 // Room for a list of jobs. The `ensures` gives only the length, which lending the array as a slice needs.
 fn room() -> [u32; JOBS]
@@ -60,7 +65,9 @@ pub fn narrow_or_check(words: &mut [u32], task: Task, cap: u32, count: usize) ->
 }
 
 // overload est lct dur
-pub fn overload(words: &[u32]) -> Saying {
+pub fn overload(words: &[u32]) -> Saying
+    ensures { λ r. ⌜ ((a : Said) × Tells r a × Overloads (win (listOf (now (words .entry)) 0) (listOf (now (words .entry)) 1)) (listOf (now (words .entry)) 2) a) ⌝ }
+{
     let est = packed::list(words, 0);
     let lct = packed::list(words, 1);
     let dur = packed::list(words, 2);

@@ -7,45 +7,39 @@ use answers::CheckAnswer;
 use answers::OverloadAnswer;
 use answers::ReadAnswer;
 use answers::WriteAnswer;
+ghost use mathlib.Core.Path.{_≡_};
+ghost use mathlib.Core.List.{[], _∷_};
 ghost use Prim.Native.Nat.{_<_};
 ghost use lib.ListN.{length};
+ghost use Rattle.answers.specs.Said.{says, saysCheck, saysOverload, saysRead, saysWrite};
+ghost use Rattle.printing.specs.Sayings.{numbersOf, Tells};
 
-// The most letters of a word.
-const LETTERS: usize = 10;
-
-// The answer words of documents 01 and 02, and two of the programs' own: that a record is shown, and that a line cannot be read. Each is filled up with
-// spaces.
-const SETTLED: [u8; LETTERS] = *b"settled   ";
-
-const CLASH: [u8; LETTERS] = *b"clash     ";
-
-pub const REFUSED: [u8; LETTERS] = *b"refused   ";
-
-const HOLDS: [u8; LETTERS] = *b"holds     ";
-
-const REJECTED: [u8; LETTERS] = *b"rejected  ";
-
-const NONE: [u8; LETTERS] = *b"none      ";
-
-const OVERLOAD: [u8; LETTERS] = *b"overload  ";
-
-const READ: [u8; LETTERS] = *b"read      ";
-
-const WRITTEN: [u8; LETTERS] = *b"written   ";
-
-pub const RECORD: [u8; LETTERS] = *b"record    ";
-
-pub const UNREADABLE: [u8; LETTERS] = *b"unreadable";
+// The answer words of documents 01 and 02, and two of the programs' own: that a record is shown, and that a line cannot be read.
+pub enum Word {
+    Settled,
+    Clash,
+    Refused,
+    Holds,
+    Rejected,
+    None,
+    Overload,
+    Read,
+    Written,
+    Record,
+    Unreadable,
+}
 
 // A word, how many numbers stand behind it, at most two, and these.
 pub struct Saying {
-    pub word: [u8; LETTERS],
+    pub word: Word,
     pub count: u32,
     pub first: u64,
     pub second: u64,
 }
 
-pub fn bare(word: [u8; LETTERS]) -> Saying {
+pub fn bare(word: Word) -> Saying
+    ensures { λ r. ⌜ (r .word ≡ word) × (numbersOf r ≡ []) ⌝ }
+{
     Saying {
         word,
         count: 0,
@@ -54,7 +48,9 @@ pub fn bare(word: [u8; LETTERS]) -> Saying {
     }
 }
 
-fn one(word: [u8; LETTERS], n: u64) -> Saying {
+fn one(word: Word, n: u64) -> Saying
+    ensures { λ r. ⌜ (r .word ≡ word) × (numbersOf r ≡ n ∷ []) ⌝ }
+{
     Saying {
         word,
         count: 1,
@@ -63,7 +59,9 @@ fn one(word: [u8; LETTERS], n: u64) -> Saying {
     }
 }
 
-fn two(word: [u8; LETTERS], n: u64, m: u64) -> Saying {
+fn two(word: Word, n: u64, m: u64) -> Saying
+    ensures { λ r. ⌜ (r .word ≡ word) × (numbersOf r ≡ n ∷ m ∷ []) ⌝ }
+{
     Saying {
         word,
         count: 2,
@@ -72,42 +70,72 @@ fn two(word: [u8; LETTERS], n: u64, m: u64) -> Saying {
     }
 }
 
-pub fn narrowing(a: Answer) -> Saying {
+pub fn narrowing(a: Answer) -> Saying
+    ensures { λ r. ⌜ Tells r (says a) ⌝ }
+{
     match a {
-        Answer::Settled(count) => one(SETTLED, count as u64),
-        Answer::Clash(count, job) => two(CLASH, count as u64, job as u64),
-        Answer::Refused(number) => one(REFUSED, number as u64),
+        Answer::Settled(count) => one(Word::Settled, count as u64),
+        Answer::Clash(count, job) => two(Word::Clash, count as u64, job as u64),
+        Answer::Refused(number) => one(Word::Refused, number as u64),
     }
 }
 
-pub fn checking(a: CheckAnswer) -> Saying {
+pub fn checking(a: CheckAnswer) -> Saying
+    ensures { λ r. ⌜ Tells r (saysCheck a) ⌝ }
+{
     match a {
-        CheckAnswer::Holds(count) => one(HOLDS, count as u64),
-        CheckAnswer::Clash(count, job) => two(CLASH, count as u64, job as u64),
-        CheckAnswer::Rejected(place, code) => two(REJECTED, place as u64, code as u64),
-        CheckAnswer::Refused(number) => one(REFUSED, number as u64),
+        CheckAnswer::Holds(count) => one(Word::Holds, count as u64),
+        CheckAnswer::Clash(count, job) => two(Word::Clash, count as u64, job as u64),
+        CheckAnswer::Rejected(place, code) => two(Word::Rejected, place as u64, code as u64),
+        CheckAnswer::Refused(number) => one(Word::Refused, number as u64),
     }
 }
 
-pub fn overloading(a: OverloadAnswer) -> Saying {
+pub fn overloading(a: OverloadAnswer) -> Saying
+    ensures { λ r. ⌜ Tells r (saysOverload a) ⌝ }
+{
     match a {
-        OverloadAnswer::None => bare(NONE),
-        OverloadAnswer::Overload(a, b) => two(OVERLOAD, a as u64, b as u64),
-        OverloadAnswer::Refused(number) => one(REFUSED, number as u64),
+        OverloadAnswer::None => bare(Word::None),
+        OverloadAnswer::Overload(a, b) => two(Word::Overload, a as u64, b as u64),
+        OverloadAnswer::Refused(number) => one(Word::Refused, number as u64),
     }
 }
 
-pub fn reading(a: ReadAnswer) -> Saying {
+pub fn reading(a: ReadAnswer) -> Saying
+    ensures { λ r. ⌜ Tells r (saysRead a) ⌝ }
+{
     match a {
-        ReadAnswer::Read(capacity, pairs) => two(READ, capacity as u64, pairs as u64),
-        ReadAnswer::Refused(number) => one(REFUSED, number as u64),
+        ReadAnswer::Read(capacity, pairs) => two(Word::Read, capacity as u64, pairs as u64),
+        ReadAnswer::Refused(number) => one(Word::Refused, number as u64),
     }
 }
 
-pub fn writing(a: WriteAnswer) -> Saying {
+pub fn writing(a: WriteAnswer) -> Saying
+    ensures { λ r. ⌜ Tells r (saysWrite a) ⌝ }
+{
     match a {
-        WriteAnswer::Written(bytes) => one(WRITTEN, bytes as u64),
-        WriteAnswer::Refused(number) => one(REFUSED, number as u64),
+        WriteAnswer::Written(bytes) => one(Word::Written, bytes as u64),
+        WriteAnswer::Refused(number) => one(Word::Refused, number as u64),
+    }
+}
+
+// The most letters of a word.
+const LETTERS: usize = 10;
+
+// A word's letters, filled up with spaces.
+fn spelled(word: Word) -> [u8; LETTERS] {
+    match word {
+        Word::Settled => *b"settled   ",
+        Word::Clash => *b"clash     ",
+        Word::Refused => *b"refused   ",
+        Word::Holds => *b"holds     ",
+        Word::Rejected => *b"rejected  ",
+        Word::None => *b"none      ",
+        Word::Overload => *b"overload  ",
+        Word::Read => *b"read      ",
+        Word::Written => *b"written   ",
+        Word::Record => *b"record    ",
+        Word::Unreadable => *b"unreadable",
     }
 }
 
@@ -128,7 +156,9 @@ pub fn say(sink: &mut [u8], at: usize, s: Saying) -> usize
     requires { ⌜ at < length (now sink) ⌝ }
     ensures { λ r. ⌜ r < length (now (sink .entry)) ⌝ }
 {
-    let behind = letters(sink, at, &s.word);
+    let said = s.word;
+    let word = spelled(said);
+    let behind = letters(sink, at, &word);
     if s.count == 0 {
         return behind;
     }

@@ -13,7 +13,9 @@
 // `unreadable` where the line has any other form.
 //
 // The lists of a line stand packed in one lent list of words, as the line has them, and a call changes them there: so what is
-// written behind an answer are stretches of these words (the crates `requests` and `replies`).
+// written behind an answer are stretches of these words (`replies`).
+mod replies;
+
 use intake::Cursor;
 use intake::next_line;
 use replies::reply;

@@ -1,11 +1,11 @@
--- `runs::windows` is safe and ends. The loop's invariant: the place lies within the sink, which stays as long as it was.
+-- `cases::run::windows` is safe and ends. The loop's invariant: the place lies within the sink, which stays as long as it was.
 -- The measure is the number of jobs that are left. Assumes nothing.
 use mathlib.Core.Path.{_≡_}
 use Prim.Native.Nat.{_<_, _-_}
 use lib.ListN.{length}
 use borrow.Author.Needs.{needs}
-use Rattle.runs.proofs.windows.Statement.{statement}
-use Rattle.runs.proofs.windows.Tie as tie
+use Rattle.cases.proofs.run.windows.Statement.{statement}
+use Rattle.cases.proofs.run.windows.Tie as tie
 
 abbrev Inv-loop : tie.InvT-loop
 Inv-loop sink₀ at est lct next₀ i₀ sink next i = (length sink ≡ length sink₀) × (next < length sink)

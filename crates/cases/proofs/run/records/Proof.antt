@@ -1,11 +1,11 @@
--- `runs::records` is safe and ends. The loop's invariant: the place lies within the sink, which stays as long as it was.
+-- `cases::run::records` is safe and ends. The loop's invariant: the place lies within the sink, which stays as long as it was.
 -- The measure is the number of records that are left. Assumes nothing.
 use mathlib.Core.Path.{_≡_}
 use Prim.Native.Nat.{_<_, _-_}
 use lib.ListN.{length}
 use borrow.Author.Needs.{needs}
-use Rattle.runs.proofs.records.Statement.{statement}
-use Rattle.runs.proofs.records.Tie as tie
+use Rattle.cases.proofs.run.records.Statement.{statement}
+use Rattle.cases.proofs.run.records.Tie as tie
 
 abbrev Inv-loop : tie.InvT-loop
 Inv-loop sink₀ at log count next₀ k₀ sink next k = (length sink ≡ length sink₀) × (next < length sink)

@@ -1,4 +1,4 @@
--- `runs::column` is safe and ends. The loop's invariant: no more jobs are counted than a run has, and the words are as many as they were. The
+-- `cases::run::column` is safe and ends. The loop's invariant: no more jobs are counted than a run has, and the words are as many as they were. The
 -- measure is how many jobs may still be counted. Assumes nothing.
 use mathlib.Core.Path.{_≡_}
 use Prim.Native.Nat.{_≤_, _-_}
@@ -6,8 +6,8 @@ use native.Mathlib.Omega.{arith}
 use borrow.Author.Tests.{ltb-true}
 use lib.ListN.{length}
 use borrow.Author.Needs.{needs}
-use Rattle.runs.proofs.column.Statement.{statement}
-use Rattle.runs.proofs.column.Tie as tie
+use Rattle.cases.proofs.run.column.Statement.{statement}
+use Rattle.cases.proofs.run.column.Tie as tie
 
 abbrev Inv-loop : tie.InvT-loop
 Inv-loop words₀ at jobs width place next₀ n₀ i₀ words next n i = (n ≤ 257) × (length words ≡ length words₀)

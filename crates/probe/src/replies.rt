@@ -2,9 +2,8 @@
 // what it says goes into the sink, from its first byte on, and behind it the lists that the call may change, as they are afterwards
 // (independent/README.md has the form).
 use forms::Line;
-use printing::said::RECORD;
 use printing::said::Saying;
-use printing::said::UNREADABLE;
+use printing::said::Word;
 use printing::said::bare;
 use requests::Call;
 use requests::Task;
@@ -16,10 +15,10 @@ fn made(call: Call, line: Line, words: &mut [u32], text: &mut [u8]) -> Saying {
     let long = line.long as usize;
     match call {
         Call::Jobs(task) => jobcalls::narrow_or_check(words, task, first, long),
-        Call::Record => bare(RECORD),
+        Call::Record => bare(Word::Record),
         Call::Overload => jobcalls::overload(words),
         Call::Read(layout) => {
-            let task = readers::Task {
+            let task = projectcalls::Reading {
                 layout,
                 resource: first,
                 horizon: line.second,
@@ -27,7 +26,7 @@ fn made(call: Call, line: Line, words: &mut [u32], text: &mut [u8]) -> Saying {
             projectcalls::read(words, task, text)
         }
         Call::Write => projectcalls::write(words, first, text),
-        Call::Unknown => bare(UNREADABLE),
+        Call::Unknown => bare(Word::Unreadable),
     }
 }
 

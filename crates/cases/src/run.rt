@@ -2,10 +2,9 @@
 // earliest start and latest end, then the words of the counted records.
 //
 // Jobs are given as the text writes them, one after the other: e, l, p and, for narrowing, r. The call is made over packed lists, as `probe` makes it.
-use check::same;
 use packed::list;
-use printing::said::REFUSED;
 use printing::said::Saying;
+use printing::said::Word;
 use printing::said::say;
 use requests::Task;
 ghost use Prim.Native.Nat.{_≤_, _<_};
@@ -71,7 +70,8 @@ fn windows(sink: &mut [u8], at: usize, est: &[u32], lct: &[u32]) -> usize
 
 // The records that narrowing counts; a refusal counts none.
 fn counted(says: Saying) -> usize {
-    if same(&says.word, &REFUSED) {
+    let word = says.word;
+    if let Word::Refused = word {
         return 0;
     }
     says.first as usize
