@@ -14,6 +14,11 @@ const ONE: u32 = RECORD as u32;
 
 const USUAL: u32 = 8 * ONE;
 
+// The numbers of as many jobs as a list may have, and of one more.
+const FULL: usize = 4 * screen::MOST_JOBS;
+
+const OVERFULL: usize = FULL + 4;
+
 fn narrow_usual(case: u64, cap: u32, jobs: &[u32]) {
     narrow_line(case, cap, jobs, USUAL);
 }
@@ -57,9 +62,9 @@ fn many_line(jobs: &mut [u32], last: u32)
 }
 
 fn case_13() {
-    many_line(&mut [0; 4 * 256], 1);
-    many_line(&mut [0; 4 * 257], 1);
-    many_line(&mut [0; 4 * 257], 1000001);
+    many_line(&mut [0; FULL], 1);
+    many_line(&mut [0; OVERFULL], 1);
+    many_line(&mut [0; OVERFULL], 1000001);
     narrow_usual(13, 1, &[0, 1000000, 1, 1]);
     narrow_usual(13, 1, &[0, 1000001, 1, 1]);
     narrow_usual(13, 10000, &[]);

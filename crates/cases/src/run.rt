@@ -10,11 +10,11 @@ use requests::Task;
 ghost use Prim.Native.Nat.{_≤_, _<_};
 ghost use lib.ListN.{length};
 
-// The most jobs of a run.
-const JOBS: u32 = 257;
+// The most jobs of a run: one more than a list may have.
+const JOBS: u32 = screen::MOST_JOBS as u32 + 1;
 
 // The most words of its lists: four of jobs and a log of eight records, each behind its length.
-const WORDS: usize = 1129;
+const WORDS: usize = 4 * (screen::MOST_JOBS + 2) + 8 * logbook::RECORD + 1;
 
 // The bytes that wait for a write.
 const PART: usize = 4096;

@@ -1,19 +1,20 @@
 -- `cases::run::column` is safe and ends. The loop's invariant: no more jobs are counted than a run has, and the words are as many as they were. The
 -- measure is how many jobs may still be counted. Assumes nothing.
 use mathlib.Core.Path.{_≡_}
-use Prim.Native.Nat.{_≤_, _-_}
+use Prim.Native.Nat.{_≤_, _+_, _-_}
 use native.Mathlib.Omega.{arith}
 use borrow.Author.Tests.{ltb-true}
 use lib.ListN.{length}
 use borrow.Author.Needs.{needs}
+use Rattle.joblist.specs.Limits.{mostJobs}
 use Rattle.cases.proofs.run.column.Statement.{statement}
 use Rattle.cases.proofs.run.column.Tie as tie
 
 abbrev Inv-loop : tie.InvT-loop
-Inv-loop words₀ at jobs width place next₀ n₀ i₀ words next n i = (n ≤ 257) × (length words ≡ length words₀)
+Inv-loop words₀ at jobs width place next₀ n₀ i₀ words next n i = (n ≤ mostJobs + 1) × (length words ≡ length words₀)
 
 abbrev μ-loop : tie.MeasureT-loop
-μ-loop words₀ at jobs width place next₀ n₀ i₀ words next n i = 257 - n
+μ-loop words₀ at jobs width place next₀ n₀ i₀ words next n i = mostJobs + 1 - n
 
 put-requires : tie.Need-put-requires Inv-loop μ-loop
 put-requires c κs = search needs
