@@ -1,18 +1,17 @@
 -- A text read whole: from its opening and its rows to the project.
 use Prim.Native.Nat.{ℕ, _-_, _≤_}
 use native.Mathlib.Omega.{arith}
-use mathlib.Core.Path.{_≡_, refl, sym, ap, _∙_, subst}
+use mathlib.Core.Path.{_≡_, refl, sym, ap, _∙_}
 use mathlib.Core.Bool.{true, false}
-use mathlib.Core.List.{List, [], _∷_, _++_}
+use mathlib.Core.List.{List, [], _∷_}
 use lib.ListN.{length, drop, take, length-map}
 use lib.Seq.{length-take-le}
 use Rattle.joblist.specs.Limits.{mostJobs}
 use Rattle.chains.specs.Paths.{Precedes, Below}
 use Rattle.texts.specs.Tokens.{Token, tokens}
-use Rattle.texts.specs.Readings.{Read, bad, good, andThen, inTurn}
+use Rattle.texts.specs.Readings.{Read, bad, good}
 use Rattle.scanner.specs.Scan.{none?}
-use Rattle.texts.proofs.Readings.{bad-not-good, good-one}
-use Rattle.projects.specs.Projects.{Row, Project, link, tagged, pairsFrom, pairsOf, durations, demandsOn, WithinLimits}
+use Rattle.projects.specs.Projects.{Row, Project, pairsFrom, pairsOf, durations}
 use Rattle.projects.specs.Patterson.{row, opening, project, patterson}
 use Rattle.rowheads.specs.Heads.{headIn, rowIn}
 use Rattle.walking.specs.Walk.{Seen, seeing, WalkedSays}
@@ -95,8 +94,3 @@ module _ (s : List ℕ) (res : ℕ) (durs dems : List ℕ) (z : Shape) (x : Proj
 
   pub parsing-few : z .n ≤ mostJobs
   parsing-few = omega (arith, p .jobs, p .limits .few)
-
-pub parsed-within : (r : Read Project) (s : List ℕ) (res : ℕ) (durs dems : List ℕ) (p : Parsed) → ParsedSays r s res durs dems p
-    → (x : Project) (rest : List Token) → r ≡ good x rest → WithinLimits x
-parsed-within r s res durs dems (Parsed.Read z) t x rest e = subst WithinLimits (good-one r (t .0) x [] rest (t .1) e .0) (t .2 .limits)
-parsed-within r s res durs dems (Parsed.Refused c) t x rest e = bad-not-good r c x rest (t .0) e
