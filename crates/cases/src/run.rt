@@ -3,10 +3,10 @@
 //
 // Jobs are given as the text writes them, one after the other: e, l, p and, for narrowing, r. The call is made over packed lists, as `probe` makes it.
 use packed::list;
-use printing::said::Saying;
-use printing::said::Word;
-use printing::said::say;
 use requests::Task;
+use sayings::Saying;
+use sayings::Word;
+use sayings::say;
 ghost use Prim.Native.Nat.{_≤_, _<_};
 ghost use lib.ListN.{length};
 

@@ -1,17 +1,17 @@
 // The calls over a job list: narrowing, the check of a log, and the overload check, made over the lists of a line, which stand packed in lent words.
 // Each call changes its lists there; the result is what it says.
-use printing::said::Saying;
-use printing::said::checking;
-use printing::said::narrowing;
-use printing::said::overloading;
 use requests::JOBS;
 use requests::Task;
+use sayings::Saying;
+use sayings::checking;
+use sayings::narrowing;
+use sayings::overloading;
 ghost use mathlib.Core.Path.{_≡_};
 ghost use lib.ListN.{length};
 ghost use Rattle.answers.specs.Said.{Said};
 ghost use Rattle.desk.specs.Lists.{win};
 ghost use Rattle.desk.specs.Overloads.{Overloads};
-ghost use Rattle.printing.specs.Sayings.{Tells};
+ghost use Rattle.sayings.specs.Sayings.{Tells};
 ghost use Rattle.packed.specs.Packed.{listOf};
 
 // Room for a list of jobs. The `ensures` gives only the length, which lending the array as a slice needs.

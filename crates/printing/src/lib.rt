@@ -3,8 +3,6 @@
 // The bytes wait in a sink that the caller lends, in its first `at` bytes, until it is full or flushed.
 // Each function puts more there and answers the new `at`. A full sink is written out at once, so
 // `at` always lies within it.
-pub mod said;
-
 use libc::STDOUT_FILENO;
 ghost use mathlib.Core.Path.{_≡_};
 ghost use Prim.Native.Nat.{_<_};

@@ -2,11 +2,11 @@
 // what it says goes into the sink, from its first byte on, and behind it the lists that the call may change, as they are afterwards
 // (independent/README.md has the form).
 use forms::Line;
-use printing::said::Saying;
-use printing::said::Word;
-use printing::said::bare;
 use requests::Call;
 use requests::Task;
+use sayings::Saying;
+use sayings::Word;
+use sayings::bare;
 ghost use Prim.Native.Nat.{_<_};
 ghost use lib.ListN.{length};
 
@@ -61,7 +61,7 @@ pub fn reply(sink: &mut [u8], call: Call, line: Line, words: &mut [u32], text: &
     ensures { λ r. ⌜ r < length (now (sink .entry)) ⌝ }
 {
     let says = made(call, line, words, text);
-    let said = printing::said::say(sink, 0, says);
+    let said = sayings::say(sink, 0, says);
     let end = packed::start(words, lists(call));
     let behind = printing::numbers(sink, said, &words[..end]);
     rest(sink, behind, call, line.long as usize, words, text)

@@ -2,17 +2,17 @@
 // Patterson layout (Item 13). They are made over the lists of a line, which stand packed in lent words. Each call changes its lists there; the
 // result is what it says.
 use answers::ReadAnswer;
-use printing::said::Saying;
-use printing::said::reading;
-use printing::said::writing;
 use requests::JOBS;
 use requests::Layout;
 use requests::PAIRS;
+use sayings::Saying;
+use sayings::reading;
+use sayings::writing;
 ghost use mathlib.Core.Path.{_≡_};
 ghost use lib.ListN.{length};
 ghost use Rattle.answers.specs.Said.{Said};
 ghost use Rattle.desk.specs.Writing.{Writes};
-ghost use Rattle.printing.specs.Sayings.{Tells};
+ghost use Rattle.sayings.specs.Sayings.{Tells};
 ghost use Rattle.packed.specs.Packed.{listOf};
 
 // What a reader is asked: the layout and the two numbers.

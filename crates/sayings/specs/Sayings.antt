@@ -6,8 +6,8 @@ use mathlib.Core.Option.{Option, none, some}
 use lib.ListN.{take}
 use Rattle.answers.specs.Said.{Said}
 use Rattle.answers.specs.Said as answers
-use Rattle.printing.specs.declared.said.Word.{Word}
-use Rattle.printing.specs.declared.said.Saying.{Saying}
+use Rattle.sayings.specs.declared.Word.{Word}
+use Rattle.sayings.specs.declared.Saying.{Saying}
 
 -- the answer word that a printed one is; the programs' own two are none
 abbrev pub answerWord : Word → Option answers.Word

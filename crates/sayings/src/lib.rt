@@ -1,18 +1,18 @@
 // The answers of the calls: the answer word, then its numbers (`answers: Said`). An answer is first made a value, whichever call gave it, and printed
 // by one function.
-use crate::byte;
-use crate::number;
 use answers::Answer;
 use answers::CheckAnswer;
 use answers::OverloadAnswer;
 use answers::ReadAnswer;
 use answers::WriteAnswer;
+use printing::byte;
+use printing::number;
 ghost use mathlib.Core.Path.{_≡_};
 ghost use mathlib.Core.List.{[], _∷_};
 ghost use Prim.Native.Nat.{_<_};
 ghost use lib.ListN.{length};
 ghost use Rattle.answers.specs.Said.{says, saysCheck, saysOverload, saysRead, saysWrite};
-ghost use Rattle.printing.specs.Sayings.{numbersOf, Tells};
+ghost use Rattle.sayings.specs.Sayings.{numbersOf, Tells};
 
 // The answer words of documents 01 and 02, and two of the programs' own: that a record is shown, and that a line cannot be read.
 pub enum Word {

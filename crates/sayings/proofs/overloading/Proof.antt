@@ -1,9 +1,9 @@
--- `printing::said::overloading` meets its contract: in each arm the word and the numbers are those of the overload check's answer.
+-- `sayings::overloading` meets its contract: in each arm the word and the numbers are those of the overload check's answer.
 use mathlib.Core.Path.{refl}
 use borrow.Author.Needs.{needs}
-use Rattle.printing.proofs.Telling.{tells}
-use Rattle.printing.proofs.said.overloading.Statement.{statement}
-use Rattle.printing.proofs.said.overloading.Tie as tie
+use Rattle.sayings.proofs.Telling.{tells}
+use Rattle.sayings.proofs.overloading.Statement.{statement}
+use Rattle.sayings.proofs.overloading.Tie as tie
 
 returns : tie.Need-returns
 returns c = rw (c .before .enum-told .given .1) (tells _ _ _ (c .bare .ensures) refl)

@@ -1,9 +1,9 @@
--- `printing::said::reading` meets its contract: in each arm the word and the numbers are those of a reader's answer.
+-- `sayings::reading` meets its contract: in each arm the word and the numbers are those of a reader's answer.
 use mathlib.Core.Path.{refl}
 use borrow.Author.Needs.{needs}
-use Rattle.printing.proofs.Telling.{tells}
-use Rattle.printing.proofs.said.reading.Statement.{statement}
-use Rattle.printing.proofs.said.reading.Tie as tie
+use Rattle.sayings.proofs.Telling.{tells}
+use Rattle.sayings.proofs.reading.Statement.{statement}
+use Rattle.sayings.proofs.reading.Tie as tie
 
 returns : tie.Need-returns
 returns c = rw (c .before .before .a .given .1) (tells _ _ _ (c .two .ensures) refl)

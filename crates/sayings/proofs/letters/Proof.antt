@@ -1,11 +1,11 @@
--- `printing::said::letters` is safe and ends. The loop's invariant: the place lies within the sink, which stays as long as it was.
+-- `sayings::letters` is safe and ends. The loop's invariant: the place lies within the sink, which stays as long as it was.
 -- The measure is what is left of the word. Assumes nothing.
 use mathlib.Core.Path.{_≡_}
 use Prim.Native.Nat.{_≤_, _<_, _-_}
 use lib.ListN.{length}
 use borrow.Author.Needs.{needs}
-use Rattle.printing.proofs.said.letters.Statement.{statement}
-use Rattle.printing.proofs.said.letters.Tie as tie
+use Rattle.sayings.proofs.letters.Statement.{statement}
+use Rattle.sayings.proofs.letters.Tie as tie
 
 abbrev Inv-loop : tie.InvT-loop
 Inv-loop sink₀ at word next₀ i₀ sink next i = (i ≤ length word) × (length sink ≡ length sink₀) × (next < length sink)

@@ -1,9 +1,9 @@
--- `printing::said::checking` meets its contract: in each arm the word and the numbers are those of the checker's answer.
+-- `sayings::checking` meets its contract: in each arm the word and the numbers are those of the checker's answer.
 use mathlib.Core.Path.{refl}
 use borrow.Author.Needs.{needs}
-use Rattle.printing.proofs.Telling.{tells}
-use Rattle.printing.proofs.said.checking.Statement.{statement}
-use Rattle.printing.proofs.said.checking.Tie as tie
+use Rattle.sayings.proofs.Telling.{tells}
+use Rattle.sayings.proofs.checking.Statement.{statement}
+use Rattle.sayings.proofs.checking.Tie as tie
 
 returns : tie.Need-returns
 returns c = rw (c .before .before .a .given .1) (tells _ _ _ (c .one .ensures) refl)
