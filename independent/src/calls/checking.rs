@@ -1,9 +1,9 @@
 //! Calls that check: the writer's own logs, foreign logs that hold or clash,
-//! and either of them with other members or records spoiled for each of the
-//! codes.
+//! and either of them with other members, with records spoiled for each of the
+//! codes, or ragged.
 
-use crate::calls::narrowing::{busy_crowds, busy_lists, ragged, words};
-use crate::calls::{faults, foreign, naming, short};
+use crate::calls::narrowing::{busy_crowds, busy_lists, words};
+use crate::calls::{faults, foreign, naming, ragged, short};
 use crate::joblist::{Supply, Times, MOST_TIME};
 use crate::lines::Call;
 use crate::random::Random;
@@ -100,6 +100,17 @@ fn claimed_of_short(random: &mut Random, records: usize, log: &[u32]) -> u64 {
     }
 }
 
+/// The count claimed for a ragged log: often none, or what its whole records
+/// come to.
+fn claimed_of_ragged(random: &mut Random, records: usize, log: &[u32]) -> u64 {
+    match random.below(8) {
+        0 => 0,
+        1..=2 => room(log) as u64,
+        3 => room(log) as u64 + 1,
+        _ => claimed(random, records, log),
+    }
+}
+
 /// Lists and the records of a log that is mostly good or has one fault, of the
 /// members named or of any other kind.
 fn logged(random: &mut Random) -> (Times, Supply, Vec<Record>) {
@@ -125,9 +136,15 @@ fn logged(random: &mut Random) -> (Times, Supply, Vec<Record>) {
 pub fn call(random: &mut Random) -> Call {
     let (mut times, mut supply, records) = logged(random);
     let mut log: Vec<u32> = records.iter().flat_map(Record::words).collect();
-    let beyond = random.pick(&[0, 0, 1, 2]) * RECORD_WORDS + ragged(random);
+    let beyond = random.pick(&[0, 0, 1, 2]) * RECORD_WORDS;
     log.extend(words(random, beyond));
     let mut count = claimed(random, records.len(), &log);
+    if ragged::is_due(random) {
+        let length = ragged::length(random, log.len());
+        log.extend(words(random, RECORD_WORDS));
+        log.truncate(length);
+        count = claimed_of_ragged(random, records.len(), &log);
+    }
     if random.one_in(10) {
         short::put(random, &mut times);
         count = claimed_of_short(random, records.len(), &log);

@@ -11,6 +11,7 @@ mod naming;
 mod narrowing;
 pub mod odd;
 mod others;
+mod ragged;
 mod shapes;
 mod short;
 pub mod sizes;

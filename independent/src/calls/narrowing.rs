@@ -1,7 +1,8 @@
-//! Calls that narrow, with a log of just the room needed, less or more.
+//! Calls that narrow, with a log of just the room needed, less or more, or a
+//! ragged one.
 
 use crate::answers::Answer;
-use crate::calls::{crowds, faults, lists, short};
+use crate::calls::{crowds, faults, lists, ragged, short};
 use crate::joblist::{Supply, Times};
 use crate::lines::Call;
 use crate::random::Random;
@@ -66,29 +67,23 @@ fn room(random: &mut Random, needed: usize) -> usize {
     }
 }
 
-/// Words beyond the last whole record.
-pub fn ragged(random: &mut Random) -> usize {
-    if random.one_in(3) {
-        random.below(RECORD_WORDS)
-    } else {
-        0
-    }
-}
-
-/// A log in which every word shows whether it was left as it was; often there
-/// is no room for a record.
+/// A log in which every word shows whether it was left as it was.
 fn full(random: &mut Random, length: usize) -> Vec<u32> {
-    let length = random.pick(&[0, RECORD_WORDS - 1, RECORD_WORDS, length, length]);
     let most = random.pick(&[3, 40, u32::MAX]);
     (0..length).map(|_| random.between(1, most)).collect()
 }
 
 pub fn call(random: &mut Random) -> Call {
     let (mut times, mut supply, records) = busy_lists(random);
-    let length = room(random, records.len()) * RECORD_WORDS + ragged(random);
+    let length = room(random, records.len()) * RECORD_WORDS;
     let mut log = words(random, length);
     if random.one_in(8) {
         short::put(random, &mut times);
+        let length = random.pick(&[0, RECORD_WORDS, length, length]);
+        log = full(random, length);
+    }
+    if ragged::is_due(random) {
+        let length = ragged::length(random, log.len());
         log = full(random, length);
     }
     if random.one_in(8) {

@@ -93,7 +93,8 @@ fn idle(jobs: usize) -> (Times, Supply) {
     (times, Supply::of_one(jobs))
 }
 
-/// Lists as long as a line may have them, and longer by one.
+/// Lists as long as a line may have them, and longer by one; a whole log is a
+/// little shorter.
 pub fn at_a_limit_of_the_line(random: &mut Random) -> Vec<u8> {
     let more = random.below(2);
     let (mut times, mut supply) = idle(LONGEST_JOB_LIST);
@@ -112,7 +113,11 @@ pub fn at_a_limit_of_the_line(random: &mut Random) -> Vec<u8> {
             supply.dem.resize(LONGEST_JOB_LIST + more, 0);
             Call::Narrow(few, supply, vec![1; RECORD_WORDS])
         }
-        10 => Call::Narrow(few, one_each, vec![0; LONGEST_LOG + more]),
+        10 => {
+            let whole = LONGEST_LOG - LONGEST_LOG % RECORD_WORDS;
+            let length = random.pick(&[whole, LONGEST_LOG + more]);
+            Call::Narrow(few, one_each, vec![7; length])
+        }
         _ => {
             let last = (LONGEST_LOG / RECORD_WORDS) as u64 - 1;
             Call::Record(last + more as u64, vec![7; LONGEST_LOG + random.below(2)])

@@ -1,7 +1,7 @@
 //! Calls that show a record and calls of the overload check.
 
 use crate::answers::Answer;
-use crate::calls::narrowing::{ragged, words};
+use crate::calls::narrowing::words;
 use crate::calls::{faults, lists, short};
 use crate::joblist::{Supply, Times};
 use crate::lines::Call;
@@ -9,10 +9,19 @@ use crate::overload;
 use crate::random::Random;
 use crate::record::RECORD_WORDS;
 
+/// Words beyond the last whole record: a ragged log is as good as others here.
+fn beyond(random: &mut Random) -> usize {
+    if random.one_in(3) {
+        random.below(RECORD_WORDS)
+    } else {
+        0
+    }
+}
+
 /// Also numbers whose product with the record's length would wrap.
 pub fn record(random: &mut Random) -> Call {
     let records = random.below(5);
-    let length = records * RECORD_WORDS + ragged(random);
+    let length = records * RECORD_WORDS + beyond(random);
     let anywhere = random.long();
     let k = match random.below(4) {
         0 => random.pick(&[1 << 32, 1 << 62, (1 << 62) + 1, 1 << 63, u64::MAX]),

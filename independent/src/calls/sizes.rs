@@ -51,8 +51,12 @@ fn spoilt(record: &Record, jobs: usize) -> Vec<Record> {
 fn run(of: &(Times, Supply), jobs: usize) -> Vec<Call> {
     let records = own_records(&of.0, &of.1).unwrap_or_default();
     let words = records.len() * RECORD_WORDS;
-    let short = words.saturating_sub(1);
-    let mut calls = vec![narrow(of, words), narrow(of, short), narrow(of, words + 13)];
+    let lengths = [
+        words,
+        words.saturating_sub(RECORD_WORDS),
+        words + RECORD_WORDS,
+    ];
+    let mut calls: Vec<Call> = lengths.map(|length| narrow(of, length)).to_vec();
     calls.push(check(of, &records));
     if let Some(last) = records.last() {
         calls.push(check(of, &[&records, &records[..1]].concat()));

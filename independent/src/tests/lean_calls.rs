@@ -135,7 +135,7 @@ const OFTEN: [(&str, usize); 15] = [
     ("narrow dropped later", 120),
     ("check other members", 70),
     ("check all members", 220),
-    ("check 20 and spare", 15),
+    ("check 20 and spare", 10),
     ("check 21 and spare", 30),
     ("check 22 and spare", 100),
     ("check 23 and spare", 15),

@@ -59,7 +59,6 @@ fn of_narrow(times: &Times, supply: &Supply, log: &[u32]) -> Vec<&'static str> {
     let without = narrow(&mut rest, &rest_supply, &mut log.to_vec());
     those(&[
         (log.is_empty(), "no log"),
-        (!log.is_empty() && room(log) == 0, "no room"),
         (room(log) > 0 && !log.contains(&0), "full log"),
         (without == Answer::Refused(5), "else 5"),
         (matches!(without, Answer::Clash(..)), "else clash"),
@@ -128,7 +127,7 @@ fn uses(line: &[u8]) -> Vec<String> {
 }
 
 /// The least number of each use.
-const OFTEN: [(&str, usize); 37] = [
+const OFTEN: [(&str, usize); 36] = [
     ("narrow clash 0", 150),
     ("narrow refused 1", 15),
     ("narrow refused 2", 3),
@@ -139,7 +138,6 @@ const OFTEN: [(&str, usize); 37] = [
     ("narrow lasts nothing", 50),
     ("narrow just fits", 90),
     ("narrow no log", 40),
-    ("narrow no room", 30),
     ("narrow full log", 60),
     ("narrow else 5", 35),
     ("narrow else clash", 12),
