@@ -1,13 +1,13 @@
 -- What a user's three functions tell, in the words of the desk's promises alone: each has the contract of the call that it makes, in every lent word, and its
 -- result exactly where that call's word is the one asked for.
-use Prim.Native.Nat.{ℕ, _<_}
+use Prim.Native.Nat.{ℕ, suc}
 use mathlib.Core.Path.{_≡_}
 use mathlib.Core.Bool.{Bool, true}
 use mathlib.Core.List.{List}
 use mathlib.Core.Logic.{_↔_}
 use Rattle.answers.specs.Said.{Word, Said}
-use Rattle.desk.specs.Lists.{Win, Long, jobs, slack, roomOf}
-use Rattle.desk.specs.Narrowing.{Call, Good, StableIn, NoneIn, leaves, Narrows}
+use Rattle.desk.specs.Lists.{Win, Long, jobs, slack}
+use Rattle.desk.specs.Narrowing.{Call, Good, RoomFor, StableIn, NoneIn, leaves, Narrows}
 use Rattle.desk.specs.Checking.{finds, Checks}
 use Rattle.desk.specs.Reading.{Lent, TextCall, windowsIn, Reads}
 
@@ -16,8 +16,8 @@ pub record ToldSettles (c : Call) (U : Win) (log : List ℕ) (r : Bool) : Type 0
   pub says : Said
   pub narrows : Narrows c (leaves says U log)
   pub settled : (r ≡ true) ↔ (says .word ≡ Word.settled)
-  -- with more room than the sum of l - e - p, exactly when there are stable windows, and else there are none
-  pub free : Good c → slack (c .p) (c .win) (jobs (c .win)) < roomOf (c .log) → ((r ≡ true) ↔ ((W : Win) × StableIn c W)) × ((r ≡ true → ⊥) → NoneIn c)
+  -- with room for more records than the sum of l - e - p, exactly when there are stable windows, and else there are none
+  pub free : Good c → RoomFor c (suc (slack (c .p) (c .win) (jobs (c .win)))) → ((r ≡ true) ↔ ((W : Win) × StableIn c W)) × ((r ≡ true → ⊥) → NoneIn c)
 
 -- whether a log of claimed records holds
 pub record ToldHolds (c : Call) (count : ℕ) (U : Win) (r : Bool) : Type 0 where

@@ -10,15 +10,15 @@ use Rattle.narrowing.proofs.TooShort.{finds-too-short}
 use Rattle.joblist.specs.Limits.{jobs}
 use Rattle.answers.specs.Said.{Word, said}
 use Rattle.journal.specs.Journal.{roomOf, records}
-use Rattle.timetable.specs.Table.{Call, Good, TooShort, AllLong, refusalOf}
+use Rattle.timetable.specs.Table.{Call, Admitted, TooShort, AllLong, refusalOf}
 use Rattle.timetable.proofs.Good.{durations-sized}
 use Rattle.replay.specs.declared.Ended.{Ended}
 use Rattle.checks.specs.Replay.{Verdict, holds, clashes, rejected, replay, verdictOn, Checked, finds, judged, refuses, rows, checked}
-use Rattle.checks.specs.Promise.{Checks}
+use Rattle.checks.specs.Promise.{Claimed, Checks}
 use Rattle.exam.specs.Lent.{jobsIn}
 use Rattle.replay.specs.Ended.{verdict}
 use Rattle.checks.proofs.Meaning.{checks}
-use Rattle.checks.proofs.Rows.{good-judged}
+use Rattle.checks.proofs.Rows.{claimed-judged}
 use Rattle.checks.proofs.TooShort.{too-short-unclaimed, too-short-claimed}
 
 -- ---- the end of a replay that left the windows U
@@ -50,14 +50,14 @@ module _ (c : Call) (count : ℕ) where
   row-six e h = rw (e, lt-ltb (roomOf (c .log)) count h)
 
   -- a window is too short
-  pub row-short-claimed : (j : ℕ) → Good c → TooShort c j → 0 < count → count ≤ roomOf (c .log) → finds (said Word.rejected (0 ∷ 20 ∷ [])) (c .win) ≡ checked c count
+  pub row-short-claimed : (j : ℕ) → Admitted c → TooShort c j → 0 < count → count ≤ roomOf (c .log) → finds (said Word.rejected (0 ∷ 20 ∷ [])) (c .win) ≡ checked c count
   row-short-claimed j g s b r = sym (too-short-claimed c count (checked c count) (checks c count) g j s b r)
 
-  pub row-short-unclaimed : (j : ℕ) → Good c → TooShort c j → count ≡ 0 → finds (said Word.clash (0 ∷ j ∷ [])) (c .win) ≡ checked c count
+  pub row-short-unclaimed : (j : ℕ) → Admitted c → TooShort c j → count ≡ 0 → finds (said Word.clash (0 ∷ j ∷ [])) (c .win) ≡ checked c count
   row-short-unclaimed j g s e = sym (too-short-unclaimed c count (checked c count) (checks c count) g j s e)
 
   -- no window is too short: the verdict is the replay's
-  pub row-judged : Good c → count ≤ roomOf (c .log) → AllLong c
+  pub row-judged : Claimed c count → AllLong c
       → judged c count (replay (jobsIn (length (c .p)) (c .p) (c .r) (c .cap)) (c .win) 0 (records (c .log) 0 count)) ≡ checked c count
   unfolding verdictOn
-  row-judged g h L = rw (durations-sized g, good-judged c count g h, finds-too-short (jobs (c .win)) (c .p) (c .win) none L)
+  row-judged g L = rw (durations-sized (g .0 .0), claimed-judged c count g, finds-too-short (jobs (c .win)) (c .p) (c .win) none L)

@@ -1,4 +1,4 @@
-// The checker (document 01, 'Answer table'; document 02, Item 3): it has a log replayed from the submitted windows, and rewrites them only where the log
+// The checker (document 01, 'Answer table'; document 02, Items 3 and 10): it has a log replayed from the submitted windows, and rewrites them only where the log
 // holds.
 use answers::CheckAnswer;
 use replay::Ended;
@@ -44,7 +44,7 @@ fn on_copies(
     }
 }
 
-// What a log comes to, replayed from the submitted windows. 1 to 3 and 6 refuse the call. Where a window is too short, the answer is a clash of the
+// What a log comes to, replayed from the submitted windows. 1 to 3, 7 and 6 refuse the call. Where a window is too short, the answer is a clash of the
 // lowest such job if no record is claimed, else the first is rejected with code 20. Where none is, the first bad record is rejected with its place and
 // code, and a last record that closes a window is a clash; if there is neither, the log holds, and the windows become those that it reaches. Any number
 // may be claimed: it is compared, and never multiplied.
@@ -59,7 +59,7 @@ pub fn check_log(
 ) -> CheckAnswer
     ensures { λ r. ⌜ Checks (call (win (now (est .entry)) (now (lct .entry))) (now (dur .entry)) (now (dem .entry)) cap (now (log .entry))) count (finds (saysCheck r) (win (now (est .exit)) (now (lct .exit)))) ⌝ }
 {
-    let number = screen::refusal(est, lct, dur, dem, cap);
+    let number = admission::refusal(est, lct, dur, dem, cap, log);
     if number != 0 {
         return CheckAnswer::Refused(number);
     }

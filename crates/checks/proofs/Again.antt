@@ -12,8 +12,8 @@ use Rattle.narrowing.specs.Rounds.{Chosen}
 use Rattle.narrowing.proofs.Moves.{side-number, long-around}
 use Rattle.narrowing.proofs.Steps.{stable-respects}
 use Rattle.answers.specs.Said.{Word, said}
-use Rattle.journal.specs.Journal.{jobOf, timeOf, roomOf, recordAt, logged}
-use Rattle.journal.proofs.Records.{logged-room, logged-record}
+use Rattle.journal.specs.Journal.{jobOf, timeOf, recordAt, logged}
+use Rattle.journal.proofs.Records.{room-length, whole-length, logged-length, logged-record}
 use Rattle.timetable.specs.Time.{Jobs, Applies, bound}
 use Rattle.timetable.specs.Search.{search, leanMember, naming, entry}
 use Rattle.timetable.specs.Table.{Call, call, jobsOf, After}
@@ -73,7 +73,7 @@ module _ (c : Call) (a : After) (h : Narrows c a) (n : ℕ) (e : a .says ≡ sai
       let ch = x .0 in
       let first : nth again 0 ≡ entry J y =
       ap (λ (w : List ℕ). recordAt w 0) l
-      ∙ logged-record (map (entry J) (y ∷ ys)) (c .log) (entries-are leanMember J (y ∷ ys)) (omega (arith, entries-count leanMember J ys, r .1, r .2)) 0 (omega arith) in
+      ∙ logged-record (map (entry J) (y ∷ ys)) (c .log) (entries-are leanMember J (y ∷ ys)) (omega (arith, entries-count leanMember J ys, r .1 .1, r .2)) 0 (omega arith) in
       let made : y ≡ move (c .win) (y .job) (y .side) (y .choice) = ap (λ (w : Win). record { job = y .job; side = y .side; choice = y .choice; before = w }) (ch .before) in
       let good : GoodRecord J (c .win) (entry J y) =
       subst (λ (z : Move). GoodRecord J (c .win) (entry J z)) (sym made)
@@ -93,7 +93,8 @@ module _ (c : Call) (a : After) (h : Narrows c a) (n : ℕ) (e : a .says ≡ sai
   left-rejected b k =
       let r = h .exactly .settled (suc n) .0 e in
       let l = h .reasons .settled (suc n) e .logs in
-      let room : roomOf (a .log) ≡ roomOf (c .log) =
-      ap roomOf (l .log) ∙ logged-room (map (entry J) (l .moves)) (c .log) (entries-are leanMember J (l .moves)) (omega (arith, entries-count leanMember J (l .moves), l .many, r .1, r .2)) in
-      fate-answers again (suc n) b k (rejected 0 26) (good-again c a h (suc n) e (a .log)) (omega (arith, r .1, r .2))
+      let same : length (a .log) ≡ length (c .log) =
+      ap length (l .log) ∙ logged-length (map (entry J) (l .moves)) (c .log) (entries-are leanMember J (l .moves)) (omega (arith, entries-count leanMember J (l .moves), l .many, r .1 .1, r .2)) in
+      let whole = whole-length (c .log) (a .log) same (r .1 .0) in
+      fate-answers again (suc n) b k (rejected 0 26) ((good-again c a h (suc n) e (a .log), whole), omega (arith, room-length (c .log) (a .log) same, r .1 .1, r .2))
       (omega arith, inr (record { long = long-again c a h (suc n) e (a .log); held = λ i q. absurd (omega arith) }, first-spent (l .moves) (l .many) (l .log) (l .chosen), λ z. omega arith))

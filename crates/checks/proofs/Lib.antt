@@ -5,4 +5,5 @@ pub mod Logs
 pub mod Rows
 pub mod Spare
 pub mod TooShort
+pub mod Ragged
 pub mod Again

@@ -1,6 +1,6 @@
 -- Laws over the checker's contract alone: two results that meet it are equal, and its field `exactly` alone makes them so; a record changes one bound of one
 -- job.
-use Prim.Native.Nat.{ℕ, _≤_}
+use Prim.Native.Nat.{ℕ}
 use mathlib.Core.Path.{_≡_, refl, sym, ap, _∙_}
 use mathlib.Core.List.{List}
 use lib.Seq.{getD-set-other}
@@ -9,15 +9,15 @@ use Rattle.narrowing.specs.Windows.{Win, win, Side, early, late, moved}
 use Rattle.answers.specs.declared.CheckAnswer.{CheckAnswer}
 use Rattle.answers.specs.Said.{saysCheck}
 use Rattle.answers.proofs.Same.{check-same}
-use Rattle.journal.specs.Journal.{jobOf, timeOf, roomOf, records}
+use Rattle.journal.specs.Journal.{jobOf, timeOf, records}
 use Rattle.timetable.specs.Time.{bound}
-use Rattle.timetable.specs.Table.{Call, jobsOf, asks, Good}
+use Rattle.timetable.specs.Table.{Call, jobsOf, asks}
 use Rattle.codes.specs.Facts.{side}
 use Rattle.verdicts.proofs.Rows as general
 use Rattle.verdicts.proofs.Firm as firm
 use Rattle.checks.specs.Replay.{changed, trial, Verdict, verdictOn, Checked, finds, judged, checked}
 use Rattle.checks.specs.Fate.{Fate}
-use Rattle.checks.specs.Promise.{Exactly, Checks}
+use Rattle.checks.specs.Promise.{Claimed, Exactly, Checks}
 use Rattle.checks.proofs.Sound.{judging}
 use Rattle.checks.proofs.Meaning.{by-trial}
 
@@ -45,10 +45,10 @@ others-stay W x k h = go (side x)
     go late = (refl, getD-set-other (W .l) (jobOf x) k _ 0 h)
 
 module _ (c : Call) (count : ℕ) where
-  -- the answer on a good list with room for the claimed records
-  pub good-judged : Good c → count ≤ roomOf (c .log) → checked c count ≡ judged c count (verdictOn (jobsOf c) (c .win) (records (c .log) 0 count))
+  -- the answer where the claimed records are there
+  pub claimed-judged : Claimed c count → checked c count ≡ judged c count (verdictOn (jobsOf c) (c .win) (records (c .log) 0 count))
   unfolding checked
-  good-judged = general.good-judged (trial (jobsOf c)) (asks c) count
+  claimed-judged = general.claimed-judged (trial (jobsOf c)) (asks c) count
 
   -- `exactly` by itself determines the answer and the windows
   pub facts-answer : (a : Checked) → Exactly c count a → a ≡ checked c count
@@ -56,5 +56,5 @@ module _ (c : Call) (count : ℕ) where
   facts-answer a x = firm.facts-answer (trial (jobsOf c)) (asks c) count (judging c) a x
 
   -- so a verdict with its facts gives its answer
-  pub fate-answers : (a : Checked) → Checks c count a → (v : Verdict) → Good c → count ≤ roomOf (c .log) → Fate c count v → a ≡ judged c count v
+  pub fate-answers : (a : Checked) → Checks c count a → (v : Verdict) → Claimed c count → Fate c count v → a ≡ judged c count v
   fate-answers a h = general.fate-answers (trial (jobsOf c)) (asks c) count (judging c) a (by-trial c count a h)

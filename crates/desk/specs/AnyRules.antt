@@ -3,11 +3,11 @@
 unfoldable pub use Rattle.narrowing.specs.Run.{needed}
 pub use Rattle.narrowing.specs.Run.{Out, settled, clash, short}
 unfoldable pub use Rattle.promises.specs.Ask.{refusalOf}
-pub use Rattle.promises.specs.Ask.{Ask, jobCount, lasts, columns}
+pub use Rattle.promises.specs.Ask.{Ask, jobCount, lasts, columns, Admitted, TurnedAway}
 unfoldable pub use Rattle.promises.specs.Table.{ended, tabled, narrowed}
 pub use Rattle.promises.specs.Table.{ran}
 unfoldable pub use Rattle.promises.specs.Promise.{needs}
-pub use Rattle.promises.specs.Promise.{RefusedRow}
+pub use Rattle.promises.specs.Promise.{RoomFor, RefusedRow}
 unfoldable pub use Rattle.verdicts.specs.Replay.{replay, verdictOn}
 pub use Rattle.verdicts.specs.Replay.{Trial, Verdict, closing}
 unfoldable pub use Rattle.verdicts.specs.Fate.{reached}

@@ -1,7 +1,7 @@
 -- The words that all calls of the desk have in common, handed on, so that a user who names the desk can cite and unfold them: windows, good lists and their
 -- limits, sums and sets, and the record's layout.
 pub use Rattle.lists.specs.Lists.{_!_, Every}
-pub use Rattle.lists.specs.Tests.{both, only}
+pub use Rattle.lists.specs.Tests.{both, only, unless, orNext}
 unfoldable pub use Rattle.lists.specs.Sums.{total}
 unfoldable pub use Rattle.lists.specs.Sets.{totalOf}
 pub use Rattle.lists.specs.Sets.{Set, LeastOf, GreatestOf}
@@ -13,5 +13,5 @@ unfoldable pub use Rattle.joblist.specs.GoodList.{refusal}
 pub use Rattle.joblist.specs.GoodList.{GoodList, Sized, Within, Any, Above, Unequal, Given}
 unfoldable pub use Rattle.members.specs.Members.{has, onesOf}
 pub use Rattle.members.specs.Members.{setWords}
-unfoldable pub use Rattle.journal.specs.Journal.{roomOf, recordAt, records, logged, cleared}
-pub use Rattle.journal.specs.Journal.{jobWord, sideWord, timeWord, countWord, headWords, recordWords, setOfRecord, jobOf, timeOf, isMember}
+unfoldable pub use Rattle.journal.specs.Journal.{roomOf, isWhole, recordAt, records, logged, cleared}
+pub use Rattle.journal.specs.Journal.{jobWord, sideWord, timeWord, countWord, headWords, recordWords, WholeRecords, Ragged, setOfRecord, jobOf, timeOf, isMember}

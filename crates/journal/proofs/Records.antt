@@ -1,5 +1,5 @@
--- Laws of the log: the room and the records of a log, what was written is read back, one record more, records written anew, cleared logs.
-use Prim.Native.Nat.{ℕ, zero, suc, _+_, _*_, _-_, _≤_, _<_}
+-- Laws of the log: the room of a log and whether whole records fill it, its records, what was written is read back, one record more, records written anew, cleared logs.
+use Prim.Native.Nat.{ℕ, zero, suc, _+_, _*_, _-_, _/_, _%_, _≤_, _<_}
 use native.Mathlib.Omega.{arith}
 use mathlib.Core.Path.{_≡_, refl, sym, ap, _∙_}
 use mathlib.Core.List.{List, [], _∷_, _++_, append-assoc, append-nil}
@@ -7,8 +7,9 @@ use mathlib.Core.Logic.{_↔_}
 use lib.ListN.{length, take, drop, getD, length-append, length-drop}
 use lib.Seq.{length-take-le, take-at, drop-at, drop-drop, drop-append-add, take-length, paste, take-paste, drop-paste}
 use borrow.Author.Tests.{lt-ltb, le-ltb}
+use Rattle.lists.proofs.Judged.{Judged, judged-as, judged-eqb}
 use Rattle.members.specs.Members.{setWords}
-use Rattle.journal.specs.Journal.{recordWords, inWords, roomOf, recordAt, records, flat, AreRecords, logged, rewritten}
+use Rattle.journal.specs.Journal.{recordWords, inWords, roomOf, WholeRecords, Ragged, isWhole, recordAt, records, flat, AreRecords, logged, rewritten}
 
 -- ---- the room
 
@@ -24,6 +25,22 @@ room-short log k = (λ h. omega arith, λ h. omega arith)
 pub room-length : (log out : List ℕ) → length out ≡ length log → roomOf out ≡ roomOf log
 unfolding roomOf
 room-length log out h = rw h
+
+-- ---- whole records
+
+-- the test passes exactly where a number of records fills the log
+pub whole-judged : (log : List ℕ) → Judged (WholeRecords log) (Ragged log) (isWhole log)
+unfolding isWhole
+whole-judged log =
+    judged-as (judged-eqb (length log % recordWords) 0) (λ h. (length log / recordWords, omega arith)) (λ h w. h (omega (arith, w .1))) (λ w h. h w)
+
+-- then it is just as many as there is room for
+pub whole-room : (log : List ℕ) → WholeRecords log → length log ≡ recordWords * roomOf log
+unfolding roomOf
+whole-room log w = omega (arith, w .1)
+
+pub whole-length : (log out : List ℕ) → length out ≡ length log → WholeRecords log → WholeRecords out
+whole-length log out h w = (w .0, h ∙ w .1)
 
 -- ---- one record
 

@@ -1,10 +1,11 @@
--- Log records (document 01, 'Log records'): the layout of a record's words in this one place, the room of a log, and what a log holds.
-use Prim.Native.Nat.{ℕ, zero, suc, _+_, _*_, _/_}
+-- Log records (document 01, 'Log records'; document 02, Item 10): the layout of a record's words in this one place, the room of a log, whether whole records
+-- fill it, and what a log holds.
+use Prim.Native.Nat.{ℕ, zero, suc, _+_, _*_, _/_, _%_}
 use mathlib.Core.Path.{_≡_}
 use mathlib.Core.Bool.{Bool, true, false, cond}
 use mathlib.Core.List.{List, [], _∷_, _++_}
 use lib.ListN.{length, take, drop, replicate}
-use lib.Dec.{ltb}
+use lib.Dec.{eqb, ltb}
 use Rattle.lists.specs.Lists.{_!_, Every}
 use Rattle.members.specs.Members.{setWords, has, onesOf}
 
@@ -46,9 +47,20 @@ timeOf x = x ! timeWord
 abbrev pub isMember : List ℕ → ℕ → Bool
 isMember x = has (setOfRecord x)
 
--- the records that a log can hold, whatever the remainder
+-- the whole records that a log can hold, whatever the remainder
 unfoldable pub roomOf : List ℕ → ℕ
 roomOf log = length log / recordWords
+
+-- its length is a whole multiple of a record's: there is a number of records that fills it, and for the length 0 it is 0; any other log is ragged
+abbrev pub WholeRecords : List ℕ → Type 0
+WholeRecords log = (m : ℕ) × (length log ≡ recordWords * m)
+
+abbrev pub Ragged : List ℕ → Type 0
+Ragged log = WholeRecords log → ⊥
+
+-- the same as a test: no word is left over
+unfoldable pub isWhole : List ℕ → Bool
+isWhole log = eqb (length log % recordWords) 0
 
 abbrev pub part : Bool → List ℕ → List ℕ
 part true x = x

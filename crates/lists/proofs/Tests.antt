@@ -7,7 +7,7 @@ use mathlib.Core.Path.{_≡_, refl, sym}
 use mathlib.Core.Bool.{Bool, true, false}
 use lib.Dec.{leb}
 use borrow.Author.Tests.{le-leb, lt-leb, lt-ltb, le-ltb}
-use Rattle.lists.specs.Tests.{both, either, between, only, every}
+use Rattle.lists.specs.Tests.{both, either, between, only, orNext, every}
 
 pub both-true : (a b : Bool) → both a b ≡ true → (a ≡ true) × (b ≡ true)
 both-true true b h = (refl, h)
@@ -23,6 +23,11 @@ both-yes false = refl
 pub both-false : (a : Bool) → both a false ≡ false
 both-false true = refl
 both-false false = refl
+
+-- the number of a test that failed before stands
+pub or-first : (k x : ℕ) → (k ≡ 0 → ⊥) → orNext k x ≡ k
+or-first zero x h = absurd (h refl)
+or-first (suc k) x h = refl
 
 -- t from lo up to hi, before it, behind it
 module _ (lo hi t : ℕ) where

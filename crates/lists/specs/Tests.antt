@@ -37,6 +37,11 @@ abbrev pub unless : Bool → ℕ → ℕ → ℕ
 unless true k x = x
 unless false k x = k
 
+-- the number k of a test that failed before, else what comes after
+abbrev pub orNext : ℕ → ℕ → ℕ
+orNext zero x = x
+orNext (suc k) x = suc k
+
 -- the test passes at every k below m
 unfoldable pub every : (ℕ → Bool) → ℕ → Bool
 every f zero = true

@@ -1,9 +1,11 @@
-// The log of reasons (document 01, 'Log records'): the record's layout, the room of a log, writing, clearing, and the call that shows one record.
+// The log of reasons (document 01, 'Log records'; document 02, Item 10): the record's layout, the room of a log, whether it is ragged, writing, clearing,
+// and the call that shows one record.
 ghost use mathlib.Core.Path.{_≡_};
+ghost use mathlib.Core.Bool.{not};
 ghost use Prim.Native.Nat.{_+_, _≤_};
 ghost use lib.ListN.{length};
 ghost use lib.Seq.{paste};
-ghost use Rattle.journal.specs.Journal.{recordWords, inWords, setOfRecord, roomOf, recordAt, rewritten, cleared};
+ghost use Rattle.journal.specs.Journal.{recordWords, inWords, setOfRecord, roomOf, isWhole, recordAt, rewritten, cleared};
 
 // The places of the words before the member set: job, side, time, number of members.
 pub const JOB_WORD: usize = 0;
@@ -20,11 +22,18 @@ pub const HEAD: usize = 4;
 // The words of a record.
 pub const RECORD: usize = HEAD + bits::WORDS;
 
-// The records that a log can hold, whatever the remainder.
+// The whole records that a log can hold, whatever the remainder.
 pub fn room(log: &[u32]) -> usize
     ensures { λ r. ⌜ r ≡ roomOf (now (log .entry)) ⌝ }
 {
     log.len() / RECORD
+}
+
+// Whether words are left over behind the whole records.
+pub fn ragged(log: &[u32]) -> bool
+    ensures { λ r. ⌜ r ≡ not (isWhole (now (log .entry))) ⌝ }
+{
+    log.len() % RECORD != 0
 }
 
 // Record k as a part of the caller's own log; an empty part where the log ends before it.

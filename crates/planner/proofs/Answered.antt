@@ -1,4 +1,4 @@
--- The call's answer is the answer table's: a refusal by tests 1 to 3, a clash where a window is too short, else what the work leaves, with the windows
+-- The call's answer is the answer table's: a refusal by tests 1 to 3 and 7, a clash where a window is too short, else what the work leaves, with the windows
 -- as submitted unless it settled, and the log cleared where the room is short.
 use Prim.Native.Nat.{ℕ, zero, suc}
 use mathlib.Core.Path.{_≡_, refl, sym, ap, ap₂, subst, _∙_}
@@ -9,12 +9,10 @@ use Rattle.narrowing.specs.Run.{Out, settled, clash, short}
 use Rattle.answers.specs.declared.Answer.{Answer}
 use Rattle.answers.specs.Said.{Word, said, says}
 use Rattle.journal.specs.Journal.{cleared}
-use Rattle.joblist.specs.Limits.{jobs, fourLists, supply}
-use Rattle.joblist.specs.GoodList.{refusal}
 use Rattle.timetable.specs.Search.{leanMember}
-use Rattle.timetable.specs.Table.{Call, call, Good, TooShort, refusalOf, leaves, ended, tabled, narrowed, narrowedBy}
+use Rattle.timetable.specs.Table.{Call, call, Admitted, TooShort, refusalOf, leaves, ended, tabled, narrowed, narrowedBy}
 use Rattle.timetable.specs.Promise.{Narrows}
-use Rattle.timetable.proofs.Calls.{good-call, call-good}
+use Rattle.timetable.proofs.Calls.{call-admitted}
 use Rattle.timetable.proofs.Meaning.{narrows}
 use Rattle.timetable.proofs.TooShort.{too-short-row}
 use Rattle.rounds.specs.Work.{EndsAs, outcome, Works}
@@ -45,31 +43,19 @@ module _ (c : Call) where
   unfolding tabled outcome
   by-run k h = rw h
 
-  -- the code's refusal, in the table's words
-  abbrev pub Number : ℕ → Type 0
-  Number k = k ≡ refusal (jobs (c .win)) (fourLists (c .win) (c .p) (c .r)) (supply (c .cap))
-
-  number-is : (k : ℕ) → Number k → k ≡ refusalOf c
-  unfolding refusalOf
-  number-is k e = e
-
-  -- none of the tests 1 to 3 fails
-  pub accepted : (k : ℕ) → Number k → k ≡ 0 → Good c
-  accepted k e z = good-call c (sym (number-is k e) ∙ z)
-
-  -- one of them does
-  pub refused : (k : ℕ) → Number k → (k ≡ 0 → ⊥) → Narrows c (leaves (says (Answer.Refused k)) (c .win) (c .log))
+  -- one of the tests fails
+  pub refused : (k : ℕ) → k ≡ refusalOf c → (k ≡ 0 → ⊥) → Narrows c (leaves (says (Answer.Refused k)) (c .win) (c .log))
   unfolding narrowedBy
-  refused k e h = subst (Narrows c) (ap (tabled leanMember c) (sym (number-is k e)) ∙ by-refusal k h) (narrows c)
+  refused k e h = subst (Narrows c) (ap (tabled leanMember c) (sym e) ∙ by-refusal k h) (narrows c)
 
   -- none does, and a window is too short
-  pub clashed : Good c → (j : ℕ) → TooShort c j → Narrows c (leaves (says (Answer.Clash 0 j)) (c .win) (c .log))
+  pub clashed : Admitted c → (j : ℕ) → TooShort c j → Narrows c (leaves (says (Answer.Clash 0 j)) (c .win) (c .log))
   clashed g j s = subst (Narrows c) (too-short-row c (narrowed c) (narrows c) j g s) (narrows c)
 
   -- the work is done
-  pub finished : Good c → (a : Answer) (W : Win) (log : List ℕ) → Works c a W log → Narrows c (leaves (says a) (winBy c a W) (logBy c a log))
+  pub finished : Admitted c → (a : Answer) (W : Win) (log : List ℕ) → Works c a W log → Narrows c (leaves (says a) (winBy c a W) (logBy c a log))
   unfolding narrowedBy ended
-  finished g a W log h = subst (Narrows c) (by-run (refusalOf c) (call-good c g) ∙ go (outcome c) h) (narrows c)
+  finished g a W log h = subst (Narrows c) (by-run (refusalOf c) (call-admitted c g) ∙ go (outcome c) h) (narrows c)
     where
       go : (o : Out) → EndsAs c o a W log → ended leanMember c o ≡ leaves (says a) (winBy c a W) (logBy c a log)
       go (settled U ms) x = rw (x .0, x .1, x .2)
@@ -77,7 +63,7 @@ module _ (c : Call) where
       go short x = rw x
 
   -- the same, where it was done on copies of the windows
-  pub worked : Good c → (a : Answer) (E L : List ℕ) (W : Win) (log : List ℕ) → E ≡ c .win .e → L ≡ c .win .l
+  pub worked : Admitted c → (a : Answer) (E L : List ℕ) (W : Win) (log : List ℕ) → E ≡ c .win .e → L ≡ c .win .l
       → Works (call (win E L) (c .p) (c .r) (c .cap) (c .log)) a W log
       → Narrows c (leaves (says a) (winBy c a W) (logBy c a log))
   worked g a E L W log e l h =

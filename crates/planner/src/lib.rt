@@ -1,4 +1,4 @@
-// Narrowing (document 01, 'Answer table'; document 02, Item 3): the call, on copies of the windows. The crate `rounds` does the
+// Narrowing (document 01, 'Answer table'; document 02, Items 3 and 10): the call, on copies of the windows. The crate `rounds` does the
 // work, turn by turn.
 use answers::Answer;
 ghost use Rattle.narrowing.specs.Windows.{win};
@@ -17,7 +17,7 @@ pub fn narrow(
 ) -> Answer
     ensures { λ r. ⌜ Narrows (call (win (now (est .entry)) (now (lct .entry))) (now (dur .entry)) (now (dem .entry)) cap (now (log .entry))) (leaves (says r) (win (now (est .exit)) (now (lct .exit))) (now (log .exit))) ⌝ }
 {
-    let number = screen::refusal(est, lct, dur, dem, cap);
+    let number = admission::refusal(est, lct, dur, dem, cap, log);
     if number != 0 {
         return Answer::Refused(number);
     }

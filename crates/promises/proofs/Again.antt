@@ -15,13 +15,13 @@ use Rattle.narrowing.proofs.Again.{run-rests}
 use Rattle.answers.specs.Said.{Word, Said, said}
 use Rattle.joblist.specs.Limits.{mostTime}
 use Rattle.joblist.specs.GoodList.{Sized, Within}
-use Rattle.journal.specs.Journal.{logged, flat}
+use Rattle.journal.specs.Journal.{WholeRecords, logged, flat}
 use Rattle.promises.specs.Ask.{Ask, Grounds, jobCount, lasts, Good}
 use Rattle.promises.specs.Table.{After, leaves, ended, tabled, narrowed}
 use Rattle.promises.specs.Promise.{LargestIn, Narrows}
 use Rattle.promises.specs.Plain.{Task, taskOf, GoodTask, Left, Plain}
 use Rattle.promises.specs.Reordered.{Anew}
-use Rattle.promises.proofs.Calls.{call-good}
+use Rattle.promises.proofs.Calls.{call-admitted}
 use Rattle.promises.proofs.Plain.{settled-exactly}
 
 -- ---- of the lists alone: the windows X are the largest of K's, and L asks K's jobs in them
@@ -131,10 +131,10 @@ module _ (A : Ask) (a : After) (h : Narrows A a) (n : ℕ) (e : a .says ≡ said
     pub long-again : Long (jobCount B) (lasts B) (B .win)
     long-again = task-long (taskOf A) (a .win) good-first largest-first (h .reasons .settled n e .led .lengths) (taskOf B) w
 
-    again : Grounds B → narrowed B ≡ leaves (said Word.settled (0 ∷ [])) (B .win) (B .log)
+    again : Grounds B → WholeRecords (B .log) → narrowed B ≡ leaves (said Word.settled (0 ∷ [])) (B .win) (B .log)
     unfolding narrowed tabled ended logged flat
-    again y =
-        rw (call-good B good-again, run-rests (B .search) (B .rules) (y .searches) (B .room) (B .win) long-again (w .stable (largest-first .one .stable)))
+    again y z =
+        rw (call-admitted B (good-again, z), run-rests (B .search) (B .rules) (y .searches) (B .room) (B .win) long-again (w .stable (largest-first .one .stable)))
 
-    pub settled-again : Grounds B → (b : After) → Narrows B b → b ≡ leaves (said Word.settled (0 ∷ [])) (a .win) (B .log)
-    settled-again y b k = k .answered ∙ again y ∙ ap (λ (W : Win). leaves (said Word.settled (0 ∷ [])) W (B .log)) (w .windows)
+    pub settled-again : Grounds B → WholeRecords (B .log) → (b : After) → Narrows B b → b ≡ leaves (said Word.settled (0 ∷ [])) (a .win) (B .log)
+    settled-again y z b k = k .answered ∙ again y z ∙ ap (λ (W : Win). leaves (said Word.settled (0 ∷ [])) W (B .log)) (w .windows)

@@ -12,16 +12,16 @@ use Rattle.narrowing.specs.Run.{Out, settled, clash, short, reachedBy}
 use Rattle.narrowing.proofs.Chosen.{chosen-one, clash-one}
 use Rattle.answers.specs.Said.{Word, Said, said}
 use Rattle.answers.proofs.Same.{not-said}
-use Rattle.joblist.proofs.Refusals.{refusal-most}
 use Rattle.journal.specs.Journal.{logged}
-use Rattle.promises.specs.Ask.{Ask, Grounds, jobCount, columns, refusalOf}
+use Rattle.promises.specs.Ask.{Ask, Grounds}
 use Rattle.promises.specs.Table.{After, leaves, ended, ran, narrowed}
 use Rattle.promises.specs.Reasons.{Logged, Reasons}
 use Rattle.promises.specs.Promise.{Exactly}
+use Rattle.promises.proofs.Calls.{away-exactly, away-not-five}
 use Rattle.promises.proofs.Cased.{Case, cased}
 use Rattle.promises.proofs.Meaning.{narrows}
 
-same-after : (a b : After) → a .says ≡ b .says → a .win ≡ b .win → a .log ≡ b .log → a ≡ b
+pub same-after : (a b : After) → a .says ≡ b .says → a .win ≡ b .win → a .log ≡ b .log → a ≡ b
 same-after a b s w l =
     ap (λ (x : Said). leaves x (a .win) (a .log)) s ∙ ap (λ (W : Win). leaves (b .says) W (a .log)) w ∙ ap (leaves (b .says) (b .win)) l
 
@@ -80,7 +80,7 @@ module _ (A : Ask) (x : Grounds A) (a : After) (e : Exactly A a) (r : Reasons A 
       same-after a due (q ∙ sym p) (submitted-both Word.refused (k ∷ []) (k ∷ []) refused-word q p) (l q)
 
   pub fields-answer : a ≡ due
-  unfolding ended refusalOf
+  unfolding ended
   fields-answer = go (cased A due refl)
     where
       says-of : (b : After) → due ≡ b → due .says ≡ b .says
@@ -93,6 +93,6 @@ module _ (A : Ask) (x : Grounds A) (a : After) (e : Exactly A a) (r : Reasons A 
 
       go : Case A due → a ≡ due
       go (inl (k, d, q)) =
-          let f : suc k ≡ 5 → ⊥ = λ z. omega (arith, refusal-most (jobCount A) (columns A) (A .alone)) in
+          let f : suc k ≡ 5 → ⊥ = away-not-five A (suc k) (away-exactly A (suc k) .0 (omega arith, d)) in
           by-refusal (suc k) (says-of _ q) (λ p. e .before (suc k) f p ∙ sym (facts .before (suc k) f (says-of _ q)))
       go (inr (g, q)) = by-run (ran A) q

@@ -5,10 +5,11 @@ pub mod Broken
 pub mod Reasons
 pub mod Rows
 pub mod Meaning
+pub mod Firm
+pub mod Ragged
 pub mod Same
 pub mod TooShort
 pub mod Again
 pub mod Reordered
 pub mod Plain
 pub mod Unlogged
-pub mod Firm

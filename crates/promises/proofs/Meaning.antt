@@ -18,10 +18,11 @@ use Rattle.narrowing.proofs.Runs as runs
 use Rattle.narrowing.proofs.Room.{short-below, below-short}
 use Rattle.answers.specs.Said.{Word}
 use Rattle.answers.proofs.Same.{not-said}
+use Rattle.journal.specs.Journal.{WholeRecords}
 use Rattle.promises.specs.Ask.{Ask, Grounds, jobCount, lasts, Good, refusalOf}
 use Rattle.promises.specs.Table.{ended, ran, tabled, narrowed}
-use Rattle.promises.specs.Promise.{LargestIn, NoneIn, AllFixed, needs, Room, Kept, Narrowest, Narrows}
-use Rattle.promises.proofs.Calls.{good-call, call-good, whole}
+use Rattle.promises.specs.Promise.{LargestIn, NoneIn, AllFixed, RoomFor, needs, Room, Kept, Narrowest, Narrows}
+use Rattle.promises.proofs.Calls.{admitted-call, call-admitted, whole}
 use Rattle.promises.proofs.Reasons.{reasons-by}
 use Rattle.promises.proofs.Rows.{exactly}
 
@@ -38,15 +39,15 @@ module _ (A : Ask) (x : Grounds A) where
   module _ (g : Good A) where
     room-not : Room A → ran A ≡ short → ⊥
     unfolding needs
-    room-not h e = omega (arith, short-below (A .search) (A .rules) (x .searches) (x .lawful) (A .win) (whole A g) (A .room) e)
+    room-not h e = omega (arith, h .1, short-below (A .search) (A .rules) (x .searches) (x .lawful) (A .win) (whole A g) (A .room) e)
 
-    pub slack-room : slack (lasts A) (A .win) (jobCount A) < A .room → Room A
+    pub slack-room : RoomFor A (suc (slack (lasts A) (A .win) (jobCount A))) → Room A
     unfolding needs
     slack-room h =
         elim (decLe (needed (A .search) (A .win)) (A .room)) [
-          | yes b ↦ b
+          | yes b ↦ (h .0, b)
           | no b ↦
-              absurd (never-short (A .search) (A .rules) (x .searches) (x .lawful) (A .room) (A .win) (whole A g) h
+              absurd (never-short (A .search) (A .rules) (x .searches) (x .lawful) (A .room) (A .win) (whole A g) (h .1)
               (below-short (A .search) (A .rules) (x .searches) (x .lawful) (A .win) (whole A g) (A .room) (omega arith)))
         ]
 
@@ -60,8 +61,8 @@ module _ (A : Ask) (x : Grounds A) where
       unfolding Long
       fixed-long k b = omega (arith, f k b)
 
-      fixed-room : 1 ≤ A .room → Room A
-      fixed-room h = slack-room (omega (arith, no-slack (lasts A) (A .win) (jobCount A) (jobCount A) (omega arith) f))
+      fixed-room : RoomFor A 1 → Room A
+      fixed-room h = slack-room (h .0, omega (arith, h .1, no-slack (lasts A) (A .win) (jobCount A) (jobCount A) (omega arith) f))
 
       none-broken : NoneIn A → A .broken (A .win .e)
       none-broken h = go (stable-or (A .search) (A .rules) (x .searches) (A .win) fixed-long)
@@ -133,18 +134,26 @@ module _ (A : Ask) (x : Grounds A) where
 
   narrows-by : (k : ℕ) → refusalOf A ≡ k → Kept A (tabled A k) × (Good A → Narrowest A (tabled A k))
   unfolding tabled
-  narrows-by zero e = let g = good-call A e in (kept-run g (ran A) refl means, λ h. narrowest-run g (ran A) refl means)
+  narrows-by zero e = let g = admitted-call A e .0 in (kept-run g (ran A) refl means, λ h. narrowest-run g (ran A) refl means)
   narrows-by (suc k) e = (
     record {
       schedules = λ s y. y;
       none = λ z. absurd (not-said Word.refused Word.clash (λ q. omega arith) z);
-      fixed = λ g. absurd (refused-good g);
+      fixed = λ g f r. absurd (no-room g (r .0));
     },
-    λ g. absurd (refused-good g),
+    λ g.
+        record {
+          decided = λ r. absurd (no-room g (r .0));
+          settled = λ z. absurd (not-said Word.refused Word.settled (λ q. omega arith) z);
+          clash = λ r. absurd (no-room g (r .0));
+          exists = λ r. absurd (no-room g (r .0));
+          free = λ r. absurd (no-room g (r .0));
+        },
   )
     where
-      refused-good : Good A → ⊥
-      refused-good g = omega (arith, call-good A g)
+      -- a good list is turned away only where its log is ragged, which has no room
+      no-room : Good A → WholeRecords (A .log) → ⊥
+      no-room g w = omega (arith, call-admitted A (g, w))
 
   pub narrows : Narrows A (narrowed A)
   unfolding narrowed

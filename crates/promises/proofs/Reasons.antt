@@ -18,7 +18,7 @@ use Rattle.journal.specs.Journal.{recordAt, logged}
 use Rattle.promises.specs.Ask.{Ask, Grounds, Good, refusalOf}
 use Rattle.promises.specs.Table.{After, ended, ran, tabled}
 use Rattle.promises.specs.Reasons.{Logged, Reasons}
-use Rattle.promises.proofs.Calls.{good-call, whole}
+use Rattle.promises.proofs.Calls.{admitted-call, whole}
 
 module _ (A : Ask) (x : Grounds A) where
   -- the log of the moves of a good list
@@ -63,7 +63,7 @@ module _ (A : Ask) (x : Grounds A) where
   pub reasons-by : (k : ℕ) → refusalOf A ≡ k → Reasons A (tabled A k)
   unfolding tabled
   reasons-by zero e =
-      let g = good-call A e in
+      let g = admitted-call A e .0 in
       ended-reasons g (ran A)
       (run-chosen (A .search) (A .rules) (x .searches) (A .room) (A .win))
       (run-bounded (A .search) (A .rules) (x .searches) (x .lawful) (A .room) (A .win) (whole A g))

@@ -1,5 +1,5 @@
--- Laws over narrowing's contract and any rules: the same jobs in another order get the same refusal 1 to 3; with room for both runs, the same window for
--- each job, or a clash again.
+-- Laws over narrowing's contract and any rules: the same jobs in another order get the same refusal 1 to 3, and 7 with a ragged log again; with room for
+-- both runs, the same window for each job, or a clash again.
 use Prim.Native.Nat.{ℕ, _≤_}
 use native.Mathlib.Omega.{arith}
 use mathlib.Core.Path.{_≡_, sym, ap, subst, _∙_}
@@ -15,12 +15,13 @@ use Rattle.answers.specs.Said.{Word, Said, said}
 use Rattle.joblist.specs.GoodList.{Given, refusal}
 use Rattle.joblist.proofs.Renumbered.{refusal-turned}
 use Rattle.joblist.proofs.Refusals.{refusal-exactly}
-use Rattle.promises.specs.Ask.{Ask, jobCount, Good, refusalOf}
+use Rattle.journal.specs.Journal.{Ragged}
+use Rattle.promises.specs.Ask.{Ask, jobCount, Good}
 use Rattle.promises.specs.Table.{After}
 use Rattle.promises.specs.Promise.{Room, RefusedRow, Narrows}
 use Rattle.promises.specs.Reordered.{SameTask, SameAsk}
 use Rattle.promises.specs.Plain.{Task, taskOf, columns, Left, Plain}
-use Rattle.promises.proofs.Calls.{good-call, call-good}
+use Rattle.promises.proofs.Ragged.{ragged-exactly}
 
 -- ---- of the lists alone
 
@@ -80,12 +81,8 @@ module _ (π σ : ℕ → ℕ) (K L : Task) (t : Permutes (K .n) π σ) (s : Sam
 -- ---- with a log
 
 module _ (π σ : ℕ → ℕ) (A B : Ask) (t : Permutes (jobCount A) π σ) (s : SameAsk π σ A B) where
-  pub same-refusal : refusalOf B ≡ refusalOf A
-  unfolding refusalOf
-  same-refusal = task-refusal π σ (taskOf A) (taskOf B) t s
-
   pub good-there : Good A → Good B
-  good-there g = good-call B (same-refusal ∙ call-good A g)
+  good-there = given-there π σ (taskOf A) (taskOf B) t s 0
 
   module _ (a b : After) (f : Narrows A a) (g : Narrows B b) where
     -- the same refusal, 1 to 3
@@ -93,10 +90,15 @@ module _ (π σ : ℕ → ℕ) (A B : Ask) (t : Permutes (jobCount A) π σ) (s 
     refused-there k m e = go (f .exactly .refused k .0 e)
       where
         go : RefusedRow A k → b .says ≡ said Word.refused (k ∷ [])
-        go (inl (i, z)) =
+        go (inl (inl (i, z))) =
             g .exactly .refused k .1
-            (inl (i, given-there π σ (taskOf A) (taskOf B) t s k z))
+            (inl (inl (i, given-there π σ (taskOf A) (taskOf B) t s k z)))
+        go (inl (inr z)) = absurd (omega (arith, z .0))
         go (inr z) = absurd (omega (arith, z .0))
+
+    -- 7 again where the other log is ragged too
+    pub ragged-there : Ragged (B .log) → a .says ≡ said Word.refused (7 ∷ []) → b .says ≡ said Word.refused (7 ∷ [])
+    ragged-there h e = ragged-exactly B b (g .exactly) .1 (good-there (ragged-exactly A a (f .exactly) .0 e .0), h)
 
     module _ (good : Good A) (room : Room A) (space : Room B) where
       -- a settled answer here is one there, with the same window for each job

@@ -10,12 +10,11 @@ use Rattle.narrowing.specs.Windows.{Win}
 use Rattle.narrowing.specs.Run.{Out, settled, clash, short, moveCount}
 use Rattle.answers.specs.Said.{Word, Said, said}
 use Rattle.answers.proofs.Same.{not-said}
-use Rattle.joblist.proofs.Refusals.{refusal-exactly, refusal-most}
 use Rattle.journal.specs.Journal.{cleared}
-use Rattle.promises.specs.Ask.{Ask, Grounds, jobCount, columns, Good, refusalOf}
+use Rattle.promises.specs.Ask.{Ask, Grounds, Good, Admitted}
 use Rattle.promises.specs.Table.{After, ended, ran, narrowed}
 use Rattle.promises.specs.Promise.{StableIn, NoneIn, needs, Room, RefusedRow, Exactly, Narrowest}
-use Rattle.promises.proofs.Calls.{call-good}
+use Rattle.promises.proofs.Calls.{call-admitted, away-exactly, admitted-not-away, away-not-five}
 use Rattle.promises.proofs.Cased.{Case, cased, short-five, five-short, room-count, ended-room}
 
 -- ---- a word that was not given
@@ -34,12 +33,12 @@ module _ (A : Ask) where
     says-of : (b : After) → a ≡ b → (y : Said) → a .says ≡ y → b .says ≡ y
     says-of b e y q = sym (ap (λ (y : After). y .says) e) ∙ q
 
-    -- refusal k: 1 to 3, or 5
+    -- refusal k: 1 to 3 or 7, or 5
     refused-row : (k : ℕ) → a .says ≡ said Word.refused (k ∷ []) → RefusedRow A k
-    unfolding ended refusalOf
+    unfolding ended
     refused-row k e = go (cased A a h)
       where
-        by-run : Good A → (o : Out) → ran A ≡ o → ended A o .says ≡ said Word.refused (k ∷ []) → RefusedRow A k
+        by-run : Admitted A → (o : Out) → ran A ≡ o → ended A o .says ≡ said Word.refused (k ∷ []) → RefusedRow A k
         by-run g (settled U ms) d q = absurd (settled-refused _ _ q)
         by-run g (clash j ms) d q = absurd (clash-refused _ _ q)
         by-run g short d q = inr (sym (ap num q), g, short-five A x g d)
@@ -47,19 +46,19 @@ module _ (A : Ask) where
         go : Case A a → RefusedRow A k
         go (inl (i, d, q)) =
             let z : suc i ≡ k = ap num (says-of _ q _ e) in
-            inl (omega arith, refusal-exactly (jobCount A) (columns A) (A .alone) k .0 (d ∙ z))
+            inl (away-exactly A k .0 (omega arith, d ∙ z))
         go (inr (g, q)) = by-run g (ran A) refl (says-of _ q _ e)
 
     row-refused : (k : ℕ) → RefusedRow A k → a .says ≡ said Word.refused (k ∷ [])
-    unfolding ended refusalOf
+    unfolding ended
     row-refused k r = go (cased A a h) r
       where
         go : Case A a → RefusedRow A k → a .says ≡ said Word.refused (k ∷ [])
-        go (inl (i, d, q)) (inl (b, t)) =
-            let z : suc i ≡ k = sym d ∙ refusal-exactly (jobCount A) (columns A) (A .alone) k .1 t in
+        go (inl (i, d, q)) (inl t) =
+            let z : suc i ≡ k = sym d ∙ away-exactly A k .1 t .1 in
             ap (λ (y : After). y .says) q ∙ ap (λ (m : ℕ). said Word.refused (m ∷ [])) z
-        go (inl (i, d, q)) (inr (e, g, b)) = absurd (omega (arith, sym d ∙ call-good A g))
-        go (inr (g, q)) (inl (b, t)) = absurd (omega (arith, sym (call-good A g) ∙ refusal-exactly (jobCount A) (columns A) (A .alone) k .1 t))
+        go (inl (i, d, q)) (inr (e, g, b)) = absurd (omega (arith, sym d ∙ call-admitted A g))
+        go (inr (g, q)) (inl t) = absurd (admitted-not-away A g k t)
         go (inr (g, q)) (inr (e, f, b)) =
             ap (λ (y : After). y .says) q ∙ ap (λ (o : Out). ended A o .says) (five-short A x g b) ∙ ap (λ (m : ℕ). said Word.refused (m ∷ [])) (sym e)
 
@@ -68,10 +67,10 @@ module _ (A : Ask) where
     unfolding ended
     settled-row n e = go (cased A a h)
       where
-        by-run : (g : Good A) (o : Out) → ran A ≡ o → ended A o .says ≡ said Word.settled (n ∷ []) → Good A × Room A × (n ≡ needs A)
+        by-run : (g : Admitted A) (o : Out) → ran A ≡ o → ended A o .says ≡ said Word.settled (n ∷ []) → Good A × Room A × (n ≡ needs A)
         by-run g (settled U ms) d q =
             let r : Room A = ended-room A x g (λ z. let w : _≡_ {A = ℕ} 0 1 = cc in omega arith) in
-            (g, r, sym (ap num q) ∙ sym (ap (λ (o : Out). moveCount o) d) ∙ room-count A x g r)
+            (g .0, r, sym (ap num q) ∙ sym (ap (λ (o : Out). moveCount o) d) ∙ room-count A x g r)
         by-run g (clash j ms) d q = absurd (not-said Word.clash Word.settled (λ z. omega arith) (ap (λ (y : Said). y .word) q))
         by-run g short d q = absurd (settled-refused _ _ (sym q))
 
@@ -83,11 +82,11 @@ module _ (A : Ask) where
     unfolding ended
     clash-row n j e = go (cased A a h)
       where
-        by-run : (g : Good A) (o : Out) → ran A ≡ o → ended A o .says ≡ said Word.clash (n ∷ j ∷ []) → Good A × Room A × (n ≡ needs A)
+        by-run : (g : Admitted A) (o : Out) → ran A ≡ o → ended A o .says ≡ said Word.clash (n ∷ j ∷ []) → Good A × Room A × (n ≡ needs A)
         by-run g (settled U ms) d q = absurd (not-said Word.settled Word.clash (λ z. omega arith) (ap (λ (y : Said). y .word) q))
         by-run g (clash i ms) d q =
             let r : Room A = ended-room A x g (λ z. let w : _≡_ {A = ℕ} 0 1 = cc in omega arith) in
-            (g, r, sym (ap num q) ∙ sym (ap (λ (o : Out). moveCount o) d) ∙ room-count A x g r)
+            (g .0, r, sym (ap num q) ∙ sym (ap (λ (o : Out). moveCount o) d) ∙ room-count A x g r)
         by-run g short d q = absurd (clash-refused _ _ (sym q))
 
         go : Case A a → Good A × Room A × (n ≡ needs A)
@@ -102,10 +101,10 @@ module _ (A : Ask) where
         by-run : (o : Out) → ran A ≡ o → a ≡ ended A o → ((n : ℕ) × (a .says ≡ said Word.settled (n ∷ []))) ⊎ ((n : ℕ) × (j : ℕ) × (a .says ≡ said Word.clash (n ∷ j ∷ [])))
         by-run (settled U ms) d q = inl (length ms, ap (λ (y : After). y .says) q)
         by-run (clash j ms) d q = inr (length ms, j, ap (λ (y : After). y .says) q)
-        by-run short d q = absurd (omega (arith, short-five A x g d))
+        by-run short d q = absurd (omega (arith, r .1, short-five A x (g, r .0) d))
 
         go : Case A a → ((n : ℕ) × (a .says ≡ said Word.settled (n ∷ []))) ⊎ ((n : ℕ) × (j : ℕ) × (a .says ≡ said Word.clash (n ∷ j ∷ [])))
-        go (inl (i, d, q)) = absurd (omega (arith, sym d ∙ call-good A g))
+        go (inl (i, d, q)) = absurd (omega (arith, sym d ∙ call-admitted A (g, r .0)))
         go (inr (f, q)) = by-run (ran A) refl q
 
     word-of : (y : Said) → a .says ≡ y → a .says .word ≡ y .word
@@ -142,10 +141,10 @@ module _ (A : Ask) where
 
     -- the log of refusal k
     abbrev LogOf : ℕ → Type 0
-    LogOf k = ((k ≡ 5) × (a .log ≡ cleared (A .log))) ⊎ ((k ≤ 3) × (a .log ≡ A .log))
+    LogOf k = ((k ≡ 5) × (a .log ≡ cleared (A .log))) ⊎ ((k ≡ 5 → ⊥) × (a .log ≡ A .log))
 
     left-log : (k : ℕ) → a .says ≡ said Word.refused (k ∷ []) → LogOf k
-    unfolding ended refusalOf
+    unfolding ended
     left-log k e = go (cased A a h)
       where
         by-run : (o : Out) → a ≡ ended A o → ended A o .says ≡ said Word.refused (k ∷ []) → LogOf k
@@ -156,12 +155,12 @@ module _ (A : Ask) where
         go : Case A a → LogOf k
         go (inl (i, d, q)) =
             let z : suc i ≡ k = ap num (says-of _ q _ e) in
-            inr (omega (arith, refusal-most (jobCount A) (columns A) (A .alone)), ap (λ (y : After). y .log) q)
+            inr (away-not-five A k (away-exactly A k .0 (omega arith, d ∙ z)), ap (λ (y : After). y .log) q)
         go (inr (g, q)) = by-run (ran A) q (says-of _ q _ e)
 
     zeros-of : (k : ℕ) → k ≡ 5 → LogOf k → a .log ≡ cleared (A .log)
     zeros-of k e (inl y) = y .1
-    zeros-of k e (inr y) = absurd (omega (arith, y .0))
+    zeros-of k e (inr y) = absurd (y .0 e)
 
     before-of : (k : ℕ) → (k ≡ 5 → ⊥) → LogOf k → a .log ≡ A .log
     before-of k f (inl y) = absurd (f (y .0))

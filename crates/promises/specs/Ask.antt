@@ -1,17 +1,19 @@
 -- A call of narrowing by any rules: what was submitted, what the defined run looks for, what the rules and a schedule are, and the record of a move.
 -- And what is asked of these, so that the answer table keeps its promise.
 use Prim.Native.Nat.{ℕ, _≤_, _<_}
+use mathlib.Core.Path.{_≡_}
 use mathlib.Core.List.{List, _∷_, map}
-use mathlib.Core.Logic.{_↔_}
+use mathlib.Core.Logic.{_⊎_, _↔_}
 use lib.ListN.{length}
+use Rattle.lists.specs.Tests.{unless, orNext}
 use Rattle.narrowing.specs.Windows.{Win, Side, early, LowestTooShort}
 use Rattle.narrowing.specs.Rules.{Family, Lawful}
 use Rattle.narrowing.specs.Schedules.{Fixed, Exact}
 use Rattle.narrowing.specs.Search.{Search, Searches, Move}
 use Rattle.narrowing.specs.Rounds.{Chosen}
 use Rattle.joblist.specs.Limits.{Column, timeColumn}
-use Rattle.joblist.specs.GoodList.{GoodList, refusal}
-use Rattle.journal.specs.Journal.{recordAt, logged}
+use Rattle.joblist.specs.GoodList.{GoodList, Given, refusal}
+use Rattle.journal.specs.Journal.{WholeRecords, Ragged, isWhole, recordAt, logged}
 
 pub record Ask : Type 1 where
   -- the submitted windows; the lists beside earliest starts, latest ends and durations; the numbers that stand alone
@@ -41,13 +43,21 @@ lasts A = A .search .p
 abbrev pub columns : Ask → List Column
 columns A = timeColumn (A .win .e) ∷ timeColumn (A .win .l) ∷ timeColumn (lasts A) ∷ A .beside
 
--- it has a good list, in facts; and the number of its refusal by tests 1 to 3
+-- it has a good list; and whole records fill its log besides, so that no test turns it away before the work (document 02, Item 10)
 abbrev pub Good : Ask → Type 0
 Good A = GoodList (jobCount A) (columns A) (A .alone)
 
+abbrev pub Admitted : Ask → Type 0
+Admitted A = Good A × WholeRecords (A .log)
+
+-- refusal k turns it away: by the first of the tests 1 to 3 that fails, or with 7 a good list whose log is ragged
+abbrev pub TurnedAway : Ask → ℕ → Type 0
+TurnedAway A k = ((1 ≤ k) × Given k (jobCount A) (columns A) (A .alone)) ⊎ ((k ≡ 7) × Good A × Ragged (A .log))
+
+-- the same as tests: the number of the first that fails, and 0 where none does
 unfoldable pub refusalOf : Ask → ℕ
-unfolding refusal
-refusalOf A = refusal (jobCount A) (columns A) (A .alone)
+unfolding refusal isWhole
+refusalOf A = orNext (refusal (jobCount A) (columns A) (A .alone)) (unless (isWhole (A .log)) 7 0)
 
 -- j is the lowest job whose window is too short
 abbrev pub TooShort : Ask → ℕ → Type 0

@@ -1,7 +1,7 @@
 -- What narrowing by any rules promises: the answer table, demand 2 and demand 3 (the mission's numbers) and its reasons, of a call and what it leaves.
 -- Demands 2 and 3 and the table's column 'exactly when' speak of schedules and of the rules; the run is named by the number of records that it needs alone, in
 -- the premise on the room and as the count of a settled answer and of a clash.
-use Prim.Native.Nat.{ℕ, _+_, _≤_, _<_}
+use Prim.Native.Nat.{ℕ, suc, _+_, _≤_, _<_}
 use mathlib.Core.Path.{_≡_}
 use mathlib.Core.List.{List, [], _∷_}
 use mathlib.Core.Logic.{_⊎_, _↔_}
@@ -11,9 +11,8 @@ use Rattle.narrowing.specs.Rules.{Candidate, Largest, NoCandidate}
 use Rattle.narrowing.specs.Schedules.{Schedule}
 use Rattle.narrowing.specs.Run.{needed}
 use Rattle.answers.specs.Said.{Word, said}
-use Rattle.joblist.specs.GoodList.{Given}
-use Rattle.journal.specs.Journal.{cleared}
-use Rattle.promises.specs.Ask.{Ask, jobCount, lasts, columns, Good}
+use Rattle.journal.specs.Journal.{WholeRecords, cleared}
+use Rattle.promises.specs.Ask.{Ask, jobCount, lasts, Good, Admitted, TurnedAway}
 use Rattle.promises.specs.Table.{After, narrowed}
 use Rattle.promises.specs.Reasons.{Reasons}
 
@@ -35,17 +34,21 @@ NoneIn A = NoCandidate (jobCount A) (lasts A) (A .rules) (A .win)
 abbrev pub AllFixed : Ask → Type 0
 AllFixed A = (k : ℕ) → k < jobCount A → A .win .l ! k ≡ A .win .e ! k + lasts A ! k
 
+-- there is room for so many records: a ragged log has none (document 02, Item 10)
+abbrev pub RoomFor : Ask → ℕ → Type 0
+RoomFor A n = WholeRecords (A .log) × (n ≤ A .room)
+
 -- the records that the work needs; there is room for them
 unfoldable pub needs : Ask → ℕ
 unfolding needed
 needs A = needed (A .search) (A .win)
 
 abbrev pub Room : Ask → Type 0
-Room A = needs A ≤ A .room
+Room A = RoomFor A (needs A)
 
--- refusal k's row: one of the tests 1 to 3, or 5: the work needs more records than there is room for
+-- refusal k's row: turned away, by 1 to 3 or 7; or 5: the work needs more records than there is room for
 abbrev pub RefusedRow : Ask → ℕ → Type 0
-RefusedRow A k = ((1 ≤ k) × Given k (jobCount A) (columns A) (A .alone)) ⊎ ((k ≡ 5) × Good A × (A .room < needs A))
+RefusedRow A k = TurnedAway A k ⊎ ((k ≡ 5) × Admitted A × (A .room < needs A))
 
 -- the answer table: each row exactly when it says so, and the windows and the log that it leaves; the log of a settled answer and of a clash is `Reasons`'
 pub record Exactly (A : Ask) (a : After) : Type 0 where
@@ -66,7 +69,7 @@ pub record Kept (A : Ask) (a : After) : Type 0 where
   -- a clash means that no schedule exists
   pub none : a .says .word ≡ Word.clash → (s : List ℕ) → Scheduled A (A .win) s → ⊥
   -- where every job of a good list is fixed and there is room for a record, clash exactly if the starts are broken
-  pub fixed : Good A → AllFixed A → 1 ≤ A .room → (a .says .word ≡ Word.clash) ↔ A .broken (A .win .e)
+  pub fixed : Good A → AllFixed A → RoomFor A 1 → (a .says .word ≡ Word.clash) ↔ A .broken (A .win .e)
 
 -- demand 3, for a good list; where a window is too short there are no stable windows that are long enough
 pub record Narrowest (A : Ask) (a : After) : Type 0 where
@@ -78,9 +81,9 @@ pub record Narrowest (A : Ask) (a : After) : Type 0 where
   pub clash : Room A → (a .says .word ≡ Word.clash) ↔ NoneIn A
   -- and settled exactly when such windows exist
   pub exists : Room A → (a .says .word ≡ Word.settled) ↔ ((U : Win) × StableIn A U)
-  -- free of the run: where the sum of l - e - p is below the room, settled or clash is said, settled exactly when such windows exist, clash
+  -- free of the run: where there is room for more records than the sum of l - e - p, settled or clash is said, settled exactly when such windows exist, clash
   -- exactly when none do
-  pub free : slack (lasts A) (A .win) (jobCount A) < A .room
+  pub free : RoomFor A (suc (slack (lasts A) (A .win) (jobCount A)))
       → ((a .says .word ≡ Word.settled) ⊎ (a .says .word ≡ Word.clash))
       × ((a .says .word ≡ Word.settled) ↔ ((U : Win) × StableIn A U))
       × ((a .says .word ≡ Word.clash) ↔ NoneIn A)

@@ -1,4 +1,4 @@
--- Document 01's answer table as one definition over any rules, with Item 3 of document 02: what narrowing says, and what it leaves in every lent word.
+-- Document 01's answer table as one definition over any rules, with Items 3 and 10 of document 02: what narrowing says, and what it leaves in every lent word.
 use Prim.Native.Nat.{ℕ, zero, suc}
 use mathlib.Core.List.{List, [], _∷_, map}
 use lib.ListN.{length}
@@ -28,7 +28,7 @@ ended A short = leaves (said Word.refused (5 ∷ [])) (A .win) (cleared (A .log)
 abbrev pub ran : Ask → Out
 ran A = run (A .search) (A .room) (A .win)
 
--- the rows of refusals 1 to 3, else the run's
+-- the rows of refusals 1 to 3 and 7, else the run's
 unfoldable pub tabled : Ask → ℕ → After
 unfolding ended run
 tabled A zero = ended A (ran A)

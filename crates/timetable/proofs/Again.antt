@@ -1,10 +1,12 @@
--- Last year's fault, over time-tabling's contract: the settled windows, narrowed again, settle with no record; nothing moves, and the log is left alone.
+-- Last year's fault, over time-tabling's contract: the settled windows, narrowed again, settle with no record; nothing moves, and the log, which
+-- whole records fill, is left alone.
 use Prim.Native.Nat.{ℕ}
 use mathlib.Core.Path.{_≡_, refl, sym, ap, subst}
 use mathlib.Core.List.{List, [], _∷_}
 use Rattle.narrowing.specs.Windows.{Long}
 use Rattle.narrowing.specs.Rules.{Stable}
 use Rattle.answers.specs.Said.{Word, said}
+use Rattle.journal.specs.Journal.{WholeRecords}
 use Rattle.promises.specs.Plain.{taskOf}
 use Rattle.promises.specs.Reordered.{Anew}
 use Rattle.promises.proofs.Again as general
@@ -42,5 +44,5 @@ module _ (c : Call) (a : After) (h : Narrows c a) (n : ℕ) (e : a .says ≡ sai
   pub long-again : Long (jobsOf next .n) (c .p) (a .win)
   long-again = general.long-again (asks c) a (by-rules c a h) n e (asks next) anew
 
-  pub settled-again : (b : After) → Narrows next b → b ≡ leaves (said Word.settled (0 ∷ [])) (a .win) log
-  settled-again b k = general.settled-again (asks c) a (by-rules c a h) n e (asks next) anew (grounds next) b (by-rules next b k)
+  pub settled-again : WholeRecords log → (b : After) → Narrows next b → b ≡ leaves (said Word.settled (0 ∷ [])) (a .win) log
+  settled-again w b k = general.settled-again (asks c) a (by-rules c a h) n e (asks next) anew (grounds next) w b (by-rules next b k)

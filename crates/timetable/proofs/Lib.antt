@@ -13,5 +13,6 @@ pub mod Unmoved
 pub mod Meaning
 pub mod Same
 pub mod TooShort
+pub mod Ragged
 pub mod Again
 pub mod Reordered

@@ -1,5 +1,5 @@
--- Laws over time-tabling's contract: the same jobs in another order get the same refusal 1 to 3; with room for both runs, the same window for each
--- job, or a clash again. They are those of narrowing by rules, since time-tabling does not look at the jobs' numbers.
+-- Laws over time-tabling's contract: the same jobs in another order get the same refusal 1 to 3, and 7 with a ragged log again; with room for both runs, the
+-- same window for each job, or a clash again. They are those of narrowing by rules, since time-tabling does not look at the jobs' numbers.
 use Prim.Native.Nat.{ℕ, _≤_}
 use mathlib.Core.Path.{_≡_, refl, ap}
 use mathlib.Core.List.{List, [], _∷_}
@@ -9,6 +9,7 @@ use Rattle.narrowing.specs.Renumbered.{SameWin}
 use Rattle.answers.specs.Said.{Word, said}
 use Rattle.joblist.specs.Limits.{jobs, supply}
 use Rattle.joblist.specs.Renumbered.{SameColumn}
+use Rattle.journal.specs.Journal.{Ragged}
 use Rattle.promises.specs.Reordered.{SameAsk}
 use Rattle.promises.proofs.Reordered as general
 use Rattle.timetable.specs.Table.{Call, jobsOf, asks, Good, After}
@@ -44,6 +45,10 @@ module _ (π σ : ℕ → ℕ) (c d : Call) (t : Permutes (jobs (c .win)) π σ)
     -- the same refusal, 1 to 3
     pub refused-there : (k : ℕ) → k ≤ 3 → a .says ≡ said Word.refused (k ∷ []) → b .says ≡ said Word.refused (k ∷ [])
     refused-there = general.refused-there π σ (asks c) (asks d) t same-ask a b (by-rules c a f) (by-rules d b g)
+
+    -- 7 again where the other log is ragged too
+    pub ragged-there : Ragged (d .log) → a .says ≡ said Word.refused (7 ∷ []) → b .says ≡ said Word.refused (7 ∷ [])
+    ragged-there = general.ragged-there π σ (asks c) (asks d) t same-ask a b (by-rules c a f) (by-rules d b g)
 
     module _ (good : Good c) (room : Room c) (space : Room d) where
       -- a settled answer here is one there, with the same window for each job

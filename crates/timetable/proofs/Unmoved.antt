@@ -19,7 +19,7 @@ use Rattle.timetable.specs.Time.{Jobs, Applies}
 use Rattle.timetable.specs.Search.{search, Member, member, leanMember, naming, entry}
 use Rattle.timetable.specs.Table.{Call, jobsOf, refusalOf, ended, tabled, narrowedBy, narrowed}
 use Rattle.timetable.specs.Reasons.{Shortens, Shortened, Unmoved}
-use Rattle.timetable.proofs.Calls.{good-call, whole}
+use Rattle.timetable.proofs.Calls.{admitted-call, whole}
 use Rattle.timetable.proofs.Entries.{entries-are, entries-count}
 use Rattle.timetable.proofs.Law.{lawful, searches}
 use Rattle.timetable.proofs.Facts.{member-yes, yes-member}
@@ -94,7 +94,7 @@ module _ (c : Call) where
   unfolding tabled
   tabled-shortened zero e =
       ended-shortened (run (search J) (roomOf (c .log)) (c .win))
-      (run-bounded (search J) (Applies J) (searches J) (lawful J) (roomOf (c .log)) (c .win) (whole c (good-call c e)))
+      (run-bounded (search J) (Applies J) (searches J) (lawful J) (roomOf (c .log)) (c .win) (whole c (admitted-call c e .0)))
   tabled-shortened (suc k) e = record { says = refl; windows = refl; size = refl; records = λ i. same-record _ }
 
   pub unmoved-by : Unmoved c (narrowed c)

@@ -27,7 +27,10 @@ NoneIn c = promise.NoneIn (asks c)
 abbrev pub AllFixed : Call → Type 0
 AllFixed c = promise.AllFixed (asks c)
 
--- the records that the work needs; the log has room for them
+-- the log has room for so many records; the number that the work needs; it has room for them
+abbrev pub RoomFor : Call → ℕ → Type 0
+RoomFor c = promise.RoomFor (asks c)
+
 abbrev pub needs : Call → ℕ
 needs c = promise.needs (asks c)
 

@@ -51,9 +51,12 @@ asksNaming M c =
 abbrev pub asks : Call → Ask
 asks = asksNaming leanMember
 
--- it has a good list, in facts; and the number of its refusal by tests 1 to 3
+-- it has a good list; and whole records fill its log besides; and the number of the first of the tests 1, 2, 3 and 7 that fails
 abbrev pub Good : Call → Type 0
 Good c = GoodList (jobs (c .win)) (fourLists (c .win) (c .p) (c .r)) (supply (c .cap))
+
+abbrev pub Admitted : Call → Type 0
+Admitted c = ask.Admitted (asks c)
 
 unfoldable pub refusalOf : Call → ℕ
 unfolding ask.refusalOf
@@ -71,7 +74,7 @@ pub record Workable (c : Call) : Type 0 where
   pub good : Good c
   pub long : AllLong c
 
--- the rows of a run's end; those of refusals 1 to 3, else the run's; what narrowing answers and leaves: by whom its records name
+-- the rows of a run's end; those of refusals 1 to 3 and 7, else the run's; what narrowing answers and leaves: by whom its records name
 unfoldable pub ended : Names → Call → Out → After
 unfolding table.ended naming
 ended M c o = table.ended (asksNaming M c) o

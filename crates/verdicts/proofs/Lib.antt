@@ -4,3 +4,4 @@ pub mod Firm
 pub mod Meaning
 pub mod Replays
 pub mod Taken
+pub mod Ragged

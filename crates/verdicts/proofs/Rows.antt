@@ -11,11 +11,10 @@ use borrow.Author.Tests.{ltb-true, ltb-false, le-ltb}
 use Rattle.lists.specs.Lists.{_!_}
 use Rattle.answers.specs.Said.{Word, Said, said}
 use Rattle.answers.proofs.Same.{not-said, said-apart}
-use Rattle.joblist.proofs.Refusals.{refusal-exactly}
 use Rattle.journal.specs.Journal.{roomOf, records}
 use Rattle.journal.proofs.Records.{room-short}
-use Rattle.promises.specs.Ask.{Ask, jobCount, lasts, columns, Good, refusalOf}
-use Rattle.promises.proofs.Calls.{good-call, call-good}
+use Rattle.promises.specs.Ask.{Ask, jobCount, lasts, Admitted, refusalOf}
+use Rattle.promises.proofs.Calls.{admitted-call, call-admitted, away-exactly, admitted-not-away}
 use Rattle.verdicts.specs.Replay.{Trial, Verdict, holds, clashes, rejected, verdictOn, Checked, judged, refuses, orSix, rows, checked}
 use Rattle.verdicts.specs.Fate.{reached, Open, Shut, Fate}
 use Rattle.verdicts.specs.Promise.{Judges, RefusedRow, Claimed, Exactly}
@@ -28,52 +27,52 @@ module _ (T : Trial) (A : Ask) (count : ℕ) where
   -- the answer is a refusal's, 6, or the verdict's
   pub data Case (a : Checked) : Type 0 where
     tested : (k : ℕ) → refusalOf A ≡ suc k → a ≡ refuses (A .win) (suc k) → Case a
-    six : Good A → roomOf (A .log) < count → a ≡ refuses (A .win) 6 → Case a
-    judges : Good A → count ≤ roomOf (A .log) → a ≡ judged (A .win) count verdict → Case a
+    six : Admitted A → roomOf (A .log) < count → a ≡ refuses (A .win) 6 → Case a
+    judges : Admitted A → count ≤ roomOf (A .log) → a ≡ judged (A .win) count verdict → Case a
 
-  case-six : (b : Bool) → ltb (roomOf (A .log)) count ≡ b → Good A → Case (orSix b (refuses (A .win) 6) (judged (A .win) count verdict))
+  case-six : (b : Bool) → ltb (roomOf (A .log)) count ≡ b → Admitted A → Case (orSix b (refuses (A .win) 6) (judged (A .win) count verdict))
   case-six true e g = six g (ltb-true _ _ e) refl
   case-six false e g = judges g (ltb-false _ _ e) refl
 
   case-of : (k : ℕ) → refusalOf A ≡ k → Case (rows T A count k)
   unfolding rows
-  case-of zero e = case-six (ltb (roomOf (A .log)) count) refl (good-call A e)
+  case-of zero e = case-six (ltb (roomOf (A .log)) count) refl (admitted-call A e)
   case-of (suc k) e = tested k e refl
 
   pub cased : (a : Checked) → a ≡ checked T A count → Case a
   unfolding checked
   cased a h = subst Case (sym h) (case-of (refusalOf A) refl)
 
-  -- the answer on a good list with room for the claimed records
-  pub good-judged : Good A → count ≤ roomOf (A .log) → checked T A count ≡ judged (A .win) count verdict
+  -- the answer where the claimed records are there
+  pub claimed-judged : Claimed A count → checked T A count ≡ judged (A .win) count verdict
   unfolding checked rows
-  good-judged g b = rw (call-good A g, le-ltb (roomOf (A .log)) count b)
+  claimed-judged (g, b) = rw (call-admitted A g, le-ltb (roomOf (A .log)) count b)
 
   module _ (y : Judges T A) (a : Checked) (h : a ≡ checked T A count) where
     says-of : (b : Checked) → a ≡ b → (x : Said) → a .says ≡ x → b .says ≡ x
     says-of b e x q = sym (ap (λ (z : Checked). z .says) e) ∙ q
 
     -- a verdict with its facts gives its answer
-    pub fate-answers : (v : Verdict) → Good A → count ≤ roomOf (A .log) → Fate T A count v → a ≡ judged (A .win) count v
-    fate-answers v g b f = h ∙ good-judged g b ∙ ap (judged (A .win) count) (fate-exactly T A y count v .1 f)
+    pub fate-answers : (v : Verdict) → Claimed A count → Fate T A count v → a ≡ judged (A .win) count v
+    fate-answers v g f = h ∙ claimed-judged g ∙ ap (judged (A .win) count) (fate-exactly T A y count v .1 f)
 
     -- an answer other than a refusal is a verdict with its facts
-    verdict-of : (x : Said) → a .says ≡ x → (x .word ≡ Word.refused → ⊥) → Good A × (count ≤ roomOf (A .log)) × (v : Verdict) × Fate T A count v × (judged (A .win) count v .says ≡ x)
+    verdict-of : (x : Said) → a .says ≡ x → (x .word ≡ Word.refused → ⊥) → Claimed A count × (v : Verdict) × Fate T A count v × (judged (A .win) count v .says ≡ x)
     verdict-of x e f = go (cased a h)
       where
         not-refused : (k : ℕ) → a ≡ refuses (A .win) k → ⊥
         not-refused k q = f (sym (ap (λ (z : Said). z .word) (says-of (refuses (A .win) k) q x e)))
 
-        go : Case a → Good A × (count ≤ roomOf (A .log)) × (v : Verdict) × Fate T A count v × (judged (A .win) count v .says ≡ x)
+        go : Case a → Claimed A count × (v : Verdict) × Fate T A count v × (judged (A .win) count v .says ≡ x)
         go (tested k d q) = absurd (not-refused (suc k) q)
         go (six g b q) = absurd (not-refused 6 q)
-        go (judges g b q) = (g, b, verdict, fate-exactly T A y count verdict .0 refl, says-of (judged (A .win) count verdict) q x e)
+        go (judges g b q) = ((g, b), verdict, fate-exactly T A y count verdict .0 refl, says-of (judged (A .win) count verdict) q x e)
 
     holds-facts : (n : ℕ) → a .says ≡ said Word.holds (n ∷ []) → Claimed A count × (n ≡ count) × Open T A count
     holds-facts n e =
         let r = verdict-of _ e (not-said Word.holds Word.refused (λ z. omega arith)) in
-        let q = by (r .2) (r .3) (r .4) in
-        ((r .0, r .1), q .0, q .1)
+        let q = by (r .1) (r .2) (r .3) in
+        (r .0, q .0, q .1)
       where
         by : (v : Verdict) → Fate T A count v → judged (A .win) count v .says ≡ said Word.holds (n ∷ []) → (n ≡ count) × Open T A count
         by (holds U) f q = (sym (ap (λ (z : Said). z .numbers ! 0) q), f .1)
@@ -83,8 +82,8 @@ module _ (T : Trial) (A : Ask) (count : ℕ) where
     clash-facts : (n j : ℕ) → a .says ≡ said Word.clash (n ∷ j ∷ []) → Claimed A count × (n ≡ count) × Shut T A count j
     clash-facts n j e =
         let r = verdict-of _ e (not-said Word.clash Word.refused (λ z. omega arith)) in
-        let q = by (r .2) (r .3) (r .4) in
-        ((r .0, r .1), q .0, q .1)
+        let q = by (r .1) (r .2) (r .3) in
+        (r .0, q .0, q .1)
       where
         by : (v : Verdict) → Fate T A count v → judged (A .win) count v .says ≡ said Word.clash (n ∷ j ∷ []) → (n ≡ count) × Shut T A count j
         by (holds U) f q = said-apart Word.holds Word.clash _ _ (λ z. omega arith) q
@@ -92,7 +91,7 @@ module _ (T : Trial) (A : Ask) (count : ℕ) where
         by (rejected i k) f q = said-apart Word.rejected Word.clash _ _ (λ z. omega arith) q
 
     rejected-facts : (i k : ℕ) → a .says ≡ said Word.rejected (i ∷ k ∷ []) → Claimed A count × Fate T A count (rejected i k)
-    rejected-facts i k e = let r = verdict-of _ e (not-said Word.rejected Word.refused (λ z. omega arith)) in ((r .0, r .1), by (r .2) (r .3) (r .4))
+    rejected-facts i k e = let r = verdict-of _ e (not-said Word.rejected Word.refused (λ z. omega arith)) in (r .0, by (r .1) (r .2) (r .3))
       where
         by : (v : Verdict) → Fate T A count v → judged (A .win) count v .says ≡ said Word.rejected (i ∷ k ∷ []) → Fate T A count (rejected i k)
         by (holds U) f e = said-apart Word.holds Word.rejected _ _ (λ z. omega arith) e
@@ -131,7 +130,6 @@ module _ (T : Trial) (A : Ask) (count : ℕ) where
         go (judges g b q) = by verdict q
 
     refused-facts : (k : ℕ) → (a .says ≡ said Word.refused (k ∷ [])) ↔ RefusedRow A count k
-    unfolding refusalOf
     refused-facts k = (λ e. there e (cased a h), λ r. back r (cased a h))
       where
         word-not : (v : Verdict) → judged (A .win) count v .says .word ≡ Word.refused → ⊥
@@ -142,17 +140,17 @@ module _ (T : Trial) (A : Ask) (count : ℕ) where
         there : a .says ≡ said Word.refused (k ∷ []) → Case a → RefusedRow A count k
         there e (tested m d q) =
             let z : suc m ≡ k = ap (λ (z : Said). z .numbers ! 0) (says-of _ q _ e) in
-            inl (omega arith, refusal-exactly (jobCount A) (columns A) (A .alone) k .0 (d ∙ z))
+            inl (away-exactly A k .0 (omega arith, d ∙ z))
         there e (six g b q) = inr (sym (ap (λ (z : Said). z .numbers ! 0) (says-of _ q _ e)), g, room-short (A .log) count .0 b)
         there e (judges g b q) = absurd (word-not verdict (ap (λ (z : Said). z .word) (says-of _ q _ e)))
 
         back : RefusedRow A count k → Case a → a .says ≡ said Word.refused (k ∷ [])
-        back (inl (b, t)) (tested m d q) =
-            let z : suc m ≡ k = sym d ∙ refusal-exactly (jobCount A) (columns A) (A .alone) k .1 t in
+        back (inl t) (tested m d q) =
+            let z : suc m ≡ k = sym d ∙ away-exactly A k .1 t .1 in
             ap (λ (z : Checked). z .says) q ∙ ap (λ (i : ℕ). said Word.refused (i ∷ [])) z
-        back (inl (b, t)) (six g d q) = absurd (omega (arith, sym (call-good A g) ∙ refusal-exactly (jobCount A) (columns A) (A .alone) k .1 t))
-        back (inl (b, t)) (judges g d q) = absurd (omega (arith, sym (call-good A g) ∙ refusal-exactly (jobCount A) (columns A) (A .alone) k .1 t))
-        back (inr (e, g, b)) (tested m d q) = absurd (omega (arith, sym d ∙ call-good A g))
+        back (inl t) (six g d q) = absurd (admitted-not-away A g k t)
+        back (inl t) (judges g d q) = absurd (admitted-not-away A g k t)
+        back (inr (e, g, b)) (tested m d q) = absurd (omega (arith, sym d ∙ call-admitted A g))
         back (inr (e, g, b)) (six f d q) = ap (λ (z : Checked). z .says) q ∙ ap (λ (i : ℕ). said Word.refused (i ∷ [])) (sym e)
         back (inr (e, g, b)) (judges f d q) = absurd (omega (arith, room-short (A .log) count .1 b))
 
@@ -168,4 +166,4 @@ module _ (T : Trial) (A : Ask) (count : ℕ) where
         }
       where
         says-by : (v : Verdict) → Claimed A count → Fate T A count v → a .says ≡ judged (A .win) count v .says
-        says-by v c f = ap (λ (z : Checked). z .says) (fate-answers v (c .0) (c .1) f)
+        says-by v c f = ap (λ (z : Checked). z .says) (fate-answers v c f)

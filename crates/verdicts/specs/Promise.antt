@@ -13,9 +13,8 @@ use Rattle.narrowing.specs.Search.{Move, move, after}
 use Rattle.narrowing.specs.Rounds.{Choice}
 use Rattle.answers.specs.Said.{Word, Said, said}
 use Rattle.joblist.specs.Limits.{mostTime}
-use Rattle.joblist.specs.GoodList.{Given}
 use Rattle.journal.specs.Journal.{recordWords, jobOf, roomOf}
-use Rattle.promises.specs.Ask.{Ask, jobCount, lasts, columns, Good}
+use Rattle.promises.specs.Ask.{Ask, jobCount, lasts, Good, Admitted, TurnedAway}
 use Rattle.promises.specs.Table.{After}
 use Rattle.promises.specs.Promise.{Scheduled, Narrows}
 use Rattle.verdicts.specs.Replay.{Trial, rejected, Checked, finds, checked}
@@ -46,13 +45,13 @@ takenBy Word.read k = 0
 abbrev pub taken : Said → ℕ
 taken a = takenBy (a .word) (a .numbers ! 0)
 
--- refusal k's row: one of the tests 1 to 3, or 6: the log is shorter than a record's words for each claimed record
+-- refusal k's row: turned away, by 1 to 3 or 7; or 6: the log is shorter than a record's words for each claimed record
 abbrev pub RefusedRow : Ask → ℕ → ℕ → Type 0
-RefusedRow A count k = ((1 ≤ k) × Given k (jobCount A) (columns A) (A .alone)) ⊎ ((k ≡ 6) × Good A × (length (A .log) < recordWords * count))
+RefusedRow A count k = TurnedAway A k ⊎ ((k ≡ 6) × Admitted A × (length (A .log) < recordWords * count))
 
--- the list is good, and the log holds the claimed records
+-- the list is good, whole records fill the log, and the claimed ones are among them
 abbrev pub Claimed : Ask → ℕ → Type 0
-Claimed A count = Good A × (count ≤ roomOf (A .log))
+Claimed A count = Admitted A × (count ≤ roomOf (A .log))
 
 -- each answer exactly when the paper says so, in facts of the log, and the windows that it leaves
 pub record Exactly (T : Trial) (A : Ask) (count : ℕ) (a : Checked) : Type 0 where

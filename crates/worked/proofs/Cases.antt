@@ -25,105 +25,102 @@ cases = (
             (
               refl,  -- 6
               (
-                refl,  -- 6
+                refl,  -- 7
                 (
                   refl,  -- 7
                   (
-                    refl,  -- 7
+                    refl,  -- 8
                     (
-                      refl,  -- 8
+                      refl,  -- 9
                       (
                         refl,  -- 9
                         (
-                          refl,  -- 9
+                          refl,  -- 10
                           (
                             refl,  -- 10
                             (
-                              refl,  -- 10
+                              refl,  -- 11
                               (
-                                refl,  -- 11
+                                refl,  -- 12
                                 (
-                                  refl,  -- 12
+                                  refl,  -- 20
                                   (
-                                    refl,  -- 20
+                                    refl,  -- 21
                                     (
-                                      refl,  -- 21
+                                      refl,  -- 22
                                       (
-                                        refl,  -- 22
+                                        refl,  -- 23
                                         (
-                                          refl,  -- 23
+                                          refl,  -- 24
                                           (
-                                            refl,  -- 24
+                                            refl,  -- 26
                                             (
-                                              refl,  -- 26
+                                              refl,  -- 25
                                               (
-                                                refl,  -- 25
+                                                refl,  -- 30
                                                 (
-                                                  refl,  -- 30
+                                                  refl,  -- 31
                                                   (
-                                                    refl,  -- 31
+                                                    refl,  -- 32
                                                     (
-                                                      refl,  -- 32
+                                                      refl,  -- 33
                                                       (
-                                                        refl,  -- 33
+                                                        refl,  -- 34
                                                         (
-                                                          refl,  -- 34
+                                                          refl,  -- 35
                                                           (
-                                                            refl,  -- 35
+                                                            refl,  -- 36
                                                             (
-                                                              refl,  -- 36
+                                                              refl,  -- 37
                                                               (
-                                                                refl,  -- 37
+                                                                refl,  -- 38
                                                                 (
-                                                                  refl,  -- 38
+                                                                  refl,  -- 39
                                                                   (
-                                                                    refl,  -- 39
+                                                                    refl,  -- 40
                                                                     (
-                                                                      refl,  -- 40
+                                                                      refl,  -- 50
                                                                       (
-                                                                        refl,  -- 50
+                                                                        refl,  -- 51
                                                                         (
-                                                                          refl,  -- 51
+                                                                          refl,  -- 52
                                                                           (
-                                                                            refl,  -- 52
+                                                                            refl,  -- 53
                                                                             (
-                                                                              refl,  -- 53
+                                                                              refl,  -- 54
                                                                               (
-                                                                                refl,  -- 54
+                                                                                refl,  -- 55
                                                                                 (
-                                                                                  refl,  -- 55
+                                                                                  refl,  -- 60
                                                                                   (
-                                                                                    refl,  -- 60
+                                                                                    refl,  -- 61
                                                                                     (
-                                                                                      refl,  -- 61
+                                                                                      refl,  -- 62
                                                                                       (
-                                                                                        refl,  -- 62
+                                                                                        refl,  -- 63
                                                                                         (
-                                                                                          refl,  -- 63
+                                                                                          refl,  -- 70
                                                                                           (
-                                                                                            refl,  -- 70
+                                                                                            refl,  -- 71
                                                                                             (
-                                                                                              refl,  -- 71
+                                                                                              refl,  -- 72
                                                                                               (
-                                                                                                refl,  -- 72
+                                                                                                refl,  -- 73
                                                                                                 (
-                                                                                                  refl,  -- 73
+                                                                                                  refl,  -- 74
                                                                                                   (
-                                                                                                    refl,  -- 74
+                                                                                                    refl,  -- 75
                                                                                                     (
-                                                                                                      refl,  -- 75
+                                                                                                      refl,  -- 76
                                                                                                       (
-                                                                                                        refl,  -- 76
+                                                                                                        refl,  -- 77
                                                                                                         (
-                                                                                                          refl,  -- 77
+                                                                                                          refl,  -- 78
                                                                                                           (
-                                                                                                            refl,  -- 78
+                                                                                                            refl,  -- 79
                                                                                                             (
-                                                                                                              refl,  -- 79
-                                                                                                              (
-                                                                                                                refl,  -- 80
-                                                                                                                tt,
-                                                                                                              ),
+                                                                                                              refl,  -- 80
+                                                                                                              tt,
                                                                                                             ),
                                                                                                           ),
                                                                                                         ),

@@ -17,17 +17,15 @@ use Rattle.narrowing.specs.Led.{Clashed}
 use Rattle.narrowing.specs.Rounds.{Chosen}
 use Rattle.answers.specs.Said.{Word, said}
 use Rattle.journal.specs.Journal.{roomOf}
-use Rattle.joblist.proofs.Refusals.{refusal-exactly}
-use Rattle.promises.specs.Ask as ask
 use Rattle.promises.specs.Promise as promise
-use Rattle.promises.proofs.Calls.{call-good}
+use Rattle.promises.proofs.Calls.{admitted-not-away}
 use Rattle.timetable.specs.Time.{runsAt, drawn, Fits, Early, Applies, bound}
 use Rattle.timetable.specs.Search.{crowded, best, search}
-use Rattle.timetable.specs.Table.{Call, jobsOf, asks, Good, refusalOf, After}
+use Rattle.timetable.specs.Table.{Call, jobsOf, asks, Good, Admitted, refusalOf, After}
 use Rattle.timetable.specs.Reasons.{Reasons}
 use Rattle.timetable.specs.Promise.{Scheduled, Room, RefusedRow, Exactly, Kept, Narrowest}
 use Rattle.timetable.proofs.Facts.{crowded-yes, runs-yes}
-use Rattle.timetable.proofs.Calls.{good-call}
+use Rattle.timetable.proofs.Calls.{admitted-call}
 use Rattle.worked.specs.Rows.{job}
 use Rattle.worked.specs.Runs.{lent}
 use Rattle.worked.specs.Checks.{example}
@@ -44,27 +42,26 @@ case6 = lent 1 (job 0 3 1 2 ∷ []) 3
 
 -- ---- refusing every list: a refusal is given exactly when its row says so (`exactly`), and case 5 is a good list with room for the work
 
-good5 : Good case5
+admitted5 : Admitted case5
 unfolding refusalOf
-good5 = good-call case5 refl
+admitted5 = admitted-call case5 refl
 
 room5 : Room case5
 unfolding promise.needs best roomOf
-room5 = omega arith
+room5 = (admitted5 .1, omega arith)
 
 pub refusing-all : (a : After) → Exactly case5 a → (k : ℕ) → a .says ≡ said Word.refused (k ∷ []) → ⊥
-unfolding ask.refusalOf
 refusing-all a h k e = go (h .refused k .0 e)
   where
     go : RefusedRow case5 k → ⊥
-    go (inl (b, t)) = omega (arith, sym (call-good (asks case5) good5) ∙ refusal-exactly _ _ _ k .1 t)
-    go (inr (q, g, b)) = omega (arith, room5)
+    go (inl t) = admitted-not-away (asks case5) admitted5 k t
+    go (inr (q, g, b)) = omega (arith, room5 .1)
 
 -- ---- settling everything with nothing moved: on case 2 a rule still applies
 
 good2 : Good case2
 unfolding refusalOf
-good2 = good-call case2 refl
+good2 = admitted-call case2 refl .0
 
 crowded2 : crowded (jobsOf case2) (case2 .win) 0 4 ≡ true
 unfolding crowded

@@ -8,7 +8,7 @@ use lib.ListN.{replicate}
 use Rattle.journal.specs.Journal.{recordWords}
 use Rattle.timetable.specs.Table.{After}
 use Rattle.worked.specs.Rows.{RunRow, Job, job, span, noted, notedAt}
-use Rattle.worked.specs.Runs.{settles, clashesWith, tooShort, refusesWith, ragged, overloaded, fine}
+use Rattle.worked.specs.Runs.{settles, clashesWith, tooShort, refusesWith, overloaded, fine}
 
 -- a job with a wide window beside three side by side: at its beginning, with the greatest of them first, and at its end
 abbrev pub crowd : List Job
@@ -33,7 +33,6 @@ onRecord =
     settles 5 1 (job 0 2 2 1 ∷ job 2 4 2 1 ∷ []) 8 0 (span 0 2 ∷ span 2 4 ∷ []) [] ∷
     clashesWith 6 1 (job 0 3 1 2 ∷ []) 3 3 0 (noted 0 0 0 0 0 ++ (noted 0 0 1 0 0 ++ noted 0 0 2 0 0)) ∷
     refusesWith 6 1 (job 0 3 1 2 ∷ []) 2 5 (replicate (2 * recordWords) 0) ∷
-    ragged 6 1 (job 0 3 1 2 ∷ []) 29 5 ∷
     clashesWith 7 1 (job 0 3 2 1 ∷ job 0 3 2 1 ∷ []) 2 1 0 (noted 0 0 1 1 2) ∷
     settles 7 1 (job 0 4 2 1 ∷ job 0 4 2 1 ∷ []) 8 0 (span 0 4 ∷ span 0 4 ∷ []) [] ∷
     settles 8 1 (job 1 1 0 5 ∷ []) 8 0 (span 1 1 ∷ []) [] ∷

@@ -24,7 +24,7 @@ checks =
     holding 2 example 2 (noted 0 0 4 1 2 ++ noted 1 1 5 1 1) (span 5 7 ∷ span 2 5 ∷ []) ∷
     clashing 1 caseFour 1 (noted 0 0 1 1 2) 0 ∷
     clashing 1 caseFour 1 (noted 0 1 0 1 2) 0 ∷
-    refusing 6 5 caseTwo 2 (noted 0 0 4 2 6 ++ (7 ∷ 7 ∷ [])) ∷
+    refusing 6 5 caseTwo 2 (noted 0 0 4 2 6) ∷
     refusing 6 5 caseTwo 2 (noted 3 0 4 2 6) ∷
     -- a window that is too short: 6 comes before; a clash where no record is claimed, whatever the log holds; else the first is rejected
     refusing 6 5 (job 2 4 3 2 ∷ []) 1 [] ∷

@@ -4,3 +4,4 @@ pub mod Cases
 pub mod Logs
 pub mod Checks
 pub mod CloseChecks
+pub mod Ragged

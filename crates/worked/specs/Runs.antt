@@ -28,14 +28,13 @@ abbrev pub refusesWith : ℕ → ℕ → List Job → ℕ → ℕ → List ℕ �
 refusesWith number cap js room k log =
     record { number = number; done = narrowed (lent cap js room); due = leaves (said Word.refused (k ∷ [])) (windowsOf js) log }
 
--- a log of so many words, cleared
-abbrev pub ragged : ℕ → ℕ → List Job → ℕ → ℕ → RunRow After
-ragged number cap js words k =
-    record {
-      number = number;
-      done = narrowed (call (windowsOf js) (durationsOf js) (demandsOf js) cap (replicate words 9));
-      due = leaves (said Word.refused (k ∷ [])) (windowsOf js) (replicate words 0);
-    }
+-- refusal k, which leaves every word of the call as it was
+abbrev pub turnedAway : ℕ → Call → ℕ → RunRow After
+turnedAway number c k = record { number = number; done = narrowed c; due = leaves (said Word.refused (k ∷ [])) (c .win) (c .log) }
+
+-- the same with a log of so many words
+abbrev pub keeps : ℕ → ℕ → List Job → ℕ → ℕ → RunRow After
+keeps number cap js words k = turnedAway number (call (windowsOf js) (durationsOf js) (demandsOf js) cap (replicate words 9)) k
 
 -- the overload check leaves the windows alone, and looks at no demand
 abbrev pub heads : ℕ → List Job → Said → RunRow After

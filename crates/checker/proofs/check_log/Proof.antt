@@ -6,13 +6,13 @@ use borrow.Author.Needs.{needs}
 use Rattle.narrowing.specs.Windows.{win}
 use Rattle.windows.proofs.TooShort.{answer-too-short, answer-long}
 use Rattle.journal.specs.Journal.{roomOf}
-use Rattle.timetable.proofs.Calls.{good-call, call-good}
-use Rattle.timetable.specs.Table.{Call, call, Good, TooShort, AllLong, refusalOf}
+use Rattle.timetable.proofs.Calls.{admitted-call, call-admitted}
+use Rattle.timetable.specs.Table.{Call, call, Admitted, TooShort, AllLong}
 use Rattle.checker.proofs.Answered.{promised, row-refused, row-six, row-short-claimed, row-short-unclaimed, row-judged}
 use Rattle.checker.proofs.check_log.Statement.{statement}
 use Rattle.checker.proofs.check_log.Tie as tie
 
--- ---- the places that are gone back to: past the tests 1 to 3, past 6, and at the test for short windows
+-- ---- the places that are gone back to: past the tests 1 to 3 and 7, past 6, and at the test for short windows
 
 abbrev begun : tie.Else1 → tie.Start
 begun d = d .before .before .before .before .before .before .before .before .before
@@ -31,9 +31,8 @@ on-long d = d .before .before .before .before
 abbrev called : tie.Start → Call
 called s = let a = s .args in call (win (a .est .now) (a .lct .now)) (a .dur .now) (a .dem .now) (a .cap) (a .log .now)
 
-good : (d : tie.Else1) → Good (called (begun d))
-unfolding refusalOf
-good d = good-call (called (begun d)) (sym (d .before .refusal .ensures) ∙ d .if1 .left)
+admitted : (d : tie.Else1) → Admitted (called (begun d))
+admitted d = admitted-call (called (begun d)) (sym (d .before .refusal .ensures) ∙ d .if1 .left)
 
 enough : (d : tie.Else2) → begun (passed d) .args .count ≤ roomOf (called (begun (passed d)) .log)
 enough d = omega (arith, d .before .room .ensures, d .if2 .left)
@@ -47,7 +46,6 @@ all-long d = answer-long _ _ _ _ (d .before .lowest-too-short .ensures) (d .if3 
 -- ---- the needs; those that the search closes are answered in the list at the end
 
 returns : tie.Need-returns
-unfolding refusalOf
 returns c =
     let a = c .before .before .before .before .before .before .before .before .before .args in
     let k = called (c .before .before .before .before .before .before .before .before .before) in
@@ -58,28 +56,28 @@ returns-2 c =
     let d = c .before .before in
     let k = called (begun d) in
     let n = begun d .args .count in
-    promised k n _ (row-six k n (call-good k (good d)) (omega (arith, c .before .room .ensures, c .if2 .taken)))
+    promised k n _ (row-six k n (call-admitted k (admitted d)) (omega (arith, c .before .room .ensures, c .if2 .taken)))
 
 lowest-too-short-requires : tie.Need-lowest-too-short-requires
-lowest-too-short-requires c κs = let g = good (passed (c .before .before)) in (g .sized .1 .0, g .sized .1 .1 .0)
+lowest-too-short-requires c κs = let g = admitted (passed (c .before .before)) .0 in (g .sized .1 .0, g .sized .1 .1 .0)
 
 returns-3 : tie.Need-returns-3
 returns-3 c =
     let r = on-short (c .before) in
     let s = begun (passed r) in
     promised (called s) (s .args .count) _
-    (row-short-claimed (called s) (s .args .count) _ (good (passed r)) (too-short (c .before)) (omega (arith, c .if4 .taken)) (enough r))
+    (row-short-claimed (called s) (s .args .count) _ (admitted (passed r)) (too-short (c .before)) (omega (arith, c .if4 .taken)) (enough r))
 
 returns-4 : tie.Need-returns-4
 returns-4 c =
     let r = on-short (c .before) in
     let s = begun (passed r) in
-    promised (called s) (s .args .count) _ (row-short-unclaimed (called s) (s .args .count) _ (good (passed r)) (too-short (c .before)) (omega (arith, c .if4 .left)))
+    promised (called s) (s .args .count) _ (row-short-unclaimed (called s) (s .args .count) _ (admitted (passed r)) (too-short (c .before)) (omega (arith, c .if4 .left)))
 
 on-copies-requires : tie.Need-on-copies-requires
 on-copies-requires c κs =
     let r = on-long (c .before .before) in
-    let g = good (passed r) in
+    let g = admitted (passed r) .0 in
     (record { sized = g .sized; few = g .few; within = g .within; beside = g .beside }, enough r)
 
 returns-5 : tie.Need-returns-5
@@ -88,7 +86,7 @@ returns-5 c =
     let d = replayed .before .before .before in
     let s = begun (passed (on-long d)) in
     promised (called s) (s .args .count) _
-    (replayed .on-copies .ensures ∙ row-judged (called s) (s .args .count) (good (passed (on-long d))) (enough (on-long d)) (all-long d))
+    (replayed .on-copies .ensures ∙ row-judged (called s) (s .args .count) (admitted (passed (on-long d)), enough (on-long d)) (all-long d))
 
 pub check-log-spec : {M : Type 1} → statement M
 check-log-spec =

@@ -13,17 +13,18 @@ use Rattle.answers.specs.Said.{says}
 use Rattle.joblist.specs.Limits.{mostJobs}
 use Rattle.windows.proofs.Copies.{saved-back, kept-length}
 use Rattle.windows.proofs.TooShort.{answer-too-short, answer-long}
-use Rattle.timetable.specs.Table.{Call, call, leaves, Good, Workable}
+use Rattle.timetable.specs.Table.{Call, call, leaves, Good, Admitted, Workable}
 use Rattle.timetable.specs.Promise.{Narrows}
+use Rattle.timetable.proofs.Calls.{admitted-call}
 use Rattle.timetable.proofs.Good.{ends-sized}
-use Rattle.planner.proofs.Answered.{winBy, logBy, cleared-same, accepted, refused, clashed, worked}
+use Rattle.planner.proofs.Answered.{winBy, logBy, cleared-same, refused, clashed, worked}
 use Rattle.planner.proofs.narrow.Statement.{statement}
 use Rattle.planner.proofs.narrow.Tie as tie
 
--- ---- the places that are gone back to: past the tests 1 to 3, past the test for short windows, the windows saved, the work done
+-- ---- the places that are gone back to: past the tests 1 to 3 and 7, past the test for short windows, the windows saved, the work done
 
 abbrev begun : tie.Else1 → tie.Start
-begun d = d .before .before .before .before .before .before .before .before .before
+begun d = d .before .before .before .before .before .before .before .before .before .before
 
 abbrev passed : tie.Else2 → tie.Else1
 passed d = d .before .before .before .before
@@ -39,8 +40,11 @@ saved d = d .before .before .before .before
 abbrev called : tie.Start → Call
 called s = let a = s .args in call (win (a .est .now) (a .lct .now)) (a .dur .now) (a .dem .now) (a .cap) (a .log .now)
 
+admitted : (d : tie.Else1) → Admitted (called (begun d))
+admitted d = admitted-call (called (begun d)) (sym (d .before .refusal .ensures) ∙ d .if1 .left)
+
 good : (d : tie.Else1) → Good (called (begun d))
-good d = accepted (called (begun d)) _ (d .before .refusal .ensures) (d .if1 .left)
+good d = admitted d .0
 
 workable : (d : tie.Else2) → Workable (called (begun (passed d)))
 workable d = record { good = good (passed d); long = answer-long _ _ _ _ (d .before .lowest-too-short .ensures) (d .if2 .left) }
@@ -80,7 +84,7 @@ done : (d : tie.After-work) (a : Answer) → d .work .result ≡ a
     → let C = called (origin (saved d)) in Narrows C (leaves (says a) (winBy C a (win (d .work .last .0) (d .work .last .1 .0))) (logBy C a (d .work .last .1 .1 .1 .1 .1 .0)))
 done d a e =
     let s = saved d in
-    worked (called (origin s)) (good (passed (long s))) a _ _ _ _ (starts-front s) (ends-front s) (rw e at (d .work .ensures))
+    worked (called (origin s)) (admitted (passed (long s))) a _ _ _ _ (starts-front s) (ends-front s) (rw e at (d .work .ensures))
 
 -- ---- the needs; those that the search closes are answered in the list at the end
 
@@ -93,7 +97,7 @@ lowest-too-short-requires c κs = let g = good (c .before .before) in (g .sized 
 returns-2 : tie.Need-returns-2
 returns-2 c =
     let d = c .before .before .before .before in
-    clashed (called (begun d)) (good d) _ (answer-too-short _ _ _ _ (c .before .lowest-too-short .ensures) (c .if2 .taken))
+    clashed (called (begun d)) (admitted d) _ (answer-too-short _ _ _ _ (c .before .lowest-too-short .ensures) (c .if2 .taken))
 
 save-requires : tie.Need-save-requires
 save-requires c κs = (few (c .before .before), search needs)
@@ -154,8 +158,10 @@ narrow-spec =
     (λ c κs. search needs)
     (λ c. search needs)
     (λ c. search needs)
+    (λ c. search needs)
     returns
     lowest-too-short-requires
+    (λ c. search needs)
     (λ c. search needs)
     (λ c. search needs)
     returns-2
