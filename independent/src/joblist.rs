@@ -1,6 +1,8 @@
 //! Job lists and their limits, refusals 1 to 3, tested in the order of their
-//! numbers, and windows that are too short (01, "Job lists" and "Answer
-//! table"; 02, Item 3).
+//! numbers, refusal 7 after them where there is a log, and windows that are too
+//! short (01, "Job lists" and "Answer table"; 02, Items 3 and 10).
+
+use crate::record::is_ragged;
 
 pub const MOST_JOBS: usize = 256;
 /// The limit of times and durations.
@@ -102,6 +104,15 @@ pub fn good_jobs(times: &Times, supply: &Supply) -> Result<Vec<Job>, u32> {
         r: i64::from(supply.dem[k]),
     };
     Ok((0..n).map(job).collect())
+}
+
+/// The same for a call with a log, which may not be ragged.
+pub fn good_jobs_with_log(times: &Times, supply: &Supply, log: &[u32]) -> Result<Vec<Job>, u32> {
+    let jobs = good_jobs(times, supply)?;
+    if is_ragged(log) {
+        return Err(7);
+    }
+    Ok(jobs)
 }
 
 /// The lowest job whose window is too short, if there is one.

@@ -1,5 +1,6 @@
-//! Log records: twelve words, the member set among them, and the call that
-//! shows one record (01, "Log records").
+//! Log records: twelve words, the member set among them, how many of them a
+//! log holds, and the call that shows one record (01, "Log records"; 02,
+//! Item 10).
 
 const HEAD_WORDS: usize = 4;
 const MEMBER_WORDS: usize = 8;
@@ -64,9 +65,14 @@ impl Record {
     }
 }
 
-/// How many records a log can hold.
+/// How many whole records a log holds, whatever the remainder.
 pub fn room(log: &[u32]) -> usize {
     log.len() / RECORD_WORDS
+}
+
+/// There are words beyond the last whole record.
+pub fn is_ragged(log: &[u32]) -> bool {
+    !log.len().is_multiple_of(RECORD_WORDS)
 }
 
 /// The words of record k, or an empty part if the log ends before them.

@@ -1,9 +1,10 @@
 //! The checker: replays a log from the submitted windows, record by record,
 //! with refusal 6 and the codes 20 to 27 in their order (01, "Log records"
-//! for what a record says, "Answer table" for the codes; 02, Items 3 and 7).
+//! for what a record says, "Answer table" for the codes; 02, Items 3, 7 and
+//! 10).
 
 use crate::answers::Answer;
-use crate::joblist::{good_jobs, lowest_too_short, Job, Supply, Times, MOST_TIME};
+use crate::joblist::{good_jobs_with_log, lowest_too_short, Job, Supply, Times, MOST_TIME};
 use crate::reasons::named;
 use crate::record::{room, shown, Record};
 use crate::timetable::Side;
@@ -106,7 +107,7 @@ impl Replay {
 
 /// Replays the claimed records; rewrites the windows only where they hold.
 pub fn check(times: &mut Times, supply: &Supply, count: u64, log: &[u32]) -> Answer {
-    let jobs = match good_jobs(times, supply) {
+    let jobs = match good_jobs_with_log(times, supply, log) {
         Ok(jobs) => jobs,
         Err(number) => return Answer::Refused(number),
     };

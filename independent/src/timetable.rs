@@ -1,9 +1,10 @@
 //! Narrowing, tick by tick: sure parts, crowded times, the two time-tabling
 //! rules, the order of work and the writer's records (01, "Job lists", "The
-//! two time-tabling rules", "Log records", "Answer table"; 02, Items 3 and 7).
+//! two time-tabling rules", "Log records", "Answer table"; 02, Items 3, 7
+//! and 10).
 
 use crate::answers::Answer;
-use crate::joblist::{good_jobs, lowest_too_short, Job, Supply, Times};
+use crate::joblist::{good_jobs_with_log, lowest_too_short, Job, Supply, Times};
 use crate::reasons::{lean, Naming};
 use crate::record::{room, Members, Record, RECORD_WORDS};
 
@@ -139,7 +140,7 @@ pub fn narrow_naming(
     supply: &Supply,
     log: &mut [u32],
 ) -> Answer {
-    let jobs = match good_jobs(times, supply) {
+    let jobs = match good_jobs_with_log(times, supply, log) {
         Ok(jobs) => jobs,
         Err(number) => return Answer::Refused(number),
     };

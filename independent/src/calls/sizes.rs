@@ -22,9 +22,26 @@ fn narrow((times, supply): &(Times, Supply), words: usize) -> Call {
     Call::Narrow(times.clone(), supply.clone(), vec![7; words])
 }
 
-fn check((times, supply): &(Times, Supply), records: &[Record]) -> Call {
-    let count = records.len() as u64;
-    Call::Check(times.clone(), supply.clone(), count, log_of(records))
+fn check_log((times, supply): &(Times, Supply), count: usize, log: Vec<u32>) -> Call {
+    Call::Check(times.clone(), supply.clone(), count as u64, log)
+}
+
+fn check(of: &(Times, Supply), records: &[Record]) -> Call {
+    check_log(of, records.len(), log_of(records))
+}
+
+/// The run and the check of its log with a word less, where there is one, and
+/// with a word more.
+fn ragged(of: &(Times, Supply)) -> Vec<Call> {
+    let records = own_records(&of.0, &of.1).unwrap_or_default();
+    let words = records.len() * RECORD_WORDS;
+    let lengths = [words.checked_sub(1), Some(words + 1)];
+    let asked = |length: usize| {
+        let mut log = log_of(&records);
+        log.resize(length, 7);
+        [narrow(of, length), check_log(of, records.len(), log)]
+    };
+    lengths.into_iter().flatten().flat_map(asked).collect()
 }
 
 /// The record with one fault, for each of the codes 21 to 25.
@@ -140,6 +157,8 @@ pub fn calls(random: &mut Random) -> Vec<Call> {
         }
         calls.extend(run(&last::with(jobs, &[]), jobs));
         calls.extend(run(&last::overdrawn(jobs), jobs));
+        calls.extend(ragged(&last::with(jobs, &[])));
+        calls.extend(ragged(&last::overdrawn(jobs)));
         calls.extend(at_fault(jobs));
         calls.extend(overload(jobs));
         calls.extend(shown(jobs));

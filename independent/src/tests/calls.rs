@@ -37,6 +37,7 @@ fn wanted() -> BTreeSet<String> {
     let kinds = [
         "narrow settled, narrow settled 0, narrow clash, narrow clash 0",
         "narrow refused 1, narrow refused 2, narrow refused 3, narrow refused 5",
+        "narrow refused 7, check refused 7",
         "check holds, check holds 0, check clash, check clash 0",
         "check refused 1, check refused 2, check refused 3, check refused 6",
         "check rejected 20, check rejected 21, check rejected 22, check rejected 23",

@@ -8,9 +8,10 @@ fn said(line: &str) -> String {
 
 #[test]
 fn each_call_has_its_line() {
-    let narrow = "narrow 5 3 2 2 2 3 10 7 8 3 3 3 4 3 2 2 2 13 9 9 9 9 9 9 9 9 9 9 9 9 9";
-    let narrowed = "settled 1 3 5 2 2 3 10 7 8 13 0 0 4 2 6 0 0 0 0 0 0 0 9";
-    assert_eq!(said(narrow), narrowed);
+    let log = " 9".repeat(24);
+    let narrow = format!("narrow 5 3 2 2 2 3 10 7 8 3 3 3 4 3 2 2 2 24{log}");
+    let narrowed = "settled 1 3 5 2 2 3 10 7 8 24 0 0 4 2 6 0 0 0 0 0 0 0";
+    assert_eq!(said(&narrow), format!("{narrowed}{}", &log[..24]));
     let check = "check 5 1 3 2 2 2 3 10 7 8 3 3 3 4 3 2 2 2 12 0 0 4 2 6 0 0 0 0 0 0 0";
     assert_eq!(said(check), "holds 1 3 5 2 2 3 10 7 8");
     let record = "record 0 13 0 0 4 2 6 0 0 0 0 0 0 0 1";
@@ -48,10 +49,15 @@ fn the_patterson_call_has_its_line() {
 fn refusals_and_codes_have_their_lines() {
     assert_eq!(said("narrow 0 1 1 0 0 0 2 7 7"), "refused 1 1 1 0 2 7 7");
     assert_eq!(
-        said("narrow 0 1 1 1 2 1 1 1 1 2 7 7"),
-        "refused 5 1 1 1 2 2 0 0"
+        said("narrow 0 1 1 1 3 1 1 1 1 12 7 7 7 7 7 7 7 7 7 7 7 7"),
+        "refused 5 1 1 1 3 12 0 0 0 0 0 0 0 0 0 0 0 0"
     );
     assert_eq!(said("check 0 1 0 0 0 0 0"), "refused 6 0 0");
+    assert_eq!(
+        said("narrow 0 1 1 1 3 1 1 1 1 2 7 7"),
+        "refused 7 1 1 1 3 2 7 7"
+    );
+    assert_eq!(said("check 0 1 0 0 0 0 2 7 7"), "refused 7 0 0");
     let bad = "check 1 1 1 0 1 2 1 1 1 2 12 0 7 0 0 0 0 0 0 0 0 0 0";
     assert_eq!(said(bad), "rejected 0 21 1 0 1 2");
     let short = "check 1 1 1 3 1 6 1 4 1 1 12 0 0 0 0 0 0 0 0 0 0 0 0";
@@ -61,8 +67,9 @@ fn refusals_and_codes_have_their_lines() {
 
 #[test]
 fn windows_that_are_too_short_have_their_lines() {
-    let narrow = "narrow 1 1 3 1 6 1 4 1 1 2 7 7";
-    assert_eq!(said(narrow), "clash 0 0 1 3 1 6 2 7 7");
+    let narrow = "narrow 1 1 3 1 6 1 4 1 1 12 7 7 7 7 7 7 7 7 7 7 7 7";
+    let left = "clash 0 0 1 3 1 6 12 7 7 7 7 7 7 7 7 7 7 7 7";
+    assert_eq!(said(narrow), left);
     assert_eq!(said("check 1 0 1 3 1 6 1 4 1 1 0"), "clash 0 0 1 3 1 6");
     assert_eq!(said("overload 1 5 1 5 1 1"), "overload 5 5");
     assert_eq!(said("overload 1 5 1 3 1 0"), "overload 5 3");

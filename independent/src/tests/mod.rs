@@ -19,6 +19,8 @@ mod paths;
 mod patterson;
 mod psplib;
 mod psplib_headings;
+mod ragged;
+mod ragged_calls;
 mod reading;
 mod short;
 mod short_calls;

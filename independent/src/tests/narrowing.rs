@@ -79,13 +79,13 @@ fn runs_by_hand_on_a_capacity_of_one() {
 /// The lists are refused so, and neither windows nor log are touched.
 fn assert_refused(number: u32, times: &Times, supply: &Supply) {
     let mut after = times.clone();
-    let mut log = vec![9; 30];
+    let mut log = vec![9; 36];
     assert_eq!(
         narrow(&mut after, supply, &mut log),
         Answer::Refused(number)
     );
     assert_eq!(&after, times);
-    assert_eq!(log, [9; 30]);
+    assert_eq!(log, [9; 36]);
 }
 
 #[test]
@@ -129,9 +129,10 @@ fn numbers_above_their_limit_are_refused_before_short_windows() {
 fn without_room_every_word_is_cleared() {
     let (times, supply) = lists(1, &[(0, 3, 1, 2)]);
     for (length, answer, left) in [
-        (35, Answer::Refused(5), 0),
-        (11, Answer::Refused(5), 0),
-        (47, Answer::Clash(3, 0), 7),
+        (0, Answer::Refused(5), 0),
+        (12, Answer::Refused(5), 0),
+        (24, Answer::Refused(5), 0),
+        (48, Answer::Clash(3, 0), 7),
     ] {
         let mut after = times.clone();
         let mut log = vec![7; length];

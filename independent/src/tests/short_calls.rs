@@ -127,11 +127,12 @@ fn uses(line: &[u8]) -> Vec<String> {
 }
 
 /// The least number of each use.
-const OFTEN: [(&str, usize); 36] = [
+const OFTEN: [(&str, usize); 38] = [
     ("narrow clash 0", 150),
     ("narrow refused 1", 15),
     ("narrow refused 2", 3),
     ("narrow refused 3", 25),
+    ("narrow refused 7", 10),
     ("narrow one", 70),
     ("narrow several", 50),
     ("narrow the last", 30),
@@ -147,6 +148,7 @@ const OFTEN: [(&str, usize); 36] = [
     ("check refused 2", 2),
     ("check refused 3", 20),
     ("check refused 6", 18),
+    ("check refused 7", 10),
     ("check one", 50),
     ("check several", 40),
     ("check the last", 25),

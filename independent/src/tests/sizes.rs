@@ -47,9 +47,9 @@ fn every_size_is_asked_of_every_call() {
 fn the_largest_size_gets_every_answer() {
     let wanted = [
         "narrow settled, narrow settled 0, narrow clash, narrow clash 0",
-        "narrow refused 1, narrow refused 3, narrow refused 5",
+        "narrow refused 1, narrow refused 3, narrow refused 5, narrow refused 7",
         "check holds, check holds 0, check clash, check clash 0",
-        "check refused 1, check refused 3",
+        "check refused 1, check refused 3, check refused 7",
         "check rejected 20, check rejected 21, check rejected 22, check rejected 23",
         "check rejected 24, check rejected 25, check rejected 26, check rejected 27",
         "overload none, overload overload, overload refused 1, overload refused 3",
