@@ -72,7 +72,7 @@ pub fn room(log: &[u32]) -> usize {
 
 /// There are words beyond the last whole record.
 pub fn is_ragged(log: &[u32]) -> bool {
-    !log.len().is_multiple_of(RECORD_WORDS)
+    log.len() % RECORD_WORDS != 0
 }
 
 /// The words of record k, or an empty part if the log ends before them.
