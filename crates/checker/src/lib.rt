@@ -1,5 +1,5 @@
-// The checker (document 01, 'Answer table'; document 02, Items 3 and 10): it has a log replayed from the submitted windows, and rewrites them only where the log
-// holds.
+// The checker (document 01, 'Answer table'; document 02, Items 3 and 10): it has a log replayed from the submitted windows, and rewrites them only where
+// the log holds.
 use answers::CheckAnswer;
 use replay::Ended;
 ghost use mathlib.Core.Path.{_≡_};

@@ -1,5 +1,5 @@
--- The replay of a log of time-tabling from the submitted windows (document 01, 'Answer table', the checker; document 02, Items 3, 7 and 10): that of any test of
--- a record (`verdicts`), with codes 21 to 27 for the test, and one bound of one job for the change.
+-- The replay of a log of time-tabling from the submitted windows (document 01, 'Answer table', the checker; document 02, Items 3, 7 and 10): that of any
+-- test of a record (`verdicts`), with codes 21 to 27 for the test, and one bound of one job for the change.
 use Prim.Native.Nat.{ℕ}
 use mathlib.Core.List.{List}
 use Rattle.narrowing.specs.Windows.{Win, moved}

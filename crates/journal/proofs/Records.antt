@@ -1,4 +1,5 @@
--- Laws of the log: the room of a log and whether whole records fill it, its records, what was written is read back, one record more, records written anew, cleared logs.
+-- Laws of the log: the room of a log and whether whole records fill it, its records, what was written is read back, one record more, records written anew,
+-- cleared logs.
 use Prim.Native.Nat.{ℕ, zero, suc, _+_, _*_, _-_, _/_, _%_, _≤_, _<_}
 use native.Mathlib.Omega.{arith}
 use mathlib.Core.Path.{_≡_, refl, sym, ap, _∙_}

@@ -1,4 +1,5 @@
--- A call is admitted exactly where no test refuses it, and turned away with the number of the first test that fails; the lists of a good one hold all its jobs.
+-- A call is admitted exactly where no test refuses it, and turned away with the number of the first test that fails; the lists of a good one hold all its
+-- jobs.
 use Prim.Native.Nat.{ℕ, zero, suc, _≤_}
 use native.Mathlib.Omega.{arith}
 use mathlib.Core.Path.{_≡_, refl, sym, subst, _∙_}

@@ -1,6 +1,6 @@
--- Laws over narrowing's contract, over any rules (document 02, Item 3): a clash without a record is given exactly where the list is good, whole records fill
--- the log and a window is too short, of the lowest such job, whatever the room; windows and log are then as before. Demands 2 and 3 for such a list: there is no schedule, and
--- there are no stable windows that are long enough.
+-- Laws over narrowing's contract, over any rules (document 02, Item 3): a clash without a record is given exactly where the list is good, whole records
+-- fill the log and a window is too short, of the lowest such job, whatever the room; windows and log are then as before. Demands 2 and 3 for such a list:
+-- there is no schedule, and there are no stable windows that are long enough.
 use Prim.Native.Nat.{ℕ, _+_, _<_}
 use native.Mathlib.Omega.{arith}
 use mathlib.Core.Path.{_≡_, ap, _∙_}

@@ -1,5 +1,5 @@
--- The answer table with enough room, its log and numbers left out (an empty log is not ragged), meets the contract of a call without them: so there is an answer to every task whose
--- rules are lawful and have a search.
+-- The answer table with enough room, its log and numbers left out (an empty log is not ragged), meets the contract of a call without them: so there is an
+-- answer to every task whose rules are lawful and have a search.
 use Prim.Native.Nat.{ℕ, zero, suc, _≤_, _<_}
 use native.Mathlib.Omega.{arith}
 use mathlib.Core.Path.{_≡_, refl, sym, ap, _∙_}

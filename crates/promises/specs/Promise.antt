@@ -81,8 +81,8 @@ pub record Narrowest (A : Ask) (a : After) : Type 0 where
   pub clash : Room A → (a .says .word ≡ Word.clash) ↔ NoneIn A
   -- and settled exactly when such windows exist
   pub exists : Room A → (a .says .word ≡ Word.settled) ↔ ((U : Win) × StableIn A U)
-  -- free of the run: where there is room for more records than the sum of l - e - p, settled or clash is said, settled exactly when such windows exist, clash
-  -- exactly when none do
+  -- free of the run: where there is room for more records than the sum of l - e - p, settled or clash is said, settled exactly when such windows exist,
+  -- clash exactly when none do
   pub free : RoomFor A (suc (slack (lasts A) (A .win) (jobCount A)))
       → ((a .says .word ≡ Word.settled) ⊎ (a .says .word ≡ Word.clash))
       × ((a .says .word ≡ Word.settled) ↔ ((U : Win) × StableIn A U))

@@ -1,4 +1,5 @@
--- Document 01's answer table as one definition over any rules, with Items 3 and 10 of document 02: what narrowing says, and what it leaves in every lent word.
+-- Document 01's answer table as one definition over any rules, with Items 3 and 10 of document 02: what narrowing says, and what it leaves in every lent
+-- word.
 use Prim.Native.Nat.{ℕ, zero, suc}
 use mathlib.Core.List.{List, [], _∷_, map}
 use lib.ListN.{length}

@@ -1,5 +1,5 @@
--- Laws over the checker's answers, over any rules (document 02, Item 10): 7 is given exactly where the list is good and its log is ragged, whatever is claimed,
--- and every window is then as before.
+-- Laws over the checker's answers, over any rules (document 02, Item 10): 7 is given exactly where the list is good and its log is ragged, whatever is
+-- claimed, and every window is then as before.
 use Prim.Native.Nat.{ℕ}
 use native.Mathlib.Omega.{arith}
 use mathlib.Core.Path.{_≡_, sym, ap, _∙_}

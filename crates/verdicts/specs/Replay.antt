@@ -1,5 +1,5 @@
--- The replay of a log from the submitted windows (document 01, 'Answer table', the checker; document 02, Items 3 and 10), over any test of a record and any change
--- that a record stands for: records in turn, to the first bad one. A window that is too short is closed before any record.
+-- The replay of a log from the submitted windows (document 01, 'Answer table', the checker; document 02, Items 3 and 10), over any test of a record and any
+-- change that a record stands for: records in turn, to the first bad one. A window that is too short is closed before any record.
 use Prim.Native.Nat.{ℕ, zero, suc}
 use mathlib.Core.Bool.{Bool, true, false}
 use mathlib.Core.List.{List, [], _∷_}
