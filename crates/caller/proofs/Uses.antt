@@ -7,12 +7,12 @@ use mathlib.Core.List.{[], _∷_}
 use lib.ListN.{replicate}
 use Rattle.answers.specs.Said.{Word}
 use Rattle.desk.specs.Lists.{_!_, win, Side, jobs, recordWords, Long, slack, roomOf}
-use Rattle.desk.specs.Narrowing.{Call, call, Good, RoomFor, After, Narrows, Stable, Applies, jobsOf}
+use Rattle.desk.specs.Narrowing.{Call, call, Good, HasRoom, After, Narrows, Stable, Applies, jobsOf}
 use Rattle.desk.specs.Reading.{Lent, TextCall, windowsIn}
 use Rattle.caller.specs.Told.{ToldReads}
 
 -- room for one record is enough for a window that just holds its job
-pub just-room : RoomFor (call (win (0 ∷ []) (1 ∷ [])) (1 ∷ []) (1 ∷ []) 1 (replicate recordWords 0)) (suc (slack (1 ∷ []) (win (0 ∷ []) (1 ∷ [])) 1))
+pub just-room : HasRoom (call (win (0 ∷ []) (1 ∷ [])) (1 ∷ []) (1 ∷ []) 1 (replicate recordWords 0)) (suc (slack (1 ∷ []) (win (0 ∷ []) (1 ∷ [])) 1))
 unfolding slack roomOf
 just-room = ((1, refl), omega arith)
 

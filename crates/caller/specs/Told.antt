@@ -7,7 +7,7 @@ use mathlib.Core.List.{List}
 use mathlib.Core.Logic.{_↔_}
 use Rattle.answers.specs.Said.{Word, Said}
 use Rattle.desk.specs.Lists.{Win, Long, jobs, slack}
-use Rattle.desk.specs.Narrowing.{Call, Good, RoomFor, StableIn, NoneIn, leaves, Narrows}
+use Rattle.desk.specs.Narrowing.{Call, Good, HasRoom, StableIn, NoneIn, leaves, Narrows}
 use Rattle.desk.specs.Checking.{finds, Checks}
 use Rattle.desk.specs.Reading.{Lent, TextCall, windowsIn, Reads}
 
@@ -17,7 +17,7 @@ pub record ToldSettles (c : Call) (U : Win) (log : List ℕ) (r : Bool) : Type 0
   pub narrows : Narrows c (leaves says U log)
   pub settled : (r ≡ true) ↔ (says .word ≡ Word.settled)
   -- with room for more records than the sum of l - e - p, exactly when there are stable windows, and else there are none
-  pub free : Good c → RoomFor c (suc (slack (c .p) (c .win) (jobs (c .win)))) → ((r ≡ true) ↔ ((W : Win) × StableIn c W)) × ((r ≡ true → ⊥) → NoneIn c)
+  pub free : Good c → HasRoom c (suc (slack (c .p) (c .win) (jobs (c .win)))) → ((r ≡ true) ↔ ((W : Win) × StableIn c W)) × ((r ≡ true → ⊥) → NoneIn c)
 
 -- whether a log of claimed records holds
 pub record ToldHolds (c : Call) (count : ℕ) (U : Win) (r : Bool) : Type 0 where

@@ -13,14 +13,14 @@ use Rattle.narrowing.proofs.Moves.{side-number, long-around}
 use Rattle.narrowing.proofs.Steps.{stable-respects}
 use Rattle.answers.specs.Said.{Word, said}
 use Rattle.journal.specs.Journal.{jobOf, timeOf, recordAt, logged}
-use Rattle.journal.proofs.Records.{room-length, whole-length, logged-length, logged-record}
+use Rattle.journal.proofs.Records.{logged-record}
 use Rattle.timetable.specs.Time.{Jobs, Applies, bound}
 use Rattle.timetable.specs.Search.{search, leanMember, naming, entry}
 use Rattle.timetable.specs.Table.{Call, call, jobsOf, After}
 use Rattle.timetable.specs.Promise.{Narrows}
 use Rattle.timetable.proofs.Entries.{entries-are, entries-count}
 use Rattle.timetable.proofs.Law.{lawful}
-use Rattle.timetable.proofs.Again.{same-jobs, good-again, long-again, word}
+use Rattle.timetable.proofs.Again.{same-jobs, good-again, long-again, word, left-whole, left-room}
 use Rattle.codes.specs.Codes.{Coded}
 use Rattle.codes.specs.Facts.{side, OwnTrue, StatedTrue, Passes, GoodRecord}
 use Rattle.codes.specs.Faults.{Idles}
@@ -93,8 +93,6 @@ module _ (c : Call) (a : After) (h : Narrows c a) (n : ℕ) (e : a .says ≡ sai
   left-rejected b k =
       let r = h .exactly .settled (suc n) .0 e in
       let l = h .reasons .settled (suc n) e .logs in
-      let same : length (a .log) ≡ length (c .log) =
-      ap length (l .log) ∙ logged-length (map (entry J) (l .moves)) (c .log) (entries-are leanMember J (l .moves)) (omega (arith, entries-count leanMember J (l .moves), l .many, r .1 .1, r .2)) in
-      let whole = whole-length (c .log) (a .log) same (r .1 .0) in
-      fate-answers again (suc n) b k (rejected 0 26) ((good-again c a h (suc n) e (a .log), whole), omega (arith, room-length (c .log) (a .log) same, r .1 .1, r .2))
+      fate-answers again (suc n) b k (rejected 0 26)
+      ((good-again c a h (suc n) e (a .log), left-whole c a h (suc n) e), omega (arith, left-room c a h (suc n) e, r .1 .1, r .2))
       (omega arith, inr (record { long = long-again c a h (suc n) e (a .log); held = λ i q. absurd (omega arith) }, first-spent (l .moves) (l .many) (l .log) (l .chosen), λ z. omega arith))

@@ -1,4 +1,4 @@
--- What the checker promises, of a call, the number of claimed records, and what it finds (the mission's demand 2; document 02, Item 7).
+-- What the checker promises, of a call, the number of claimed records, and what it finds (the mission's demand 2; document 02, Items 3, 7 and 10).
 use Prim.Native.Nat.{ℕ, _<_}
 use mathlib.Core.Path.{_≡_}
 use mathlib.Core.List.{List, [], _∷_}

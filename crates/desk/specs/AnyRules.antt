@@ -7,7 +7,7 @@ pub use Rattle.promises.specs.Ask.{Ask, jobCount, lasts, columns, Admitted, Tur
 unfoldable pub use Rattle.promises.specs.Table.{ended, tabled, narrowed}
 pub use Rattle.promises.specs.Table.{ran}
 unfoldable pub use Rattle.promises.specs.Promise.{needs}
-pub use Rattle.promises.specs.Promise.{RoomFor, RefusedRow}
+pub use Rattle.promises.specs.Promise.{HasRoom, RefusedRow}
 unfoldable pub use Rattle.verdicts.specs.Replay.{replay, verdictOn}
 pub use Rattle.verdicts.specs.Replay.{Trial, Verdict, closing}
 unfoldable pub use Rattle.verdicts.specs.Fate.{reached}

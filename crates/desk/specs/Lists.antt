@@ -1,7 +1,7 @@
 -- The words that all calls of the desk have in common, handed on, so that a user who names the desk can cite and unfold them: windows, good lists and their
 -- limits, sums and sets, and the record's layout.
 pub use Rattle.lists.specs.Lists.{_!_, Every}
-pub use Rattle.lists.specs.Tests.{both, only, unless, orNext}
+pub use Rattle.lists.specs.Tests.{both, only, unless, failedOr}
 unfoldable pub use Rattle.lists.specs.Sums.{total}
 unfoldable pub use Rattle.lists.specs.Sets.{totalOf}
 pub use Rattle.lists.specs.Sets.{Set, LeastOf, GreatestOf}

@@ -20,6 +20,6 @@ unfoldable pub use Rattle.timetable.specs.Reason.{namedDrawn}
 pub use Rattle.timetable.specs.Reason.{OwnFact, Stated, Implied, Changed, StartsWithin, named, Counted, Exceeds, Lean, LeanRecord}
 pub use Rattle.timetable.specs.Table.{Call, call, jobsOf, asks, Good, Admitted, AllLong, TooShort, Workable, narrowed}
 pub use Rattle.promises.specs.Table.{After, leaves}
-pub use Rattle.timetable.specs.Promise.{Scheduled, StableIn, LargestIn, NoneIn, AllFixed, RoomFor, needs, Room, RefusedRow, Exactly, Kept, Narrowest, Narrows}
+pub use Rattle.timetable.specs.Promise.{Scheduled, StableIn, LargestIn, NoneIn, AllFixed, HasRoom, needs, Room, RefusedRow, Exactly, Kept, Narrowest, Narrows}
 pub use Rattle.timetable.specs.Reasons.{Reasons, Shortens, Shortened, fullyNamed, Unmoved}
 pub use Rattle.timetable.specs.Reordered.{SameCall}

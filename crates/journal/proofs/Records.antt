@@ -35,10 +35,10 @@ unfolding isWhole
 whole-judged log =
     judged-as (judged-eqb (length log % recordWords) 0) (λ h. (length log / recordWords, omega arith)) (λ h w. h (omega (arith, w .1))) (λ w h. h w)
 
--- then it is just as many as there is room for
-pub whole-room : (log : List ℕ) → WholeRecords log → length log ≡ recordWords * roomOf log
+-- the records that fill a log are just its room
+pub filled-room : (log : List ℕ) (m : ℕ) → length log ≡ recordWords * m → m ≡ roomOf log
 unfolding roomOf
-whole-room log w = omega (arith, w .1)
+filled-room log m e = omega arith
 
 pub whole-length : (log out : List ℕ) → length out ≡ length log → WholeRecords log → WholeRecords out
 whole-length log out h w = (w .0, h ∙ w .1)

@@ -51,7 +51,7 @@ isMember x = has (setOfRecord x)
 unfoldable pub roomOf : List ℕ → ℕ
 roomOf log = length log / recordWords
 
--- its length is a whole multiple of a record's: there is a number of records that fills it, and for the length 0 it is 0; any other log is ragged
+-- its length is a whole multiple of a record's: there is a number of records that fills it (0, for a log of no words); any other log is ragged
 abbrev pub WholeRecords : List ℕ → Type 0
 WholeRecords log = (m : ℕ) × (length log ≡ recordWords * m)
 

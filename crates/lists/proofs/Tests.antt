@@ -7,7 +7,7 @@ use mathlib.Core.Path.{_≡_, refl, sym}
 use mathlib.Core.Bool.{Bool, true, false}
 use lib.Dec.{leb}
 use borrow.Author.Tests.{le-leb, lt-leb, lt-ltb, le-ltb}
-use Rattle.lists.specs.Tests.{both, either, between, only, orNext, every}
+use Rattle.lists.specs.Tests.{both, either, between, only, failedOr, every}
 
 pub both-true : (a b : Bool) → both a b ≡ true → (a ≡ true) × (b ≡ true)
 both-true true b h = (refl, h)
@@ -25,7 +25,7 @@ both-false true = refl
 both-false false = refl
 
 -- the number of a test that failed before stands
-pub or-first : (k x : ℕ) → (k ≡ 0 → ⊥) → orNext k x ≡ k
+pub or-first : (k x : ℕ) → (k ≡ 0 → ⊥) → failedOr k x ≡ k
 or-first zero x h = absurd (h refl)
 or-first (suc k) x h = refl
 

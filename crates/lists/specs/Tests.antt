@@ -37,10 +37,10 @@ abbrev pub unless : Bool → ℕ → ℕ → ℕ
 unless true k x = x
 unless false k x = k
 
--- the number k of a test that failed before, else what comes after
-abbrev pub orNext : ℕ → ℕ → ℕ
-orNext zero x = x
-orNext (suc k) x = suc k
+-- the number k of a test that failed before, else, where k is 0, what comes after
+abbrev pub failedOr : ℕ → ℕ → ℕ
+failedOr zero x = x
+failedOr (suc k) x = suc k
 
 -- the test passes at every k below m
 unfoldable pub every : (ℕ → Bool) → ℕ → Bool

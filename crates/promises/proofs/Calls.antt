@@ -5,7 +5,6 @@ use native.Mathlib.Omega.{arith}
 use mathlib.Core.Path.{_≡_, refl, sym, subst, _∙_}
 use mathlib.Core.Bool.{Bool, true, false}
 use mathlib.Core.Logic.{_⊎_, inl, inr, _↔_}
-use Rattle.lists.specs.Tests.{unless, orNext}
 use Rattle.lists.proofs.Judged.{fact-passes, fault-fails}
 use Rattle.narrowing.proofs.Moves.{Whole}
 use Rattle.joblist.specs.GoodList.{refusal}
@@ -15,9 +14,6 @@ use Rattle.journal.proofs.Records.{whole-judged}
 use Rattle.promises.specs.Ask.{Ask, jobCount, columns, Good, Admitted, TurnedAway, refusalOf}
 
 module _ (A : Ask) where
-  abbrev first : ℕ
-  first = refusal (jobCount A) (columns A) (A .alone)
-
   -- ---- the number from the facts
 
   pub call-admitted : Admitted A → refusalOf A ≡ 0
@@ -32,40 +28,36 @@ module _ (A : Ask) where
 
   -- ---- and back
 
-  -- what the number says is so
-  abbrev Says : ℕ → Type 0
-  Says k = ((k ≡ 0) × Admitted A) ⊎ TurnedAway A k
-
-  says-whole : (b : Bool) → isWhole (A .log) ≡ b → Good A → Says (unless b 7 0)
-  says-whole true e g = inl (refl, (g, whole-judged (A .log) .passed e))
-  says-whole false e g = inr (inr (refl, g, whole-judged (A .log) .failed e))
-
-  says-first : (k : ℕ) → first ≡ k → Says (orNext k (unless (isWhole (A .log)) 7 0))
-  says-first zero e = says-whole (isWhole (A .log)) refl (good (jobCount A) (columns A) (A .alone) e)
-  says-first (suc k) e = inr (inl (omega arith, refusal-exactly (jobCount A) (columns A) (A .alone) (suc k) .0 e))
-
-  says : Says (refusalOf A)
-  unfolding refusalOf
-  says = says-first first refl
-
   away-some : (k : ℕ) → TurnedAway A k → 1 ≤ k
   away-some k (inl (b, t)) = b
   away-some k (inr (e, g, f)) = omega arith
 
-  pub admitted-call : refusalOf A ≡ 0 → Admitted A
-  admitted-call e = go says
+  -- every call is admitted or turned away
+  decided : Admitted A ⊎ ((k : ℕ) × TurnedAway A k)
+  decided = by-lists _ refl
     where
-      go : Says (refusalOf A) → Admitted A
-      go (inl (z, a)) = a
-      go (inr t) = absurd (omega (arith, away-some (refusalOf A) t))
+      by-log : Good A → (b : Bool) → isWhole (A .log) ≡ b → Admitted A ⊎ ((k : ℕ) × TurnedAway A k)
+      by-log g true e = inl (g, whole-judged (A .log) .passed e)
+      by-log g false e = inr (7, inr (refl, g, whole-judged (A .log) .failed e))
+
+      by-lists : (k : ℕ) → refusal (jobCount A) (columns A) (A .alone) ≡ k → Admitted A ⊎ ((k : ℕ) × TurnedAway A k)
+      by-lists zero e = by-log (good (jobCount A) (columns A) (A .alone) e) (isWhole (A .log)) refl
+      by-lists (suc k) e = inr (suc k, inl (omega arith, refusal-exactly (jobCount A) (columns A) (A .alone) (suc k) .0 e))
+
+  pub admitted-call : refusalOf A ≡ 0 → Admitted A
+  admitted-call e = go decided
+    where
+      go : Admitted A ⊎ ((k : ℕ) × TurnedAway A k) → Admitted A
+      go (inl a) = a
+      go (inr (k, t)) = absurd (omega (arith, away-some k t, sym (away-refused k t) ∙ e))
 
   -- refusal k comes before the work exactly when the answer table says so
   pub away-exactly : (k : ℕ) → ((1 ≤ k) × (refusalOf A ≡ k)) ↔ TurnedAway A k
-  away-exactly k = (λ h. go (h .0) (h .1) says, λ t. (away-some k t, away-refused k t))
+  away-exactly k = (λ h. go (h .0) (h .1) decided, λ t. (away-some k t, away-refused k t))
     where
-      go : 1 ≤ k → refusalOf A ≡ k → Says (refusalOf A) → TurnedAway A k
-      go b e (inl (z, a)) = absurd (omega arith)
-      go b e (inr t) = subst (TurnedAway A) e t
+      go : 1 ≤ k → refusalOf A ≡ k → Admitted A ⊎ ((k : ℕ) × TurnedAway A k) → TurnedAway A k
+      go b e (inl a) = absurd (omega (arith, sym (call-admitted a) ∙ e))
+      go b e (inr (m, t)) = subst (TurnedAway A) (sym (away-refused m t) ∙ e) t
 
   -- no call is both
   pub admitted-not-away : Admitted A → (k : ℕ) → TurnedAway A k → ⊥

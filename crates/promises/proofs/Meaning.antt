@@ -21,7 +21,7 @@ use Rattle.answers.proofs.Same.{not-said}
 use Rattle.journal.specs.Journal.{WholeRecords}
 use Rattle.promises.specs.Ask.{Ask, Grounds, jobCount, lasts, Good, refusalOf}
 use Rattle.promises.specs.Table.{ended, ran, tabled, narrowed}
-use Rattle.promises.specs.Promise.{LargestIn, NoneIn, AllFixed, RoomFor, needs, Room, Kept, Narrowest, Narrows}
+use Rattle.promises.specs.Promise.{LargestIn, NoneIn, AllFixed, HasRoom, needs, Room, Kept, Narrowest, Narrows}
 use Rattle.promises.proofs.Calls.{admitted-call, call-admitted, whole}
 use Rattle.promises.proofs.Reasons.{reasons-by}
 use Rattle.promises.proofs.Rows.{exactly}
@@ -41,7 +41,7 @@ module _ (A : Ask) (x : Grounds A) where
     unfolding needs
     room-not h e = omega (arith, h .1, short-below (A .search) (A .rules) (x .searches) (x .lawful) (A .win) (whole A g) (A .room) e)
 
-    pub slack-room : RoomFor A (suc (slack (lasts A) (A .win) (jobCount A))) → Room A
+    pub slack-room : HasRoom A (suc (slack (lasts A) (A .win) (jobCount A))) → Room A
     unfolding needs
     slack-room h =
         elim (decLe (needed (A .search) (A .win)) (A .room)) [
@@ -61,7 +61,7 @@ module _ (A : Ask) (x : Grounds A) where
       unfolding Long
       fixed-long k b = omega (arith, f k b)
 
-      fixed-room : RoomFor A 1 → Room A
+      fixed-room : HasRoom A 1 → Room A
       fixed-room h = slack-room (h .0, omega (arith, h .1, no-slack (lasts A) (A .win) (jobCount A) (jobCount A) (omega arith) f))
 
       none-broken : NoneIn A → A .broken (A .win .e)

@@ -10,11 +10,11 @@ use Rattle.answers.proofs.Same.{not-said}
 use Rattle.journal.specs.Journal.{Ragged}
 use Rattle.promises.specs.Ask.{Ask, Good}
 use Rattle.promises.specs.Table.{After, leaves}
-use Rattle.promises.specs.Promise.{RoomFor, RefusedRow, Exactly}
+use Rattle.promises.specs.Promise.{HasRoom, RefusedRow, Exactly}
 use Rattle.promises.proofs.Calls.{away-seven}
 use Rattle.promises.proofs.Firm.{same-after}
 
-pub ragged-roomless : (A : Ask) → Ragged (A .log) → (n : ℕ) → RoomFor A n → ⊥
+pub ragged-roomless : (A : Ask) → Ragged (A .log) → (n : ℕ) → HasRoom A n → ⊥
 ragged-roomless A f n r = f (r .0)
 
 module _ (A : Ask) (a : After) (x : Exactly A a) where

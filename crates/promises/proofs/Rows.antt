@@ -1,5 +1,5 @@
 -- The rows of the answer table over any rules, in facts: each is given exactly when it says so and no row before it does, and leaves what it says.
-use Prim.Native.Nat.{ℕ, suc, _≤_}
+use Prim.Native.Nat.{ℕ, suc}
 use native.Mathlib.Omega.{arith}
 use mathlib.Core.Path.{_≡_, refl, sym, ap, _∙_}
 use mathlib.Core.List.{List, [], _∷_}

@@ -1,6 +1,6 @@
 -- The answer table with enough room, its log and numbers left out (an empty log is not ragged), meets the contract of a call without them: so there is an
 -- answer to every task whose rules are lawful and have a search.
-use Prim.Native.Nat.{ℕ, zero, suc, _≤_, _<_}
+use Prim.Native.Nat.{ℕ, zero, suc, _≤_}
 use native.Mathlib.Omega.{arith}
 use mathlib.Core.Path.{_≡_, refl, sym, ap, _∙_}
 use mathlib.Core.List.{[], _∷_}
@@ -18,11 +18,11 @@ use Rattle.joblist.specs.GoodList.{Given}
 use Rattle.promises.specs.Ask.{Ask, Grounds, jobCount, lasts, Good, TurnedAway, refusalOf}
 use Rattle.promises.specs.Ask as ask
 use Rattle.promises.specs.Table.{ended, ran, tabled, narrowed}
-use Rattle.promises.specs.Promise.{RoomFor}
+use Rattle.promises.specs.Promise.{HasRoom}
 use Rattle.promises.specs.Plain.{taskOf, unlogged, Plain}
 use Rattle.promises.proofs.Calls.{admitted-call, call-admitted, away-exactly, admitted-not-away, whole}
 
-module _ (A : Ask) (x : Grounds A) (enough : RoomFor A (suc (slack (lasts A) (A .win) (jobCount A)))) where
+module _ (A : Ask) (x : Grounds A) (enough : HasRoom A (suc (slack (lasts A) (A .win) (jobCount A)))) where
   -- no refusal is a good list's
   good-given : Good A → (k : ℕ) → 1 ≤ k → Given k (jobCount A) (ask.columns A) (A .alone) → ⊥
   good-given g k b t = admitted-not-away A (g, enough .0) k (inl (b, t))

@@ -1,11 +1,12 @@
--- A call of narrowing by any rules: what was submitted, what the defined run looks for, what the rules and a schedule are, and the record of a move.
--- And what is asked of these, so that the answer table keeps its promise.
+-- A call of narrowing by any rules: what was submitted, what the defined run looks for, what the rules and a schedule are, and the record of a move. The
+-- tests that turn it away before the work (document 01, 'Answer table'; document 02, Item 10). And what is asked of these, so that the answer table keeps its
+-- promise.
 use Prim.Native.Nat.{ℕ, _≤_, _<_}
 use mathlib.Core.Path.{_≡_}
 use mathlib.Core.List.{List, _∷_, map}
 use mathlib.Core.Logic.{_⊎_, _↔_}
 use lib.ListN.{length}
-use Rattle.lists.specs.Tests.{unless, orNext}
+use Rattle.lists.specs.Tests.{unless, failedOr}
 use Rattle.narrowing.specs.Windows.{Win, Side, early, LowestTooShort}
 use Rattle.narrowing.specs.Rules.{Family, Lawful}
 use Rattle.narrowing.specs.Schedules.{Fixed, Exact}
@@ -20,7 +21,7 @@ pub record Ask : Type 1 where
   pub win : Win
   pub beside : List Column
   pub alone : List Column
-  -- the log, and the records that there is room for
+  -- the log, and the whole records that it can hold
   pub log : List ℕ
   pub room : ℕ
   -- the number of jobs, their durations, and what the run looks for
@@ -43,7 +44,7 @@ lasts A = A .search .p
 abbrev pub columns : Ask → List Column
 columns A = timeColumn (A .win .e) ∷ timeColumn (A .win .l) ∷ timeColumn (lasts A) ∷ A .beside
 
--- it has a good list; and whole records fill its log besides, so that no test turns it away before the work (document 02, Item 10)
+-- it has a good list; and whole records fill its log besides, so that no test turns it away
 abbrev pub Good : Ask → Type 0
 Good A = GoodList (jobCount A) (columns A) (A .alone)
 
@@ -57,7 +58,7 @@ TurnedAway A k = ((1 ≤ k) × Given k (jobCount A) (columns A) (A .alone)) ⊎ 
 -- the same as tests: the number of the first that fails, and 0 where none does
 unfoldable pub refusalOf : Ask → ℕ
 unfolding refusal isWhole
-refusalOf A = orNext (refusal (jobCount A) (columns A) (A .alone)) (unless (isWhole (A .log)) 7 0)
+refusalOf A = failedOr (refusal (jobCount A) (columns A) (A .alone)) (unless (isWhole (A .log)) 7 0)
 
 -- j is the lowest job whose window is too short
 abbrev pub TooShort : Ask → ℕ → Type 0

@@ -1,4 +1,5 @@
--- What narrowing by any rules promises: the answer table, demand 2 and demand 3 (the mission's numbers) and its reasons, of a call and what it leaves.
+-- What narrowing by any rules promises: the answer table (document 01; document 02, Items 3 and 10), demand 2 and demand 3 (the mission's numbers) and its
+-- reasons, of a call and what it leaves.
 -- Demands 2 and 3 and the table's column 'exactly when' speak of schedules and of the rules; the run is named by the number of records that it needs alone, in
 -- the premise on the room and as the count of a settled answer and of a clash.
 use Prim.Native.Nat.{ℕ, suc, _+_, _≤_, _<_}
@@ -34,9 +35,9 @@ NoneIn A = NoCandidate (jobCount A) (lasts A) (A .rules) (A .win)
 abbrev pub AllFixed : Ask → Type 0
 AllFixed A = (k : ℕ) → k < jobCount A → A .win .l ! k ≡ A .win .e ! k + lasts A ! k
 
--- there is room for so many records: a ragged log has none (document 02, Item 10)
-abbrev pub RoomFor : Ask → ℕ → Type 0
-RoomFor A n = WholeRecords (A .log) × (n ≤ A .room)
+-- there is room for n records: a ragged log has none, not for 0 records either
+abbrev pub HasRoom : Ask → ℕ → Type 0
+HasRoom A n = WholeRecords (A .log) × (n ≤ A .room)
 
 -- the records that the work needs; there is room for them
 unfoldable pub needs : Ask → ℕ
@@ -44,7 +45,7 @@ unfolding needed
 needs A = needed (A .search) (A .win)
 
 abbrev pub Room : Ask → Type 0
-Room A = RoomFor A (needs A)
+Room A = HasRoom A (needs A)
 
 -- refusal k's row: turned away, by 1 to 3 or 7; or 5: the work needs more records than there is room for
 abbrev pub RefusedRow : Ask → ℕ → Type 0
@@ -69,7 +70,7 @@ pub record Kept (A : Ask) (a : After) : Type 0 where
   -- a clash means that no schedule exists
   pub none : a .says .word ≡ Word.clash → (s : List ℕ) → Scheduled A (A .win) s → ⊥
   -- where every job of a good list is fixed and there is room for a record, clash exactly if the starts are broken
-  pub fixed : Good A → AllFixed A → RoomFor A 1 → (a .says .word ≡ Word.clash) ↔ A .broken (A .win .e)
+  pub fixed : Good A → AllFixed A → HasRoom A 1 → (a .says .word ≡ Word.clash) ↔ A .broken (A .win .e)
 
 -- demand 3, for a good list; where a window is too short there are no stable windows that are long enough
 pub record Narrowest (A : Ask) (a : After) : Type 0 where
@@ -83,7 +84,7 @@ pub record Narrowest (A : Ask) (a : After) : Type 0 where
   pub exists : Room A → (a .says .word ≡ Word.settled) ↔ ((U : Win) × StableIn A U)
   -- free of the run: where there is room for more records than the sum of l - e - p, settled or clash is said, settled exactly when such windows exist,
   -- clash exactly when none do
-  pub free : RoomFor A (suc (slack (lasts A) (A .win) (jobCount A)))
+  pub free : HasRoom A (suc (slack (lasts A) (A .win) (jobCount A)))
       → ((a .says .word ≡ Word.settled) ⊎ (a .says .word ≡ Word.clash))
       × ((a .says .word ≡ Word.settled) ↔ ((U : Win) × StableIn A U))
       × ((a .says .word ≡ Word.clash) ↔ NoneIn A)

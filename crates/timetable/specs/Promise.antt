@@ -1,5 +1,5 @@
 -- What time-tabling promises: the answer table, demand 2 and demand 3 (the mission's numbers) and its reasons, as narrowing by any rules does
--- (`promises`), and that their being short moves nothing else (document 02, Item 7), of a call and what it leaves. A schedule is one within the windows
+-- (`promises`), and that their being short moves nothing else (document 02, Items 3, 7 and 10), of a call and what it leaves. A schedule is one within the windows
 -- that draws at most the capacity at every time; the rules are the two of time-tabling; starts are broken where the supply is overdrawn.
 use Prim.Native.Nat.{ℕ}
 use mathlib.Core.Path.{_≡_}
@@ -27,9 +27,9 @@ NoneIn c = promise.NoneIn (asks c)
 abbrev pub AllFixed : Call → Type 0
 AllFixed c = promise.AllFixed (asks c)
 
--- the log has room for so many records; the number that the work needs; it has room for them
-abbrev pub RoomFor : Call → ℕ → Type 0
-RoomFor c = promise.RoomFor (asks c)
+-- the log has room for so many records; the records that the work needs; it has room for them
+abbrev pub HasRoom : Call → ℕ → Type 0
+HasRoom c = promise.HasRoom (asks c)
 
 abbrev pub needs : Call → ℕ
 needs c = promise.needs (asks c)

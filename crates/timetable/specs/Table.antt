@@ -1,4 +1,5 @@
--- A call of time-tabling, and that it is one of narrowing by rules (`promises`), whose answer table says what it leaves.
+-- A call of time-tabling, and that it is one of narrowing by rules (`promises`), whose answer table (document 01; document 02, Items 3 and 10) says what it
+-- leaves.
 use Prim.Native.Nat.{ℕ}
 use mathlib.Core.List.{List, [], _∷_}
 use Rattle.narrowing.specs.Windows.{Win, Long, LowestTooShort}
@@ -51,13 +52,14 @@ asksNaming M c =
 abbrev pub asks : Call → Ask
 asks = asksNaming leanMember
 
--- it has a good list; and whole records fill its log besides; and the number of the first of the tests 1, 2, 3 and 7 that fails
+-- it has a good list; and whole records fill its log besides, so that no test turns it away
 abbrev pub Good : Call → Type 0
 Good c = GoodList (jobs (c .win)) (fourLists (c .win) (c .p) (c .r)) (supply (c .cap))
 
 abbrev pub Admitted : Call → Type 0
 Admitted c = ask.Admitted (asks c)
 
+-- the number of the first of the tests 1, 2, 3 and 7 that fails, and 0 where none does
 unfoldable pub refusalOf : Call → ℕ
 unfolding ask.refusalOf
 refusalOf c = ask.refusalOf (asks c)

@@ -1,5 +1,5 @@
--- What the checker promises over any rules, of a call, the number of claimed records, and what it finds (the mission's demand 2); and what is asked of the
--- test of a record and of its change.
+-- What the checker promises over any rules, of a call, the number of claimed records, and what it finds (the mission's demand 2; document 02, Items 3 and 10);
+-- and what is asked of the test of a record and of its change.
 use Prim.Native.Nat.{ℕ, _*_, _≤_, _<_}
 use mathlib.Core.Path.{_≡_}
 use mathlib.Core.List.{List, [], _∷_}

@@ -4,7 +4,7 @@ use Prim.Native.Nat.{ℕ, zero, suc, _≤_, _<_, _+_}
 use native.Mathlib.Omega.{arith}
 use mathlib.Core.Path.{_≡_, refl, sym, ap, _∙_}
 use mathlib.Core.Bool.{true, false}
-use mathlib.Core.List.{List, [], _∷_, _++_}
+use mathlib.Core.List.{[], _∷_, _++_}
 use lib.ListN.{replicate}
 use Rattle.lists.specs.Lists.{_!_}
 use Rattle.narrowing.specs.Windows.{Win}
@@ -20,10 +20,10 @@ use Rattle.verdicts.specs.Fate as fate
 use Rattle.checks.specs.Replay.{changed, Checked, checked}
 use Rattle.checks.specs.Promise.{taken, Reasoned, Exactly, TakesLogs}
 use Rattle.checks.proofs.Rows.{facts-answer}
-use Rattle.worked.specs.Rows.{job, noted}
+use Rattle.worked.specs.Rows.{noted, with}
 use Rattle.worked.specs.Runs.{lent}
-use Rattle.worked.specs.Checks.{example}
-use Rattle.worked.specs.Logs.{with}
+use Rattle.worked.specs.Checks.{caseTwo, example}
+use Rattle.worked.specs.Ragged.{caseFive}
 
 -- ---- one record that carries a whole run: it takes the first record of 004's Example 4.1 and leaves the windows of both; those left are the ones that the
 -- records reach, and a record moves one bound (`exactly`)
@@ -42,7 +42,7 @@ taking-all c count i k d a h e =
 -- by what a record implies too: one with no members on case 5 does not imply its change (`implied`)
 
 abbrev alone : Call
-alone = with 1 (job 0 2 2 1 ∷ job 2 4 2 1 ∷ []) (noted 0 0 1 0 0)
+alone = with 1 caseFive (noted 0 0 1 0 0)
 
 not-implied : Reasoned alone 0 → ⊥
 unfolding recordAt has namedDrawn runsAt
@@ -84,7 +84,7 @@ pub final-windows : (a : Checked) → ((i : ℕ) → i < taken (a .says) → Rea
 final-windows a h e = not-there (h 0 (rw e (omega arith)))
 
 abbrev case2 : Call
-case2 = lent 5 (job 2 10 3 2 ∷ job 2 7 3 2 ∷ job 2 8 4 2 ∷ []) 1
+case2 = lent 5 caseTwo 1
 
 -- ---- rejecting all: it takes the logs that narrowing writes, case 2's among them (`takes`)
 

@@ -6,3 +6,4 @@ pub mod ShutOut
 pub mod CheckShutOut
 pub mod SpareShutOut
 pub mod RaggedShutOut
+pub mod RoomShutOut

@@ -24,24 +24,27 @@ ragged-runs = (
           (
             refl,  -- 91
             (
-              refl,  -- 92
+              refl,  -- 91
               (
                 refl,  -- 92
                 (
                   refl,  -- 92
                   (
-                    refl,  -- 93
+                    refl,  -- 92
                     (
                       refl,  -- 93
                       (
-                        refl,  -- 94
+                        refl,  -- 93
                         (
                           refl,  -- 94
                           (
-                            refl,  -- 95
+                            refl,  -- 94
                             (
-                              refl,  -- 96
-                              tt,
+                              refl,  -- 95
+                              (
+                                refl,  -- 96
+                                tt,
+                              ),
                             ),
                           ),
                         ),
@@ -75,10 +78,25 @@ ragged-logs-right = (
             (
               refl,  -- 7
               (
-                refl,  -- 3
+                refl,  -- 7
                 (
-                  refl,  -- 6
-                  tt,
+                  refl,  -- 7
+                  (
+                    refl,  -- 3
+                    (
+                      refl,  -- 2
+                      (
+                        refl,  -- 1
+                        (
+                          refl,  -- 6
+                          (
+                            refl,  -- 40
+                            tt,
+                          ),
+                        ),
+                      ),
+                    ),
+                  ),
                 ),
               ),
             ),

@@ -9,32 +9,32 @@ use Rattle.lists.specs.Lists.{_!_}
 use Rattle.answers.specs.Said.{Word, Said, said}
 use Rattle.answers.proofs.Same.{not-said}
 use Rattle.journal.specs.Journal.{recordWords, Ragged, cleared}
-use Rattle.timetable.specs.Table.{Call, call, Good, refusalOf, After, leaves}
+use Rattle.timetable.specs.Table.{Call, Good, refusalOf, After, leaves}
 use Rattle.timetable.specs.Promise.{Exactly}
 use Rattle.timetable.proofs.Calls.{admitted-call}
 use Rattle.timetable.proofs.Ragged as narrowing
 use Rattle.checks.specs.Replay.{Checked}
 use Rattle.checks.specs.Promise as checks
 use Rattle.checks.proofs.Ragged as checking
-use Rattle.worked.specs.Rows.{windowsOf, durationsOf, demandsOf}
-use Rattle.worked.specs.Ragged.{restful}
+use Rattle.worked.specs.Rows.{with}
+use Rattle.worked.specs.Ragged.{caseFive}
 
 -- case 5, which needs no record, with a log of any words
-abbrev on : List ℕ → Call
-on log = call (windowsOf restful) (durationsOf restful) (demandsOf restful) 1 log
+abbrev pub on : List ℕ → Call
+on log = with 1 caseFive log
 
 good : (log : List ℕ) → Good (on log)
 unfolding refusalOf
 good log = admitted-call (on []) refl .0
 
 -- a record and a word
-abbrev torn : List ℕ
+abbrev pub torn : List ℕ
 torn = replicate (suc recordWords) 9
 
 is-torn : Ragged torn
 is-torn w = omega (arith, w .1)
 
-seven : (a : After) → Exactly (on torn) a → a ≡ leaves (said Word.refused (7 ∷ [])) (on torn .win) torn
+pub seven : (a : After) → Exactly (on torn) a → a ≡ leaves (said Word.refused (7 ∷ [])) (on torn .win) torn
 seven a h = narrowing.ragged-row (on torn) a h (good torn) is-torn
 
 pub using-whole-records : (a : After) → Exactly (on torn) a → a .says .word ≡ Word.settled → ⊥

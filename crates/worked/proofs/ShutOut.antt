@@ -28,17 +28,18 @@ use Rattle.timetable.proofs.Facts.{crowded-yes, runs-yes}
 use Rattle.timetable.proofs.Calls.{admitted-call}
 use Rattle.worked.specs.Rows.{job}
 use Rattle.worked.specs.Runs.{lent}
-use Rattle.worked.specs.Checks.{example}
+use Rattle.worked.specs.Checks.{caseTwo, example}
+use Rattle.worked.specs.Ragged.{caseFive, caseSix}
 
 -- cases 2, 5 and 6 of the runs on the record
 abbrev case2 : Call
-case2 = lent 5 (job 2 10 3 2 ∷ job 2 7 3 2 ∷ job 2 8 4 2 ∷ []) 1
+case2 = lent 5 caseTwo 1
 
 abbrev case5 : Call
-case5 = lent 1 (job 0 2 2 1 ∷ job 2 4 2 1 ∷ []) 8
+case5 = lent 1 caseFive 8
 
 abbrev case6 : Call
-case6 = lent 1 (job 0 3 1 2 ∷ []) 3
+case6 = lent 1 caseSix 3
 
 -- ---- refusing every list: a refusal is given exactly when its row says so (`exactly`), and case 5 is a good list with room for the work
 

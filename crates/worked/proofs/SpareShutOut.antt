@@ -16,10 +16,9 @@ use Rattle.timetable.specs.Reason.{LeanRecord}
 use Rattle.timetable.specs.Reasons.{Reasons, fullyNamed, Unmoved}
 use Rattle.checks.specs.Replay.{Checked}
 use Rattle.checks.specs.Promise.{taken, Reasoned}
-use Rattle.worked.specs.Rows.{noted}
+use Rattle.worked.specs.Rows.{noted, with}
 use Rattle.worked.specs.Runs.{lent}
 use Rattle.worked.specs.Cases.{crowd}
-use Rattle.worked.specs.Logs.{with}
 
 abbrev run52 : Call
 run52 = lent 5 crowd 1

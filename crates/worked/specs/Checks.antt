@@ -1,7 +1,6 @@
 -- Logs by hand for the checker: what holds, what clashes, refusal 6 and each code 20 to 27 (document 01, 'Answer table'; document 02, Items 3 and 7): the
 -- capacity, the jobs, the claimed records and the log.
 use mathlib.Core.List.{List, [], _∷_, _++_}
-use lib.ListN.{replicate}
 use Rattle.worked.specs.Rows.{Job, job, span, noted}
 use Rattle.worked.specs.Cases.{crowd, greatestFirst, atTheEnd}
 use Rattle.worked.specs.Logs.{Log, holding, clashing, refusing, rejecting}

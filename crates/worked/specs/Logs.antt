@@ -5,13 +5,10 @@ use mathlib.Core.Path.{_≡_}
 use mathlib.Core.List.{List, [], _∷_}
 use Rattle.narrowing.specs.Windows.{Win}
 use Rattle.answers.specs.Said.{Word, Said, said}
-use Rattle.timetable.specs.Table.{Call, call}
+use Rattle.timetable.specs.Table.{Call}
 use Rattle.checks.specs.Replay.{Checked, finds, checked}
 use Rattle.checks.specs.Promise.{Exactly}
-use Rattle.worked.specs.Rows.{Job, windowsOf, durationsOf, demandsOf, Span, spans}
-
-abbrev pub with : ℕ → List Job → List ℕ → Call
-with cap js log = call (windowsOf js) (durationsOf js) (demandsOf js) cap log
+use Rattle.worked.specs.Rows.{Job, windowsOf, with, Span, spans}
 
 -- a log: its number, the call, the claimed records, and what is due
 pub record Log : Type 0 where
@@ -37,8 +34,11 @@ holding cap js count log xs = logs 40 cap js count log (said Word.holds (count �
 abbrev pub clashing : ℕ → List Job → ℕ → List ℕ → ℕ → Log
 clashing cap js count log j = logs 41 cap js count log (said Word.clash (count ∷ j ∷ [])) (windowsOf js)
 
+abbrev pub refused : ℕ → Call → ℕ → Log
+refused k c count = record { number = k; given = c; count = count; due = finds (said Word.refused (k ∷ [])) (c .win) }
+
 abbrev pub refusing : ℕ → ℕ → List Job → ℕ → List ℕ → Log
-refusing k cap js count log = logs k cap js count log (said Word.refused (k ∷ [])) (windowsOf js)
+refusing k cap js count log = refused k (with cap js log) count
 
 abbrev pub rejecting : ℕ → ℕ → ℕ → List Job → ℕ → List ℕ → Log
 rejecting code place cap js count log = logs code cap js count log (said Word.rejected (place ∷ code ∷ [])) (windowsOf js)

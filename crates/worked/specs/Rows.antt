@@ -1,11 +1,12 @@
 -- Rows of a table of runs: a row bears its number, what the run comes to, and what is due. And how lists are written down.
 use Prim.Native.Nat.{ℕ, _*_, _-_}
 use mathlib.Core.Path.{_≡_}
-use mathlib.Core.List.{List, [], _∷_, _++_, map}
+use mathlib.Core.List.{List, _∷_, _++_, map}
 use lib.ListN.{length, replicate, drop}
 use Rattle.narrowing.specs.Windows.{Win, win}
 use Rattle.members.specs.Members.{setWords}
 use Rattle.journal.specs.Journal.{recordWords}
+use Rattle.timetable.specs.Table.{Call, call}
 
 pub record RunRow (A : Type 0) : Type 0 where
   pub number : ℕ
@@ -34,6 +35,10 @@ durationsOf js = map (λ (x : Job). x .p) js
 
 abbrev pub demandsOf : List Job → List ℕ
 demandsOf js = map (λ (x : Job). x .r) js
+
+-- the call with them, a capacity and a log
+abbrev pub with : ℕ → List Job → List ℕ → Call
+with cap js log = call (windowsOf js) (durationsOf js) (demandsOf js) cap log
 
 -- a narrowed window
 pub record Span : Type 0 where

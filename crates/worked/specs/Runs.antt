@@ -5,12 +5,12 @@ use Prim.Native.Nat.{ℕ}
 use mathlib.Core.List.{List, [], _∷_}
 use lib.ListN.{replicate}
 use Rattle.answers.specs.Said.{Word, Said, said}
-use Rattle.timetable.specs.Table.{Call, call, After, leaves, narrowed}
+use Rattle.timetable.specs.Table.{Call, After, leaves, narrowed}
 use Rattle.overloads.specs.Promise.{overloadSaid}
-use Rattle.worked.specs.Rows.{RunRow, Job, windowsOf, durationsOf, demandsOf, Span, spans, upon}
+use Rattle.worked.specs.Rows.{RunRow, Job, windowsOf, durationsOf, with, Span, spans, upon}
 
 abbrev pub lent : ℕ → List Job → ℕ → Call
-lent cap js room = call (windowsOf js) (durationsOf js) (demandsOf js) cap (upon room [])
+lent cap js room = with cap js (upon room [])
 
 abbrev pub settles : ℕ → ℕ → List Job → ℕ → ℕ → List Span → List ℕ → RunRow After
 settles number cap js room count xs ws =
@@ -34,7 +34,7 @@ turnedAway number c k = record { number = number; done = narrowed c; due = leave
 
 -- the same with a log of so many words
 abbrev pub keeps : ℕ → ℕ → List Job → ℕ → ℕ → RunRow After
-keeps number cap js words k = turnedAway number (call (windowsOf js) (durationsOf js) (demandsOf js) cap (replicate words 9)) k
+keeps number cap js words k = turnedAway number (with cap js (replicate words 9)) k
 
 -- the overload check leaves the windows alone, and looks at no demand
 abbrev pub heads : ℕ → List Job → Said → RunRow After
