@@ -2,6 +2,10 @@
 use check::same;
 use forms::Form;
 use forms::Lists;
+ghost use mathlib.Core.Path.{_≡_};
+ghost use mathlib.Core.Bool.{cond};
+ghost use Rattle.requests.specs.declared.names.Call as calls;
+ghost use Rattle.requests.specs.Names.{Named, lineForm, formOf};
 
 // The most entries of a list of jobs, the most words of a log, the most pairs, and the most bytes of a text or a buffer.
 pub const JOBS: usize = 1200;
@@ -38,7 +42,9 @@ pub enum Call {
 }
 
 // The call of a name.
-pub fn named(word: &[u8]) -> Call {
+pub fn named(word: &[u8]) -> Call
+    ensures { λ r. ⌜ Named (now (word .entry)) r ⌝ }
+{
     if same(word, b"narrow") {
         return Call::Jobs(Task::Narrow);
     }
@@ -64,7 +70,9 @@ pub fn named(word: &[u8]) -> Call {
 }
 
 // The call that a line asks for, by its name and by whether it has that call's form.
-pub fn asked(named: Call, whole: bool) -> Call {
+pub fn asked(named: Call, whole: bool) -> Call
+    ensures { λ r. ⌜ r ≡ cond whole named calls.Call.Unknown ⌝ }
+{
     if whole {
         return named;
     }
@@ -72,7 +80,9 @@ pub fn asked(named: Call, whole: bool) -> Call {
 }
 
 // A line with so many numbers below 2^32, perhaps one below 2^64, lists of jobs, other lists and perhaps bytes.
-fn formed(shorts: u32, long: bool, jobs: usize, others: usize, most: u32, bytes: bool) -> Form {
+fn formed(shorts: u32, long: bool, jobs: usize, others: usize, most: u32, bytes: bool) -> Form
+    ensures { λ r. ⌜ r ≡ lineForm shorts long jobs others most bytes ⌝ }
+{
     let lists = Lists {
         count: jobs,
         most: JOBS as u32,
@@ -91,7 +101,9 @@ fn formed(shorts: u32, long: bool, jobs: usize, others: usize, most: u32, bytes:
 }
 
 // The form of its line.
-pub fn form(call: Call) -> Form {
+pub fn form(call: Call) -> Form
+    ensures { λ r. ⌜ r ≡ formOf call ⌝ }
+{
     match call {
         Call::Jobs(task) => match task {
             Task::Narrow => formed(1, false, 4, 1, LOG, false),
