@@ -9,10 +9,15 @@ use run::overload_line;
 ghost use Prim.Native.Nat.{_<_};
 ghost use lib.ListN.{length};
 
-// The words of a record, and of a log where the text names no room: eight records.
+// The words of a record, and of a log where the text names no room.
 const ONE: u32 = RECORD as u32;
 
-const USUAL: u32 = 8 * ONE;
+const USUAL: u32 = run::USUAL as u32;
+
+// A time and a capacity just above their limits.
+const LATE: u32 = screen::MOST_TIME + 1;
+
+const HEAVY: u32 = screen::MOST_DEMAND + 1;
 
 // The numbers of as many jobs as a list may have, and of one more.
 const FULL: usize = 4 * screen::MOST_JOBS;
@@ -64,11 +69,11 @@ fn many_line(jobs: &mut [u32], last: u32)
 fn case_13() {
     many_line(&mut [0; FULL], 1);
     many_line(&mut [0; OVERFULL], 1);
-    many_line(&mut [0; OVERFULL], 1000001);
-    narrow_usual(13, 1, &[0, 1000000, 1, 1]);
-    narrow_usual(13, 1, &[0, 1000001, 1, 1]);
-    narrow_usual(13, 10000, &[]);
-    narrow_usual(13, 10001, &[]);
+    many_line(&mut [0; OVERFULL], LATE);
+    narrow_usual(13, 1, &[0, screen::MOST_TIME, 1, 1]);
+    narrow_usual(13, 1, &[0, LATE, 1, 1]);
+    narrow_usual(13, screen::MOST_DEMAND, &[]);
+    narrow_usual(13, HEAVY, &[]);
 }
 
 fn main() {

@@ -13,8 +13,11 @@ ghost use lib.ListN.{length};
 // The most jobs of a run: one more than a list may have.
 const JOBS: u32 = screen::MOST_JOBS as u32 + 1;
 
-// The most words of its lists: four of jobs and a log of eight records, each behind its length.
-const WORDS: usize = 4 * (screen::MOST_JOBS + 2) + 8 * logbook::RECORD + 1;
+// The words of a log where the text names no room: eight records.
+pub const USUAL: usize = 8 * logbook::RECORD;
+
+// The most words of a run's lists: four of jobs and such a log, each behind its length.
+const WORDS: usize = 4 * (screen::MOST_JOBS + 2) + USUAL + 1;
 
 // The bytes that wait for a write.
 const PART: usize = 4096;

@@ -1,6 +1,6 @@
 -- Laws over the checker's contract where a window is too short (document 02, Item 3): a clash of the lowest such job where no record is claimed, else
 -- the first is rejected with code 20. Refusals 7 and 6 come before either: `Checks.exactly` gives 7 for any good list with a ragged log, and 6 for any other
--- good list.
+-- whose log is shorter than what is claimed.
 use Prim.Native.Nat.{ℕ, _≤_, _<_}
 use native.Mathlib.Omega.{arith}
 use mathlib.Core.Path.{_≡_, refl, _∙_}

@@ -8,6 +8,10 @@ use Rattle.intake.specs.declared.input.Cursor.{Cursor}
 abbrev pub lineEnd : Cursor → Bool
 lineEnd c = cond (eqb (c .left) 0) true (eqb (c .now) 10)
 
+-- it stands at that byte of the input
+abbrev pub atByte : Cursor → ℕ → Bool
+atByte c byte = cond (eqb (c .left) 0) false (eqb (c .now) byte)
+
 -- all of the line was taken, and nothing was wrong with it
 abbrev pub whole : Cursor → Bool
 whole c = cond (c .good) (lineEnd c) false

@@ -7,7 +7,7 @@ use libc::STDIN_FILENO;
 ghost use mathlib.Core.Bool.{true, false};
 ghost use mathlib.Core.Path.{_≡_};
 ghost use Prim.Native.Nat.{_≤_, _<_, _-_};
-ghost use Rattle.intake.specs.Line.{lineEnd, whole};
+ghost use Rattle.intake.specs.Line.{lineEnd, atByte, whole};
 
 // The greatest number of 64 bits.
 pub const LONG: u64 = 18446744073709551615;
@@ -80,8 +80,13 @@ pub fn step(source: &mut [u8], c: Cursor) -> Cursor
     }
 }
 
-pub fn is_at(c: Cursor, byte: u8) -> bool {
-    0 < c.left && c.now == byte
+pub fn is_at(c: Cursor, byte: u8) -> bool
+    ensures { λ r. ⌜ r ≡ atByte c byte ⌝ }
+{
+    if c.left == 0 {
+        return false;
+    }
+    c.now == byte
 }
 
 pub fn is_digit(c: Cursor) -> bool

@@ -13,10 +13,11 @@ ghost use Rattle.desk.specs.Lists.{win};
 ghost use Rattle.desk.specs.Overloads.{Overloads};
 ghost use Rattle.sayings.specs.Sayings.{Tells};
 ghost use Rattle.packed.specs.Packed.{listOf};
+ghost use Rattle.requests.specs.Sizes.{jobEntries};
 
 // Room for a list of jobs. The `ensures` gives only the length, which lending the array as a slice needs.
 fn room() -> [u32; JOBS]
-    ensures { λ r. ⌜ 1200 ≡ length r ⌝ }
+    ensures { λ r. ⌜ jobEntries ≡ length r ⌝ }
 {
     [0; JOBS]
 }

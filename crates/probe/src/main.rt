@@ -24,6 +24,7 @@ use requests::WORDS;
 ghost use mathlib.Core.Path.{_≡_};
 ghost use Prim.Native.Nat.{_<_};
 ghost use lib.ListN.{length};
+ghost use Rattle.requests.specs.Sizes.{lineWords, textBytes};
 
 // Answers the line that the cursor is at the start of, and goes to the start of the next. The answer is written out before
 // anything more is read, so that it is seen at once.
@@ -53,13 +54,13 @@ fn serve(source: &mut [u8], sink: &mut [u8], words: &mut [u32], text: &mut [u8])
 
 // Room for the lists of a line, and for its bytes. The `ensures` give only the lengths, which lending the arrays as slices needs.
 fn room() -> [u32; WORDS]
-    ensures { λ r. ⌜ 144806 ≡ length r ⌝ }
+    ensures { λ r. ⌜ lineWords ≡ length r ⌝ }
 {
     [0; WORDS]
 }
 
 fn text_room() -> [u8; TEXT]
-    ensures { λ r. ⌜ 524288 ≡ length r ⌝ }
+    ensures { λ r. ⌜ textBytes ≡ length r ⌝ }
 {
     [0; TEXT]
 }

@@ -14,6 +14,7 @@ ghost use Rattle.answers.specs.Said.{Said};
 ghost use Rattle.desk.specs.Writing.{Writes};
 ghost use Rattle.sayings.specs.Sayings.{Tells};
 ghost use Rattle.packed.specs.Packed.{listOf};
+ghost use Rattle.requests.specs.Sizes.{jobEntries, pairEntries};
 
 // What a reader is asked: the layout and the two numbers.
 pub struct Reading {
@@ -24,14 +25,14 @@ pub struct Reading {
 
 // Room for a list of jobs. The `ensures` gives only the length, which lending the array as a slice needs.
 fn room() -> [u32; JOBS]
-    ensures { λ r. ⌜ 1200 ≡ length r ⌝ }
+    ensures { λ r. ⌜ jobEntries ≡ length r ⌝ }
 {
     [0; JOBS]
 }
 
 // Room for a list of pairs.
 fn long_room() -> [u32; PAIRS]
-    ensures { λ r. ⌜ 70000 ≡ length r ⌝ }
+    ensures { λ r. ⌜ pairEntries ≡ length r ⌝ }
 {
     [0; PAIRS]
 }

@@ -5,8 +5,8 @@ use mathlib.Core.Bool.{Bool, true, false}
 use mathlib.Core.List.{List, [], _∷_}
 use mathlib.Core.Logic.{_⊎_}
 use mathlib.Core.Option.{Option, none, some}
-use Rattle.forms.specs.declared.Lists.{Lists}
 use Rattle.forms.specs.declared.Form.{Form}
+use Rattle.requests.specs.Sizes.{jobEntries, logEntries, pairEntries}
 use Rattle.requests.specs.declared.names.Layout.{Layout}
 use Rattle.requests.specs.declared.names.Task.{Task}
 use Rattle.requests.specs.declared.names.Call.{Call}
@@ -32,16 +32,6 @@ nameOf Call.Unknown = none
 -- the call has that name, or it is unknown and no call has
 abbrev pub Named : List ℕ → Call → Type 0
 Named word c = (nameOf c ≡ some word) ⊎ ((c ≡ Call.Unknown) × ((d : Call) → nameOf d ≡ some word → ⊥))
-
--- the most entries of a list of jobs, of a log and of a list of pairs
-abbrev pub jobEntries : ℕ
-jobEntries = 1200
-
-abbrev pub logEntries : ℕ
-logEntries = 131072
-
-abbrev pub pairEntries : ℕ
-pairEntries = 70000
 
 -- numbers below 2^32, perhaps one below 2^64, lists of jobs, lists of at most so many entries, perhaps bytes
 abbrev pub lineForm : ℕ → Bool → ℕ → ℕ → ℕ → Bool → Form

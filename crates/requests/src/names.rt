@@ -17,7 +17,7 @@ pub const PAIRS: usize = 70000;
 pub const TEXT: usize = 524288;
 
 // The most words that the lists of a line take: four of jobs and two of pairs, each behind its length; those with a log take fewer.
-pub const WORDS: usize = 144806;
+pub const WORDS: usize = 4 * (JOBS + 1) + 2 * (PAIRS + 1);
 
 // The layout that a text is to be read in.
 pub enum Layout {

@@ -2,9 +2,10 @@
 -- 000's Example 1.27, 004's 4.1 and 4.2, a tie of latest ends), windows that are too short (from 30), members that can be spared (Item 7, from 50), the
 -- ends of sure parts (Item 5, from 60: the last time of one, the first of one, and the new ends after a move of side 0 and of side 1), and the order of
 -- work, with a job that draws nothing and members above 31 (from 70).
-use Prim.Native.Nat.{ℕ, _*_}
+use Prim.Native.Nat.{ℕ, suc, _*_}
 use mathlib.Core.List.{List, [], _∷_, _++_}
 use lib.ListN.{replicate}
+use Rattle.joblist.specs.Limits.{mostTime}
 use Rattle.journal.specs.Journal.{recordWords}
 use Rattle.timetable.specs.Table.{After}
 use Rattle.worked.specs.Rows.{RunRow, Job, job, span, noted, notedAt}
@@ -56,7 +57,7 @@ onRecord =
     tooShort 31 1 (job 5 3 0 0 ∷ []) 1 0 ∷
     tooShort 32 1 (job 0 3 1 2 ∷ job 3 6 4 1 ∷ []) 2 1 ∷
     -- refusal 3 comes first
-    refusesWith 33 1 (job 3 6 4 1 ∷ job 0 1000001 1 1 ∷ []) 1 3 (replicate recordWords 9) ∷
+    refusesWith 33 1 (job 3 6 4 1 ∷ job 0 (suc mostTime) 1 1 ∷ []) 1 3 (replicate recordWords 9) ∷
     -- one job by itself, a above b; a larger set that ends earlier, and later
     overloaded 34 (job 3 6 4 1 ∷ []) 3 6 ∷
     overloaded 35 (job 6 9 2 1 ∷ job 5 3 0 1 ∷ []) 5 3 ∷

@@ -1,6 +1,8 @@
 -- Logs by hand for the checker: what holds, what clashes, refusal 6 and each code 20 to 27 (document 01, 'Answer table'; document 02, Items 3 and 7): the
 -- capacity, the jobs, the claimed records and the log.
+use Prim.Native.Nat.{suc}
 use mathlib.Core.List.{List, [], _∷_, _++_}
+use Rattle.joblist.specs.Limits.{mostTime}
 use Rattle.worked.specs.Rows.{Job, job, span, noted}
 use Rattle.worked.specs.Cases.{crowd, greatestFirst, atTheEnd}
 use Rattle.worked.specs.Logs.{Log, holding, clashing, refusing, rejecting}
@@ -34,7 +36,7 @@ checks =
     rejecting 20 1 1 caseFour 2 (noted 0 0 1 1 2 ++ noted 0 0 1 1 2) ∷
     rejecting 21 0 5 caseTwo 1 (noted 3 0 4 2 6) ∷
     rejecting 21 0 5 caseTwo 1 (noted 0 2 4 2 6) ∷
-    rejecting 21 0 5 caseTwo 1 (noted 0 0 1000001 2 6) ∷
+    rejecting 21 0 5 caseTwo 1 (noted 0 0 (suc mostTime) 2 6) ∷
     -- a member that is not in the list; one that is the moved job; a moved job of demand 0
     rejecting 22 0 5 caseTwo 1 (noted 0 0 4 3 14) ∷
     rejecting 22 0 5 caseTwo 1 (noted 0 0 4 3 7) ∷
@@ -44,7 +46,7 @@ checks =
     rejecting 25 0 5 caseTwo 1 (noted 0 0 5 2 6) ∷
     rejecting 26 1 5 caseTwo 2 (noted 0 0 4 2 6 ++ noted 0 0 4 2 6) ∷
     -- several faults in one record: the first code in their order is given
-    rejecting 20 1 1 caseFour 2 (noted 0 0 1 1 2 ++ noted 9 9 1000001 0 0) ∷
+    rejecting 20 1 1 caseFour 2 (noted 0 0 1 1 2 ++ noted 9 9 (suc mostTime) 0 0) ∷
     rejecting 21 0 5 caseTwo 1 (noted 3 0 1 9 1) ∷
     rejecting 22 0 5 caseTwo 1 (noted 0 0 1 9 1) ∷
     rejecting 23 0 5 caseTwo 1 (noted 0 0 1 9 2) ∷

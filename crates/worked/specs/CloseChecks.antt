@@ -3,7 +3,7 @@
 use Prim.Native.Nat.{_-_}
 use mathlib.Core.List.{List, [], _∷_, _++_}
 use lib.ListN.{replicate}
-use Rattle.joblist.specs.Limits.{mostJobs}
+use Rattle.joblist.specs.Limits.{mostJobs, mostTime}
 use Rattle.members.specs.Members.{setWords}
 use Rattle.worked.specs.Rows.{job, span, noted, notedAt}
 use Rattle.worked.specs.Cases.{atTheEnd, farMember}
@@ -13,8 +13,8 @@ use Rattle.worked.specs.Checks.{caseTwo, example}
 abbrev pub closeChecks : List Log
 closeChecks =
     -- the greatest time that is in range, and the greatest that can be true
-    rejecting 25 0 1 (job 999999 1000000 1 1 ∷ job 999999 1000000 1 1 ∷ []) 1 (noted 0 0 1000000 1 2) ∷
-    clashing 1 (job 999999 1000000 1 1 ∷ job 999999 1000000 1 1 ∷ []) 1 (noted 0 1 999999 1 2) 0 ∷
+    rejecting 25 0 1 (job (mostTime - 1) mostTime 1 1 ∷ job (mostTime - 1) mostTime 1 1 ∷ []) 1 (noted 0 0 mostTime 1 2) ∷
+    clashing 1 (job (mostTime - 1) mostTime 1 1 ∷ job (mostTime - 1) mostTime 1 1 ∷ []) 1 (noted 0 1 (mostTime - 1) 1 2) 0 ∷
     -- a member above 31, and the last one of all
     holding 5 (farMember 32) 1 (notedAt 1 0 0 0 1 2) (span 1 4 ∷ (replicate 32 (span 0 9) ++ (span 0 1 ∷ []))) ∷
     holding 5 (farMember (mostJobs - 2)) 1 (notedAt (setWords - 1) 0 0 0 1 2147483648) (span 1 4 ∷ (replicate (mostJobs - 2) (span 0 9) ++ (span 0 1 ∷ []))) ∷

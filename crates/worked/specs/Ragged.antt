@@ -1,6 +1,6 @@
 -- Ragged logs (document 02, Item 10): a word more and a word less than whole records, where every other refusal or answer would be given without it; and
 -- logs of no words, which are not ragged. The runs are numbered from 90, and every word of their logs is 9 before and stays; the checker's logs bear the
--- refusal's number.
+-- refusal's number, or 40 where they hold.
 use Prim.Native.Nat.{suc, _+_, _*_, _-_}
 use mathlib.Core.List.{List, [], _∷_, _++_}
 use lib.ListN.{take, replicate}

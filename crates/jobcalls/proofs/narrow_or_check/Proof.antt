@@ -1,6 +1,7 @@
 -- `jobcalls::narrow_or_check` is safe. An array of which a part was lent is as long as it was. Assumes nothing.
 use mathlib.Core.Path.{_∙_, sym}
 use Rattle.packed.proofs.Places.{front-back}
+use Rattle.requests.specs.Sizes.{jobEntries}
 use borrow.Author.Needs.{needs}
 use Rattle.jobcalls.proofs.narrow_or_check.Statement.{statement}
 use Rattle.jobcalls.proofs.narrow_or_check.Tie as tie
@@ -79,7 +80,7 @@ slice-aggregate-put c =
     let made = called c .made in
     let copied = filled (called c) .copy-four in
     let house = housed (filled (called c)) .before .before .before .room in
-    front-back 1200 (copied .result .a) (copied .last .1 .0) (made .last .0) (house .ensures ∙ sym (copied .kept .1 .0))
+    front-back jobEntries (copied .result .a) (copied .last .1 .0) (made .last .0) (house .ensures ∙ sym (copied .kept .1 .0))
     (copied .ensures .0 .within) (made .kept .0)
 
 put-requires : tie.Need-put-requires
@@ -91,7 +92,7 @@ slice-aggregate-put-2 c =
     let made = called put .made in
     let copied = filled (called put) .copy-four in
     let house = housed (filled (called put)) .before .before .room2 in
-    front-back 1200 (copied .result .b) (copied .last .1 .1 .0) (made .last .1 .0) (house .ensures ∙ sym (copied .kept .1 .1 .0))
+    front-back jobEntries (copied .result .b) (copied .last .1 .1 .0) (made .last .1 .0) (house .ensures ∙ sym (copied .kept .1 .1 .0))
     (copied .ensures .1 .0 .within) (made .kept .1 .0)
 
 put-requires-2 : tie.Need-put-requires-2

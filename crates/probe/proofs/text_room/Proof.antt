@@ -2,11 +2,12 @@
 use mathlib.Core.Path.{sym}
 use Prim.Native.Nat.{ℕ}
 use lib.ListN.{length-replicate}
+use Rattle.requests.specs.Sizes.{textBytes}
 use Rattle.probe.proofs.text_room.Statement.{statement}
 use Rattle.probe.proofs.text_room.Tie as tie
 
 returns : tie.Need-returns
-returns c = sym (length-replicate {A = ℕ} 524288 0)
+returns c = sym (length-replicate {A = ℕ} textBytes 0)
 
 pub text-room-spec : {M : Type 1} → statement M
 text-room-spec = tie.close (tie.spec returns)
