@@ -3,7 +3,7 @@
 ghost use mathlib.Core.Path.{_≡_};
 ghost use Prim.Native.Nat.{_*_, _%_, _^_, _<_};
 ghost use lib.ListN.{length, replicate};
-ghost use Rattle.members.specs.Members.{setWords, has, onesOf, inserted};
+ghost use Rattle.members.specs.Members.{setWords, has, onesOf, inserted, joined};
 
 // The number of words of a record's member set.
 pub const WORDS: usize = 8;
@@ -44,6 +44,20 @@ pub fn put(set: &mut [u32], k: usize)
         return;
     }
     set[at] |= mask(k);
+}
+
+// The members of `more` become members, as far as the words go.
+pub fn join(set: &mut [u32], more: &[u32])
+    ensures { λ _. ⌜ now (set .exit) ≡ joined (now (set .entry)) (now (more .entry)) ⌝ }
+{
+    let mut i = 0;
+    while i < set.len() {
+        if more.len() <= i {
+            return;
+        }
+        set[i] |= more[i];
+        i += 1;
+    }
 }
 
 // The number of ones. A word can hold it where the bits are fewer than 2 ^ 32.

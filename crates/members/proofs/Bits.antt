@@ -49,7 +49,8 @@ mask-test x i = rw (and-bit x i) (not-zero (bitOf x i) (2 ^ i) (bit-lt x i) (pow
 
 -- ---- after a bit is set
 
-or-bits : (x y j : ℕ) → bitOf (bitOr x y) j ≡ bitOr (bitOf x j) (bitOf y j)
+-- each bit of two words joined
+pub or-bits : (x y j : ℕ) → bitOf (bitOr x y) j ≡ bitOr (bitOf x j) (bitOf y j)
 or-bits x y j = ap (λ (z : ℕ). z % 2) (or-shr x y j) ∙ or-mod (x / 2 ^ j) (y / 2 ^ j) 1
 
 pow-bit-same : (i : ℕ) → bitOf (2 ^ i) i ≡ 1

@@ -47,6 +47,12 @@ setOf w f = words f 0 w
 unfoldable pub inserted : List ℕ → ℕ → List ℕ
 inserted ws k = set ws (k / 32) (bitOr (ws ! (k / 32)) (2 ^ (k % 32)))
 
+-- the words with the members of others put in, as far as the words go
+unfoldable pub joined : List ℕ → List ℕ → List ℕ
+joined [] vs = []
+joined (x ∷ ws) [] = x ∷ ws
+joined (x ∷ ws) (y ∷ vs) = bitOr x y ∷ joined ws vs
+
 -- each number is a word of 32 bits
 abbrev pub AreWords : List ℕ → Type 0
 AreWords ws = (q : ℕ) → ws ! q < 2 ^ 32
