@@ -13,6 +13,7 @@ pub mod Orders
 pub mod Runs
 pub mod Merges
 pub mod Sets
+pub mod Picked
 pub mod Examples
 pub mod Spares
 pub mod Signed

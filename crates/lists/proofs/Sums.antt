@@ -1,13 +1,14 @@
--- Sums below a number: term by term, one term, and without a term.
+-- Sums below a number: term by term, one term, without a term, and of terms at places that are each met once.
 use Prim.Native.Nat.{ℕ, zero, suc, _+_, _≤_, _<_}
 use native.Mathlib.Omega.{arith}
 use native.Mathlib.Decide.{ℕ-discrete, decLe}
-use mathlib.Core.Path.{_≡_, refl}
+use mathlib.Core.Path.{_≡_, refl, sym}
 use mathlib.Core.Bool.{Bool, true, false, not}
 use lib.Dec.{eqb}
 use borrow.Author.Tests.{eq-eqb, ne-eqb}
 use Rattle.lists.specs.Tests.{both, only}
 use Rattle.lists.specs.Sums.{total}
+use Rattle.lists.specs.Sets.{Set}
 
 pub total-zero : (f : ℕ → ℕ) → total f 0 ≡ 0
 unfolding total
@@ -98,3 +99,32 @@ total-some-term f x (suc m) h = go (f m) refl (λ q. total-some-term f x m q)
         → (j : ℕ) × (j < suc m) × (1 ≤ x j) × (f j ≡ true)
     go true e g = elim (decLe 1 (x m)) [ yes d ↦ (m, omega arith, d, e) | no d ↦ wider (g (let z = rw e at h in omega arith)) ]
     go false e g = wider (g (let z = rw e at h in omega arith))
+
+-- ---- terms at places that π gives
+
+module _ (M : Set) (π : ℕ → ℕ) where
+  -- f there, of the members below m
+  abbrev placed : (ℕ → ℕ) → ℕ → ℕ
+  placed f m = total (λ k. only (M k) (f (π k))) m
+
+  -- each met once, they are no more than all of them
+  pub placed-le : (m n : ℕ) → ((k : ℕ) → k < m → M k ≡ true → π k < n)
+      → ((i k : ℕ) → i < m → k < m → M i ≡ true → M k ≡ true → π i ≡ π k → i ≡ k)
+      → (f : ℕ → ℕ) → total (λ k. only (M k) (f (π k))) m ≤ total f n
+  placed-le zero n in-it once f = omega (arith, total-zero (λ k. only (M k) (f (π k))))
+  placed-le (suc m) n in-it once f =
+      go (λ g. placed-le m n (λ k b. in-it k (omega arith)) (λ i k b c. once i k (omega arith) (omega arith)) g) (M m) refl
+    where
+      one : placed f (suc m) ≡ placed f m + only (M m) (f (π m))
+      one = total-suc (λ k. only (M k) (f (π k))) m
+
+      same : M m ≡ true → (k : ℕ) → k < m → (b : Bool) → M k ≡ b → only b (f (π k)) ≡ only b (omitting f (π m) (π k))
+      same t k c false e = refl
+      same t k c true e = sym (omitting-other f (π m) (π k) (λ q. absurd (omega (arith, once k m (omega arith) (omega arith) e t q))))
+
+      go : ((g : ℕ → ℕ) → placed g m ≤ total g n) → (b : Bool) → M m ≡ b → placed f (suc m) ≤ total f n
+      go rest false e = let z : only (M m) (f (π m)) ≡ 0 = rw e in omega (arith, one, z, rest f)
+      go rest true e =
+          let z : only (M m) (f (π m)) ≡ f (π m) = rw e in
+          let y = total-cong (λ k. only (M k) (f (π k))) (λ k. only (M k) (omitting f (π m) (π k))) m (λ k c. same e k c (M k) refl) in
+          omega (arith, one, z, y, rest (omitting f (π m)), total-omitting f (π m) n (in-it m (omega arith) e))

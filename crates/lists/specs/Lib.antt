@@ -4,5 +4,6 @@ pub mod Sums
 pub mod Extremes
 pub mod Permutations
 pub mod Sets
+pub mod Picked
 pub mod Spares
 pub mod Orders
