@@ -8,7 +8,7 @@ use lib.Dec.{eqb, ltb}
 use lib.ListN.{length}
 use Rattle.lists.specs.Spares.{leaned}
 use Rattle.lists.specs.Tests.{either}
-use Rattle.lists.specs.Picked.{picked, rank}
+use Rattle.lists.specs.Picked.{picked, pickedPlace}
 
 -- of the numbers 0, 1 and 2
 abbrev stay : List ℕ → ℕ → ℕ → List Bool
@@ -38,8 +38,8 @@ abbrev three : ℕ → Bool
 three k = either (eqb k 0) (either (eqb k 2) (eqb k 4))
 
 pub three-of-five : (picked three (7 ∷ 5 ∷ 2 ∷ 3 ∷ 9 ∷ []) ≡ 7 ∷ 2 ∷ 9 ∷ [])
-    × (map (rank three) (0 ∷ 1 ∷ 2 ∷ 3 ∷ 4 ∷ 5 ∷ []) ≡ 0 ∷ 1 ∷ 1 ∷ 2 ∷ 2 ∷ 3 ∷ [])
-unfolding picked rank
+    × (map (pickedPlace three) (0 ∷ 1 ∷ 2 ∷ 3 ∷ 4 ∷ 5 ∷ []) ≡ 0 ∷ 1 ∷ 1 ∷ 2 ∷ 2 ∷ 3 ∷ [])
+unfolding picked pickedPlace
 three-of-five = (refl, refl)
 
 -- places beyond the list's end give nothing; where there is no place nothing is left

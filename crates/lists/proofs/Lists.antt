@@ -55,6 +55,11 @@ listed-at zero f k b = absurd (omega arith)
 listed-at (suc n) f zero b = refl
 listed-at (suc n) f (suc k) b = listed-at n (λ i. f (suc i)) k (omega arith)
 
+pub listed-length : (n : ℕ) (f : ℕ → ℕ) → length (listed n f) ≡ n
+unfolding listed
+listed-length zero f = refl
+listed-length (suc n) f = ap suc (listed-length n (λ k. f (suc k)))
+
 -- sums by places; a list that ends early counts as zeros
 unfoldable pub sums : List ℕ → List ℕ → List ℕ
 sums [] ys = ys

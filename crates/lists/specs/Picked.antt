@@ -17,6 +17,6 @@ picked M [] = []
 picked M (x ∷ xs) = keep (M 0) x (picked (λ k. M (suc k)) xs)
 
 -- how many places of M there are before k: the place of k among them
-unfoldable pub rank : Set → ℕ → ℕ
+unfoldable pub pickedPlace : Set → ℕ → ℕ
 unfolding total
-rank M k = total (λ i. only (M i) 1) k
+pickedPlace M k = total (λ i. only (M i) 1) k
