@@ -6,6 +6,7 @@ use Rattle.answers.specs.declared.CheckAnswer.{CheckAnswer}
 use Rattle.answers.specs.declared.OverloadAnswer.{OverloadAnswer}
 use Rattle.answers.specs.declared.ReadAnswer.{ReadAnswer}
 use Rattle.answers.specs.declared.WriteAnswer.{WriteAnswer}
+use Rattle.answers.specs.declared.ConflictAnswer.{ConflictAnswer}
 
 -- the answer words
 pub data Word : Type 0 where
@@ -18,6 +19,7 @@ pub data Word : Type 0 where
   overload : Word
   read : Word
   written : Word
+  marked : Word
 
 -- an answer: its word and its numbers
 pub record Said : Type 0 where
@@ -55,3 +57,8 @@ saysRead (ReadAnswer.Refused k) = said Word.refused (k ∷ [])
 abbrev pub saysWrite : WriteAnswer → Said
 saysWrite (WriteAnswer.Written bytes) = said Word.written (bytes ∷ [])
 saysWrite (WriteAnswer.Refused k) = said Word.refused (k ∷ [])
+
+-- the answers of the call that names jobs
+abbrev pub saysConflict : ConflictAnswer → Said
+saysConflict (ConflictAnswer.Marked m) = said Word.marked (m ∷ [])
+saysConflict (ConflictAnswer.Refused k) = said Word.refused (k ∷ [])

@@ -33,3 +33,15 @@ pub enum WriteAnswer {
     Written(usize),
     Refused(u32),
 }
+
+// The call that names the jobs which cannot be done together: how many there are; the refusal's number.
+pub enum ConflictAnswer {
+    Marked(u32),
+    Refused(u32),
+}
+
+// And beside that the marked jobs as a member set, all zeros on a refusal.
+pub struct Conflict {
+    pub answer: ConflictAnswer,
+    pub set: [u32; bits::WORDS],
+}

@@ -51,6 +51,7 @@ unnumbered a = bare (a .word) (a .numbers)
     bare Word.overload ns = said Word.overload []
     bare Word.read ns = said Word.read []
     bare Word.written ns = said Word.written []
+    bare Word.marked ns = said Word.marked []
 
 abbrev pub unlogged : After → Left
 unlogged a = record { says = unnumbered (a .says); win = a .win }

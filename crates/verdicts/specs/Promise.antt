@@ -41,6 +41,7 @@ takenBy Word.none k = 0
 takenBy Word.overload k = 0
 takenBy Word.written k = 0
 takenBy Word.read k = 0
+takenBy Word.marked k = 0
 
 abbrev pub taken : Said → ℕ
 taken a = takenBy (a .word) (a .numbers ! 0)
