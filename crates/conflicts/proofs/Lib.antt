@@ -1,0 +1,7 @@
+pub mod Marks
+pub mod Shut
+pub mod Among
+pub mod Only
+pub mod Rows
+pub mod Meaning
+pub mod Same

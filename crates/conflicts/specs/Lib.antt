@@ -1,0 +1,4 @@
+pub mod Marks
+pub mod Apart
+pub mod Table
+pub mod Promise

@@ -1,0 +1,31 @@
+-- The marks of a clash log (document 02, Item 14): from the closing record back to the first, its job and its members, then the members of each earlier record
+-- whose moved job is marked. As a walk, and in facts.
+use Prim.Native.Nat.{ℕ}
+use mathlib.Core.Path.{_≡_}
+use mathlib.Core.Bool.{Bool, true, false}
+use mathlib.Core.List.{List, [], _∷_}
+use lib.Dec.{eqb}
+use Rattle.lists.specs.Tests.{either}
+use Rattle.lists.specs.Sets.{Set}
+use Rattle.journal.specs.Journal.{jobOf, isMember}
+
+-- job j alone
+abbrev pub alone : ℕ → Set
+alone j k = eqb k j
+
+-- those marked, and those of T besides where the test passes
+abbrev pub mark : Bool → Set → Set → Set
+mark true M T k = either (M k) (T k)
+mark false M T k = M k
+
+-- whom records mark in a clash of job j: with no record j alone; with one more in front of others those whom the others mark, and its members where its moved
+-- job is one of those. The moved job of the closing record, the last, is j itself.
+unfoldable pub markedBy : ℕ → List (List ℕ) → Set
+markedBy j [] = alone j
+markedBy j (x ∷ xs) = let later = markedBy j xs in mark (later (jobOf x)) later (isMember x)
+
+-- the same in facts: job k is j; or traced by later records; or a member of a record whose moved job is traced by later ones
+pub data Traced (j : ℕ) : List (List ℕ) → ℕ → Type 0 where
+  own : {xs : List (List ℕ)} → Traced j xs j
+  later : {x : List ℕ} {xs : List (List ℕ)} {k : ℕ} → Traced j xs k → Traced j (x ∷ xs) k
+  member : {x : List ℕ} {xs : List (List ℕ)} {k : ℕ} → Traced j xs (jobOf x) → isMember x k ≡ true → Traced j (x ∷ xs) k
