@@ -7,3 +7,5 @@ pub mod CheckShutOut
 pub mod SpareShutOut
 pub mod RaggedShutOut
 pub mod RoomShutOut
+pub mod Conflicts
+pub mod ConflictShutOut

@@ -5,3 +5,4 @@ pub mod Logs
 pub mod Checks
 pub mod CloseChecks
 pub mod Ragged
+pub mod Conflicts
