@@ -7,4 +7,5 @@ pub use layouts::read_psplib;
 pub use logbook::show_record;
 pub use planner::narrow;
 pub use readhead::overload;
+pub use tracer::conflict;
 pub use writing::write_patterson;
