@@ -20,6 +20,7 @@ answerWord Word.None = some answers.Word.none
 answerWord Word.Overload = some answers.Word.overload
 answerWord Word.Read = some answers.Word.read
 answerWord Word.Written = some answers.Word.written
+answerWord Word.Marked = some answers.Word.marked
 answerWord Word.Record = none
 answerWord Word.Unreadable = none
 

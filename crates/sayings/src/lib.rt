@@ -2,6 +2,7 @@
 // by one function.
 use answers::Answer;
 use answers::CheckAnswer;
+use answers::ConflictAnswer;
 use answers::OverloadAnswer;
 use answers::ReadAnswer;
 use answers::WriteAnswer;
@@ -11,7 +12,7 @@ ghost use mathlib.Core.Path.{_≡_};
 ghost use mathlib.Core.List.{[], _∷_};
 ghost use Prim.Native.Nat.{_<_};
 ghost use lib.ListN.{length};
-ghost use Rattle.answers.specs.Said.{says, saysCheck, saysOverload, saysRead, saysWrite};
+ghost use Rattle.answers.specs.Said.{says, saysCheck, saysOverload, saysRead, saysWrite, saysConflict};
 ghost use Rattle.sayings.specs.Sayings.{numbersOf, Tells};
 
 // The answer words of documents 01 and 02, and two of the programs' own: that a record is shown, and that a line cannot be read.
@@ -25,6 +26,7 @@ pub enum Word {
     Overload,
     Read,
     Written,
+    Marked,
     Record,
     Unreadable,
 }
@@ -119,6 +121,15 @@ pub fn writing(a: WriteAnswer) -> Saying
     }
 }
 
+pub fn marking(a: ConflictAnswer) -> Saying
+    ensures { λ r. ⌜ Tells r (saysConflict a) ⌝ }
+{
+    match a {
+        ConflictAnswer::Marked(count) => one(Word::Marked, count as u64),
+        ConflictAnswer::Refused(number) => one(Word::Refused, number as u64),
+    }
+}
+
 // The most letters of a word.
 const LETTERS: usize = 10;
 
@@ -134,6 +145,7 @@ fn spelled(word: Word) -> [u8; LETTERS] {
         Word::Overload => *b"overload  ",
         Word::Read => *b"read      ",
         Word::Written => *b"written   ",
+        Word::Marked => *b"marked    ",
         Word::Record => *b"record    ",
         Word::Unreadable => *b"unreadable",
     }
