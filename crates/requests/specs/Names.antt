@@ -17,6 +17,8 @@ abbrev pub nameOf : Call → Option (List ℕ)
 nameOf (Call.Jobs Task.Narrow) = some (110 ∷ 97 ∷ 114 ∷ 114 ∷ 111 ∷ 119 ∷ [])
 -- `check`
 nameOf (Call.Jobs Task.Check) = some (99 ∷ 104 ∷ 101 ∷ 99 ∷ 107 ∷ [])
+-- `conflict`
+nameOf Call.Conflict = some (99 ∷ 111 ∷ 110 ∷ 102 ∷ 108 ∷ 105 ∷ 99 ∷ 116 ∷ [])
 -- `record`
 nameOf Call.Record = some (114 ∷ 101 ∷ 99 ∷ 111 ∷ 114 ∷ 100 ∷ [])
 -- `overload`
@@ -41,6 +43,7 @@ lineForm shorts long jobs others most bytes =
 abbrev pub formOf : Call → Form
 formOf (Call.Jobs Task.Narrow) = lineForm 1 false 4 1 logEntries false
 formOf (Call.Jobs Task.Check) = lineForm 1 true 4 1 logEntries false
+formOf Call.Conflict = lineForm 1 true 4 1 logEntries false
 formOf Call.Record = lineForm 0 true 0 1 logEntries false
 formOf Call.Overload = lineForm 0 false 3 0 0 false
 formOf (Call.Read layout) = lineForm 2 false 4 2 pairEntries true

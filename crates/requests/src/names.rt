@@ -34,6 +34,7 @@ pub enum Task {
 // The calls; of no other line is anything known.
 pub enum Call {
     Jobs(Task),
+    Conflict,
     Record,
     Overload,
     Read(Layout),
@@ -50,6 +51,9 @@ pub fn named(word: &[u8]) -> Call
     }
     if same(word, b"check") {
         return Call::Jobs(Task::Check);
+    }
+    if same(word, b"conflict") {
+        return Call::Conflict;
     }
     if same(word, b"record") {
         return Call::Record;
@@ -109,6 +113,7 @@ pub fn form(call: Call) -> Form
             Task::Narrow => formed(1, false, 4, 1, LOG, false),
             Task::Check => formed(1, true, 4, 1, LOG, false),
         },
+        Call::Conflict => formed(1, true, 4, 1, LOG, false),
         Call::Record => formed(0, true, 0, 1, LOG, false),
         Call::Overload => formed(0, false, 3, 0, 0, false),
         Call::Read(_) => formed(2, false, 4, 2, PAIRS as u32, true),

@@ -30,11 +30,16 @@ returns-6 c = rw (c .before .enum-told6 .given .1) (c .formed6 .ensures)
 returns-7 : tie.Need-returns-7
 returns-7 c = rw (c .before .enum-told7 .given .1) (c .formed7 .ensures)
 
+returns-8 : tie.Need-returns-8
+returns-8 c = rw (c .before .enum-told8 .given .1) (c .formed8 .ensures)
+
 pub form-spec : {M : Type 1} → statement M
 form-spec =
     tie.close
     (tie.spec
     (λ c. search needs)
+    (λ c. search needs)
+    (λ c κs. search needs)
     (λ c. search needs)
     (λ c κs. search needs)
     (λ c. search needs)
@@ -57,4 +62,5 @@ form-spec =
     returns-4
     returns-5
     returns-6
-    returns-7)
+    returns-7
+    returns-8)
