@@ -1,15 +1,18 @@
-// The calls over a job list: narrowing, the check of a log, and the overload check, made over the lists of a line, which stand packed in lent words.
-// Each call changes its lists there; the result is what it says.
+// The calls over a job list: narrowing, the check of a log, the jobs that a clash log names, and the overload check, made over the lists of a line, which
+// stand packed in lent words. Narrowing and the check change their lists there; the result is what a call says, and beside it the set that one gives.
 use requests::JOBS;
 use requests::Task;
 use sayings::Saying;
 use sayings::checking;
+use sayings::marking;
 use sayings::narrowing;
 use sayings::overloading;
 ghost use mathlib.Core.Path.{_≡_};
 ghost use lib.ListN.{length};
 ghost use Rattle.answers.specs.Said.{Said};
 ghost use Rattle.desk.specs.Lists.{win};
+ghost use Rattle.desk.specs.Narrowing.{call};
+ghost use Rattle.desk.specs.Conflicts.{blame, Blames};
 ghost use Rattle.desk.specs.Overloads.{Overloads};
 ghost use Rattle.sayings.specs.Sayings.{Tells};
 ghost use Rattle.packed.specs.Packed.{listOf};
@@ -63,6 +66,28 @@ pub fn narrow_or_check(words: &mut [u32], task: Task, cap: u32, count: usize) ->
     packed::put(words, 0, &est);
     packed::put(words, 1, &lct);
     says
+}
+
+// What the call that names jobs says, and its member set.
+pub struct Marks {
+    pub says: Saying,
+    pub set: [u32; bits::WORDS],
+}
+
+// conflict CAP COUNT est lct dur dem log
+pub fn conflict(words: &[u32], cap: u32, count: usize) -> Marks
+    ensures { λ r. ⌜ ((a : Said) × Tells (r .says) a × Blames (call (win (listOf (now (words .entry)) 0) (listOf (now (words .entry)) 1)) (listOf (now (words .entry)) 2) (listOf (now (words .entry)) 3) cap (listOf (now (words .entry)) 4)) count (blame a (r .set))) ⌝ }
+{
+    let est = packed::list(words, 0);
+    let lct = packed::list(words, 1);
+    let dur = packed::list(words, 2);
+    let dem = packed::list(words, 3);
+    let log = packed::list(words, 4);
+    let given = desk::conflict(est, lct, dur, dem, cap, log, count);
+    let answer = given.answer;
+    let set = given.set;
+    let says = marking(answer);
+    Marks { says, set }
 }
 
 // overload est lct dur
