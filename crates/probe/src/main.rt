@@ -2,6 +2,7 @@
 //
 // narrow CAP est lct dur dem log
 // check CAP COUNT est lct dur dem log
+// conflict CAP COUNT est lct dur dem log
 // record K log
 // overload est lct dur
 // patterson RESOURCE HORIZON est lct dur dem jobs successors text
@@ -9,11 +10,12 @@
 // write CAP dur dem jobs successors buffer
 //
 // A list is its length and then its numbers; a text and a buffer are lists of bytes. What is written is the answer's word and
-// numbers, then the lists that the call may change, as they are afterwards, and for `record` the part that it shows;
+// numbers, then the lists that the call may change, as they are afterwards, for `record` the part that it shows, and for
+// `conflict` the member set;
 // `unreadable` where the line has any other form.
 //
 // The lists of a line stand packed in one lent list of words, as the line has them, and a call changes them there: so what is
-// written behind an answer are stretches of these words (`replies`).
+// written behind most answers are stretches of these words (`replies`).
 mod replies;
 
 use intake::Cursor;
