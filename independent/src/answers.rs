@@ -1,5 +1,5 @@
 //! The answers of all calls, and the word and numbers each is written with
-//! (01, "Answer table" and "Runs on the record"; 02, Items 1, 3 and 13).
+//! (01, "Answer table" and "Runs on the record"; 02, Items 1, 3, 13 and 14).
 
 use crate::text::Line;
 
@@ -23,6 +23,8 @@ pub enum Answer {
     Read(u32, usize),
     /// The number of bytes.
     Written(usize),
+    /// The number of jobs.
+    Marked(u32),
 }
 
 impl Answer {
@@ -37,6 +39,7 @@ impl Answer {
             Answer::Overload(a, b) => line.word("overload").word(a).word(b),
             Answer::Read(cap, pairs) => line.word("read").word(cap).word(pairs),
             Answer::Written(bytes) => line.word("written").word(bytes),
+            Answer::Marked(jobs) => line.word("marked").word(jobs),
         }
     }
 }

@@ -25,6 +25,14 @@ impl<'a, I: Iterator<Item = &'a [u8]>> Words<'a, I> {
         Some((times, Supply { cap, dem }))
     }
 
+    /// What the checker is told.
+    fn claim(&mut self) -> Option<(Times, Supply, u64, Vec<u32>)> {
+        let cap = self.short()?;
+        let count = self.long()?;
+        let (times, supply) = self.jobs(cap)?;
+        Some((times, supply, count, self.log()?))
+    }
+
     fn lent(&mut self) -> Option<Lent> {
         Some(Lent {
             est: self.list(LONGEST_JOB_LIST)?,
@@ -68,10 +76,12 @@ impl<'a, I: Iterator<Item = &'a [u8]>> Words<'a, I> {
                 Some(Call::Narrow(times, supply, self.log()?))
             }
             b"check" => {
-                let cap = self.short()?;
-                let count = self.long()?;
-                let (times, supply) = self.jobs(cap)?;
-                Some(Call::Check(times, supply, count, self.log()?))
+                let (times, supply, count, log) = self.claim()?;
+                Some(Call::Check(times, supply, count, log))
+            }
+            b"conflict" => {
+                let (times, supply, count, log) = self.claim()?;
+                Some(Call::Conflict(times, supply, count, log))
             }
             b"record" => Some(Call::Record(self.long()?, self.log()?)),
             b"overload" => Some(Call::Overload(self.times()?)),

@@ -2,6 +2,7 @@
 //! README.md says what a readable line is, `asked.rs` reads its words.
 
 use crate::answers::Answer;
+use crate::conflict::conflict;
 use crate::joblist::{Supply, Times};
 use crate::overload::overload;
 use crate::reading::{self, Lent, Request};
@@ -23,6 +24,7 @@ pub const LONGEST_TEXT: usize = 524_288;
 pub enum Call {
     Narrow(Times, Supply, Vec<u32>),
     Check(Times, Supply, u64, Vec<u32>),
+    Conflict(Times, Supply, u64, Vec<u32>),
     Record(u64, Vec<u32>),
     Overload(Times),
     Read(Request, Lent),
@@ -66,6 +68,10 @@ impl Call {
                 let line = line.word("check").word(supply.cap).word(count);
                 with_times(line, times).list(&supply.dem).list(log)
             }
+            Call::Conflict(times, supply, count, log) => {
+                let line = line.word("conflict").word(supply.cap).word(count);
+                with_times(line, times).list(&supply.dem).list(log)
+            }
             Call::Record(k, log) => line.word("record").word(k).list(log),
             Call::Overload(times) => with_times(line.word("overload"), times),
             Call::Read(request, lent) => {
@@ -93,6 +99,10 @@ impl Call {
             Call::Check(mut times, supply, count, log) => {
                 let answer = check(&mut times, &supply, count, &log);
                 with_windows(said(answer), &times)
+            }
+            Call::Conflict(times, supply, count, log) => {
+                let (answer, marked) = conflict(&times, &supply, count, &log);
+                said(answer).list(marked.words())
             }
             Call::Record(k, log) => Line::default().word("record").list(shown(k, &log)),
             Call::Overload(times) => said(overload(&times)),

@@ -6,6 +6,7 @@ mod asked;
 mod calls;
 mod cases;
 mod commands;
+mod conflict;
 mod instances;
 mod joblist;
 mod layouts;

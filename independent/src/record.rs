@@ -25,6 +25,15 @@ impl Members {
         (self.0[k / 32] >> (k % 32)) & 1 == 1
     }
 
+    /// Puts all of the other's members.
+    pub fn join(&mut self, other: &Members) {
+        other.numbers().into_iter().for_each(|k| self.put(k));
+    }
+
+    pub fn words(&self) -> &[u32] {
+        &self.0
+    }
+
     pub fn ones(&self) -> u32 {
         self.0.iter().map(|word| word.count_ones()).sum()
     }

@@ -4,7 +4,7 @@
 mod checking;
 pub mod crowds;
 mod faults;
-mod foreign;
+pub mod foreign;
 mod last;
 mod lists;
 mod naming;

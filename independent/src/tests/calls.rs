@@ -25,6 +25,7 @@ pub fn kind(line: &[u8]) -> String {
     match read(line) {
         Some(Call::Narrow(..)) => format!("narrow {answered}"),
         Some(Call::Check(..)) => format!("check {answered}"),
+        Some(Call::Conflict(..)) => format!("conflict {answered}"),
         Some(Call::Record(..)) => format!("record {answered}"),
         Some(Call::Overload(..)) => format!("overload {answered}"),
         Some(Call::Read(request, _)) => format!("{} {answered}", request.layout.name()),
