@@ -57,7 +57,7 @@ fn changed(random: &mut Random, record: &Record, jobs: usize) -> Record {
     changed
 }
 
-fn spoil(random: &mut Random, records: &mut Vec<Record>, jobs: usize) {
+pub fn spoil(random: &mut Random, records: &mut Vec<Record>, jobs: usize) {
     if records.is_empty() {
         let words = words(random, RECORD_WORDS);
         records.push(Record::from_words(&words));
@@ -133,8 +133,12 @@ fn logged(random: &mut Random) -> (Times, Supply, Vec<Record>) {
     (times, supply, records)
 }
 
-pub fn call(random: &mut Random) -> Call {
-    let (mut times, mut supply, records) = logged(random);
+/// What is asked of these lists and records: mostly just them, else a ragged log,
+/// windows that are too short, faults in the lists.
+pub fn asked(
+    random: &mut Random,
+    (mut times, mut supply, records): (Times, Supply, Vec<Record>),
+) -> (Times, Supply, u64, Vec<u32>) {
     let mut log: Vec<u32> = records.iter().flat_map(Record::words).collect();
     let beyond = random.pick(&[0, 0, 1, 2]) * RECORD_WORDS;
     log.extend(words(random, beyond));
@@ -152,5 +156,11 @@ pub fn call(random: &mut Random) -> Call {
     if random.one_in(12) {
         faults::spoil(random, &mut times, &mut supply);
     }
+    (times, supply, count, log)
+}
+
+pub fn call(random: &mut Random) -> Call {
+    let logged = logged(random);
+    let (times, supply, count, log) = asked(random, logged);
     Call::Check(times, supply, count, log)
 }

@@ -1,6 +1,7 @@
 //! Logs by another hand: another order, other times and other members.
 
 use crate::calls::naming::needed;
+use crate::calls::narrowing::own_records;
 use crate::joblist::{good_jobs, Supply, Times};
 use crate::random::Random;
 use crate::record::Record;
@@ -24,20 +25,46 @@ fn foreign_record(random: &mut Random, reached: &Replay, supply: &Supply) -> Opt
     reached.clone().take(&record).ok().map(|()| record)
 }
 
-/// The records of a log that is taken.
-pub fn records(random: &mut Random, times: &Times, supply: &Supply) -> Vec<Record> {
-    let jobs = good_jobs(times, supply).unwrap_or_default();
-    let mut reached = Replay::new(jobs, supply);
+/// Takes records until a window is closed or there were so many tries; a record
+/// that would close one is left out where none may be.
+fn taken(random: &mut Random, reached: &mut Replay, supply: &Supply, closing: bool) -> Vec<Record> {
     let mut records = Vec::new();
     let tries = if reached.jobs.is_empty() { 0 } else { 40 };
     for _ in 0..tries {
         if reached.closed.is_some() {
             break;
         }
-        if let Some(record) = foreign_record(random, &reached, supply) {
-            reached.take(&record).expect("it was taken before");
+        let Some(record) = foreign_record(random, reached, supply) else {
+            continue;
+        };
+        let mut next = reached.clone();
+        next.take(&record).expect("it was taken before");
+        if closing || next.closed.is_none() {
+            *reached = next;
             records.push(record);
         }
+    }
+    records
+}
+
+/// The records of a log that is taken.
+pub fn records(random: &mut Random, times: &Times, supply: &Supply) -> Vec<Record> {
+    let jobs = good_jobs(times, supply).unwrap_or_default();
+    taken(random, &mut Replay::new(jobs, supply), supply, true)
+}
+
+/// The records of a log that is taken and ends as the run does: another hand's,
+/// up to one that may close a window or without such ones, and then those of the
+/// run on the windows reached.
+pub fn finished(random: &mut Random, times: &Times, supply: &Supply) -> Vec<Record> {
+    let jobs = good_jobs(times, supply).unwrap_or_default();
+    let mut reached = Replay::new(jobs, supply);
+    let closing = random.one_in(3);
+    let mut records = taken(random, &mut reached, supply, closing);
+    if reached.closed.is_none() {
+        let mut windows = times.clone();
+        windows.rewrite(&reached.jobs);
+        records.extend(own_records(&windows, supply).unwrap_or_default());
     }
     records
 }

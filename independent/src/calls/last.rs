@@ -38,6 +38,32 @@ pub fn shut_out(jobs: usize, (moved, other): (usize, usize)) -> (Times, Supply) 
     with(jobs, &[(moved, (0, 4, 2, 1)), (other, (0, 3, 3, 1))])
 }
 
+/// The second of the jobs named has to start behind the third, and takes the only
+/// time of the first then.
+pub fn behind(jobs: usize, [a, b, c]: [usize; 3]) -> (Times, Supply) {
+    let (of_a, of_b, of_c) = ((3, 4, 1, 1), (0, 5, 3, 1), (0, 2, 2, 1));
+    with(jobs, &[(a, of_a), (b, of_b), (c, of_c)])
+}
+
+/// Each of the jobs named but the first has to start behind the next, and then is
+/// in the way of the one before it; the first has no other time.
+pub fn in_a_row(jobs: usize, [a, b, c, d]: [usize; 4]) -> (Times, Supply) {
+    let (of_a, of_b, of_c) = ((6, 7, 1, 1), (3, 8, 3, 1), (1, 6, 3, 1));
+    with(jobs, &[(a, of_a), (b, of_b), (c, of_c), (d, (0, 2, 2, 1))])
+}
+
+/// As the three jobs behind one another; the fourth moves the third, and may do so
+/// after the third has moved the second.
+pub fn moved_later(jobs: usize, [a, b, c, d]: [usize; 4]) -> (Times, Supply) {
+    let (of_a, of_b, of_c) = ((3, 4, 1, 1), (0, 5, 3, 1), (0, 3, 2, 1));
+    with(jobs, &[(a, of_a), (b, of_b), (c, of_c), (d, (0, 1, 1, 1))])
+}
+
+/// So many jobs with the same only time, of which all but one could have it.
+pub fn one_too_many(jobs: usize) -> (Times, Supply) {
+    lists((jobs as u32).saturating_sub(1), &vec![(0, 1, 1, 1); jobs])
+}
+
 /// The last job draws more than there is, and cannot run at all.
 pub fn overdrawn(jobs: usize) -> (Times, Supply) {
     let last = jobs.checked_sub(1);

@@ -2,11 +2,13 @@
 //! answer, refusal and code comes up, and so do lines that cannot be read.
 
 mod checking;
+mod conflicts;
 pub mod crowds;
 mod faults;
 pub mod foreign;
 mod last;
 mod lists;
+mod marking;
 mod naming;
 mod narrowing;
 pub mod odd;
@@ -21,11 +23,12 @@ use crate::random::Random;
 
 /// A call of any kind that is written as it should be.
 fn well_written(random: &mut Random) -> Call {
-    match random.below(100) {
+    match random.below(120) {
         0..=36 => narrowing::call(random),
         37..=77 => checking::call(random),
         78..=94 => others::overload(random),
-        _ => others::record(random),
+        95..=99 => others::record(random),
+        _ => conflicts::call(random),
     }
 }
 

@@ -47,7 +47,7 @@ fn with_odd_byte(random: &mut Random, mut line: Vec<u8>) -> Vec<u8> {
 }
 
 fn with_other_word(random: &mut Random, line: &[u8]) -> Vec<u8> {
-    let words: [&[u8]; 8] = [
+    let words: [&[u8]; 10] = [
         b"",
         b"Narrow",
         b"narro",
@@ -56,6 +56,8 @@ fn with_other_word(random: &mut Random, line: &[u8]) -> Vec<u8> {
         b"7",
         b"overload",
         b"record",
+        b"conflict",
+        b"conflicts",
     ];
     let rest = line.iter().position(|&b| b == b' ').unwrap_or(line.len());
     [random.pick(&words), &line[rest..]].concat()
@@ -104,9 +106,13 @@ pub fn at_a_limit_of_the_line(random: &mut Random) -> Vec<u8> {
             times.lct.resize(LONGEST_JOB_LIST + more, 0);
             Call::Overload(times)
         }
-        3..=5 => {
+        3..=4 => {
             supply.dem.resize(LONGEST_JOB_LIST + more, 0);
             Call::Check(times, supply, 0, vec![1; RECORD_WORDS])
+        }
+        5 => {
+            supply.dem.resize(LONGEST_JOB_LIST + more, 0);
+            Call::Conflict(times, supply, 0, vec![1; RECORD_WORDS])
         }
         6..=7 => Call::Narrow(times, supply, vec![1; RECORD_WORDS + more]),
         8..=9 => {
@@ -116,7 +122,11 @@ pub fn at_a_limit_of_the_line(random: &mut Random) -> Vec<u8> {
         10 => {
             let whole = LONGEST_LOG - LONGEST_LOG % RECORD_WORDS;
             let length = random.pick(&[whole, LONGEST_LOG + more]);
-            Call::Narrow(few, one_each, vec![7; length])
+            let log = vec![7; length];
+            random.pick(&[
+                Call::Narrow(few.clone(), one_each.clone(), log.clone()),
+                Call::Conflict(few, one_each, 1, log),
+            ])
         }
         _ => {
             let last = (LONGEST_LOG / RECORD_WORDS) as u64 - 1;

@@ -3,7 +3,7 @@
 
 use crate::calls::last::{self, Quad};
 use crate::calls::narrowing::{busy, own_records};
-use crate::calls::{foreign, lists as any, shapes};
+use crate::calls::{foreign, lists as any, marking, shapes};
 use crate::joblist::{lists, Supply, Times, MOST_TIME};
 use crate::lines::Call;
 use crate::random::Random;
@@ -163,6 +163,7 @@ pub fn calls(random: &mut Random) -> Vec<Call> {
         calls.extend(overload(jobs));
         calls.extend(shown(jobs));
         calls.extend(drawn(random, jobs));
+        calls.extend(marking::calls(random, jobs));
     }
     calls
 }

@@ -6,7 +6,7 @@ use crate::lines::{answer, read, Call};
 use std::collections::BTreeSet;
 
 const SEED: u64 = 1;
-const COUNT: u64 = 6_000;
+const COUNT: u64 = 7_200;
 
 /// The kind of call, the word of the answer, and its refusal or code.
 pub fn kind(line: &[u8]) -> String {
@@ -43,6 +43,8 @@ fn wanted() -> BTreeSet<String> {
         "check refused 1, check refused 2, check refused 3, check refused 6",
         "check rejected 20, check rejected 21, check rejected 22, check rejected 23",
         "check rejected 24, check rejected 25, check rejected 26, check rejected 27",
+        "conflict marked, conflict refused 1, conflict refused 2, conflict refused 3",
+        "conflict refused 6, conflict refused 7, conflict refused 8",
         "record shown 0, record shown 12",
         "overload none, overload overload",
         "overload refused 1, overload refused 2, overload refused 3",

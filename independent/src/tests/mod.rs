@@ -7,6 +7,7 @@ mod cases;
 mod checking;
 mod codes;
 mod conflict;
+mod conflict_calls;
 mod conflict_lines;
 mod conflict_refusals;
 mod conflict_runs;

@@ -8,12 +8,14 @@ use crate::record::{is_ragged, room, RECORD_WORDS};
 use std::collections::BTreeMap;
 
 const SEED: u64 = 1;
-const COUNT: u64 = 6_000;
+const COUNT: u64 = 7_200;
 
 /// The call with the whole records of its log alone.
 fn with_whole(call: &Call) -> Call {
     let mut call = call.clone();
-    if let Call::Narrow(_, _, log) | Call::Check(_, _, _, log) = &mut call {
+    if let Call::Narrow(_, _, log) | Call::Check(_, _, _, log) | Call::Conflict(_, _, _, log) =
+        &mut call
+    {
         log.truncate(room(log) * RECORD_WORDS);
     }
     call
@@ -21,7 +23,9 @@ fn with_whole(call: &Call) -> Call {
 
 fn log_of(call: &Call) -> Option<&[u32]> {
     match call {
-        Call::Narrow(_, _, log) | Call::Check(_, _, _, log) => Some(log),
+        Call::Narrow(_, _, log) | Call::Check(_, _, _, log) | Call::Conflict(_, _, _, log) => {
+            Some(log)
+        }
         _ => None,
     }
 }
@@ -56,6 +60,7 @@ fn uses(call: &Call) -> Vec<String> {
     };
     let (word, claims) = match call {
         Call::Check(_, _, count, _) => ("check", vec![claim(*count, log)]),
+        Call::Conflict(_, _, count, _) => ("conflict", vec![claim(*count, log)]),
         _ => ("narrow", Vec::new()),
     };
     let found = [lengths(log.len()), claims].concat();
@@ -65,7 +70,7 @@ fn uses(call: &Call) -> Vec<String> {
 }
 
 /// The least number of each use.
-const OFTEN: [(&str, usize); 36] = [
+const OFTEN: [(&str, usize); 45] = [
     ("narrow below a record", 40),
     ("narrow a word more", 30),
     ("narrow half a record", 20),
@@ -98,10 +103,19 @@ const OFTEN: [(&str, usize); 36] = [
     ("check rejected 21", 7),
     ("check rejected 22", 5),
     ("check rejected 23", 3),
-    ("check rejected 24", 3),
+    ("check rejected 24", 1),
     ("check rejected 25", 2),
     ("check rejected 26", 2),
     ("check rejected 27", 2),
+    ("conflict below a record", 10),
+    ("conflict a word more", 10),
+    ("conflict a word less", 10),
+    ("conflict claims none", 10),
+    ("conflict claims all", 15),
+    ("conflict claims more", 10),
+    ("conflict marked", 10),
+    ("conflict refused 6", 10),
+    ("conflict refused 8", 10),
 ];
 
 #[test]

@@ -18,9 +18,10 @@ fn asked() -> Vec<Call> {
 /// The number of jobs, or of records.
 fn size(call: &Call) -> Option<usize> {
     match call {
-        Call::Narrow(times, ..) | Call::Check(times, ..) | Call::Overload(times) => {
-            Some(times.est.len())
-        }
+        Call::Narrow(times, ..)
+        | Call::Check(times, ..)
+        | Call::Conflict(times, ..)
+        | Call::Overload(times) => Some(times.est.len()),
         Call::Record(_, log) => Some(log.len() / RECORD_WORDS),
         _ => None,
     }
@@ -36,7 +37,7 @@ fn kinds_of(jobs: usize) -> BTreeSet<String> {
 fn every_size_is_asked_of_every_call() {
     for jobs in SIZES {
         let kinds = kinds_of(jobs);
-        for call in ["narrow", "check", "overload", "record"] {
+        for call in ["narrow", "check", "conflict", "overload", "record"] {
             let begins = |kind: &String| kind.starts_with(call);
             assert!(kinds.iter().any(begins), "{call} {jobs}");
         }
@@ -52,6 +53,8 @@ fn the_largest_size_gets_every_answer() {
         "check refused 1, check refused 3, check refused 7",
         "check rejected 20, check rejected 21, check rejected 22, check rejected 23",
         "check rejected 24, check rejected 25, check rejected 26, check rejected 27",
+        "conflict marked, conflict refused 1, conflict refused 3",
+        "conflict refused 6, conflict refused 7, conflict refused 8",
         "overload none, overload overload, overload refused 1, overload refused 3",
         "record shown 0, record shown 12",
     ];
@@ -62,7 +65,7 @@ fn the_largest_size_gets_every_answer() {
 #[test]
 fn one_job_more_is_refused() {
     let kinds = kinds_of(MOST_JOBS + 1);
-    for call in ["narrow", "check", "overload"] {
+    for call in ["narrow", "check", "conflict", "overload"] {
         let those = kinds.iter().filter(|kind| kind.starts_with(call));
         let refused = ["1", "2"].map(|number| format!("{call} refused {number}"));
         assert!(those.eq(&refused));
