@@ -1,7 +1,7 @@
 //! What the program does for each of its commands.
 
 use crate::lines::Call;
-use crate::{calls, cases, instances, layouts, lines, make, names, texts};
+use crate::{calls, cases, instances, jobshops, layouts, lines, make, names, texts};
 use std::io::{self, BufWriter, Write};
 use std::path::Path;
 use std::str::FromStr;
@@ -64,7 +64,7 @@ pub fn run(words: &[&str]) -> Result<(), String> {
         }
         ["jobshop", file, horizon] => {
             let project = layouts::jobshop(&text_of(file)?)?;
-            output.calls(instances::machine_calls(&project, number(horizon)?)?)?;
+            output.calls(jobshops::machine_calls(&project, number(horizon)?)?)?;
         }
         ["chain", file] => {
             let chain = layouts::any(&text_of(file)?)?.longest_chain()?;

@@ -1,8 +1,9 @@
-//! Calls for instances: one resource within a horizon, the machines of a
-//! job-shop, and all calls for a folder of published files and made ones.
+//! Calls for instances: one resource within a horizon, and all calls for a
+//! folder of published files and made ones.
 
 use crate::answers::Answer;
 use crate::joblist::{Job, Supply, Times};
+use crate::jobshops::jobshop_calls;
 use crate::lines::Call;
 use crate::project::Project;
 use crate::reasons::{dropped, full, lean, Naming};
@@ -35,13 +36,13 @@ fn falling(jobs: &[Job], cap: i64, j: usize, t: i64) -> Members {
     dropped(jobs, cap, j, members, &order)
 }
 
-fn demands(project: &Project, resource: usize) -> Vec<u32> {
+pub fn demands(project: &Project, resource: usize) -> Vec<u32> {
     let demands = project.jobs.iter().map(|job| job.demands[resource]);
     demands.collect()
 }
 
 /// The times of the jobs that ask for the resource.
-fn asking(times: &Times, demands: &[u32]) -> Times {
+pub fn asking(times: &Times, demands: &[u32]) -> Times {
     let mut asking = Times::default();
     for k in (0..demands.len()).filter(|&k| demands[k] >= 1) {
         asking.push(times.est[k], times.lct[k], times.dur[k]);
@@ -85,15 +86,7 @@ pub fn resource_calls(
     Ok(list_calls(times, supply))
 }
 
-/// The overload check of every machine.
-pub fn machine_calls(project: &Project, horizon: u32) -> Result<Vec<Call>, String> {
-    let times = project.windows(horizon)?;
-    let machines = 0..project.caps.len();
-    let call = |machine| Call::Overload(asking(&times, &demands(project, machine)));
-    Ok(machines.map(call).collect())
-}
-
-fn horizon(value: u64) -> Result<u32, String> {
+pub fn horizon(value: u64) -> Result<u32, String> {
     u32::try_from(value).map_err(|_| "the horizon is too long".to_string())
 }
 
@@ -108,42 +101,6 @@ pub fn project_lists(project: &Project) -> Result<Vec<(Times, Supply)>, String> 
         }
     }
     Ok(all)
-}
-
-/// The least horizon ruled out neither by a chain nor by the work of a whole
-/// machine: all of it comes after the shortest time before one of its jobs and
-/// leaves the shortest time after one.
-fn least_horizon(project: &Project) -> Result<u64, String> {
-    let chain = project.longest_chain()?;
-    let times = project.windows(horizon(chain)?)?;
-    let mut least = chain;
-    for machine in 0..project.caps.len() {
-        let work = asking(&times, &demands(project, machine));
-        let total: u64 = work.dur.iter().map(|&duration| u64::from(duration)).sum();
-        let before = u64::from(work.est.iter().min().copied().unwrap_or(0));
-        let after = chain - u64::from(work.lct.iter().max().copied().unwrap_or(0));
-        least = least.max(before + total + after);
-    }
-    Ok(least)
-}
-
-/// Horizons of a job-shop: one that fits for certain, the least that may fit,
-/// and two that do not, by one and by a tenth.
-pub fn jobshop_horizons(project: &Project) -> Result<[u32; 4], String> {
-    let durations = project.jobs.iter().map(|job| u64::from(job.duration));
-    let all = durations.sum();
-    let least = least_horizon(project)?;
-    let wanted = [all, least, least.saturating_sub(1), least - least / 10];
-    let [fits, may_fit, less, tight] = wanted.map(horizon);
-    Ok([fits?, may_fit?, less?, tight?])
-}
-
-fn jobshop_calls(project: &Project) -> Result<Vec<Call>, String> {
-    let mut calls = Vec::new();
-    for horizon in jobshop_horizons(project)? {
-        calls.extend(machine_calls(project, horizon)?);
-    }
-    Ok(calls)
 }
 
 pub fn file_text(path: &Path) -> Result<String, String> {

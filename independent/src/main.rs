@@ -9,6 +9,7 @@ mod commands;
 mod conflict;
 mod instances;
 mod joblist;
+mod jobshops;
 mod layouts;
 mod lines;
 mod make;

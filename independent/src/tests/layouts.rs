@@ -1,7 +1,8 @@
 //! Published files and made ones: both layouts give the same project, windows
 //! go by longest chains, and published optima are not ruled out.
 
-use crate::instances::{file_text, jobshop_horizons, machine_calls, resource_calls};
+use crate::instances::{file_text, resource_calls};
+use crate::jobshops::{jobshop_horizons, machine_calls};
 use crate::layouts::{any, instance, jobshop};
 use crate::lines::{answer, Call};
 use crate::make;
