@@ -8,6 +8,7 @@ use crate::lines::Call;
 use crate::project::Project;
 use crate::reasons::{dropped, full, lean, Naming};
 use crate::record::{Members, RECORD_WORDS};
+use crate::replay::check;
 use crate::timetable::narrow_naming;
 use crate::{layouts, make};
 use std::path::{Path, PathBuf};
@@ -58,8 +59,9 @@ fn lists(project: &Project, resource: usize, horizon: u32) -> Result<(Times, Sup
 }
 
 /// Narrowing with room for a record more than the run has, the check of the
-/// run's own log, those of the logs that name other members, as 01 has them and
-/// as dropping by falling number leaves them, and the overload check.
+/// run's own log, its marks where it ends in a clash, the checks of the logs that
+/// name other members, as 01 has them and as dropping by falling number leaves
+/// them, and the overload check.
 fn list_calls(times: Times, supply: Supply) -> Vec<Call> {
     let (count, log) = run_log(lean, &times, &supply);
     let checked = |log: Vec<u32>| Call::Check(times.clone(), supply.clone(), count as u64, log);
@@ -68,6 +70,11 @@ fn list_calls(times: Times, supply: Supply) -> Vec<Call> {
         Call::Narrow(times.clone(), supply.clone(), empty),
         checked(log.clone()),
     ];
+    let said = check(&mut times.clone(), &supply, count as u64, &log);
+    if matches!(said, Answer::Clash(..)) {
+        let (times, supply) = (times.clone(), supply.clone());
+        calls.push(Call::Conflict(times, supply, count as u64, log.clone()));
+    }
     let others = [full as Naming, falling];
     let others = others.map(|naming| run_log(naming, &times, &supply).1);
     let others = others.into_iter().filter(|other| other != &log);

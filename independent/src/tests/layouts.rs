@@ -60,6 +60,25 @@ fn a_feasible_horizon_is_not_ruled_out() {
 }
 
 #[test]
+fn the_marks_are_asked_for_just_where_the_run_clashes() {
+    let made = make::instance(4, 30).unwrap();
+    let chain = made.longest_chain().unwrap() as u32;
+    let (mut short, mut closed, mut settled) = (0, 0, 0);
+    for horizon in [chain - 1, chain, 2 * chain] {
+        for resource in 0..4 {
+            let said = answers(&resource_calls(&made, resource, horizon).unwrap());
+            let clashes = said[0].starts_with("clash");
+            let marked = said.iter().filter(|said| said.starts_with("marked"));
+            assert_eq!(marked.count(), usize::from(clashes));
+            short += usize::from(said[0].starts_with("clash 0"));
+            closed += usize::from(clashes);
+            settled += usize::from(!clashes);
+        }
+    }
+    assert!(short > 0 && closed > short && settled > 0);
+}
+
+#[test]
 fn bad_texts_are_errors() {
     for text in [
         "",
