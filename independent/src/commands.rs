@@ -1,7 +1,7 @@
 //! What the program does for each of its commands.
 
 use crate::lines::Call;
-use crate::{calls, cases, instances, jobshops, layouts, lines, make, names, texts};
+use crate::{calls, cases, instances, jobshops, layouts, lines, make, marks, names, texts};
 use std::io::{self, BufWriter, Write};
 use std::path::Path;
 use std::str::FromStr;
@@ -16,6 +16,7 @@ pub const USAGE: &str = "usage:
   independent make SEED JOBS LAYOUT            an instance of 30, 60, 90 or 120 jobs as rcp or sm
   independent instance-calls DIR               calls for the files of a folder and made instances
   independent names DIR                        how many names shorter reasons spare, by families of lists
+  independent marks                            how many jobs a clash marks, and how many of them it needs
   independent text-calls DIR SEED COUNT        calls of both readers and the writer; COUNT Patterson texts are drawn";
 
 fn number<T: FromStr>(word: &str) -> Result<T, String> {
@@ -24,6 +25,12 @@ fn number<T: FromStr>(word: &str) -> Result<T, String> {
 
 fn text_of(file: &str) -> Result<String, String> {
     instances::file_text(Path::new(file))
+}
+
+/// The published instance in both layouts.
+fn published(dir: &str) -> Result<[String; 2], String> {
+    let [rcp, sm] = texts::PUBLISHED.map(|name| text_of(&format!("{dir}/{name}")));
+    Ok([rcp?, sm?])
 }
 
 /// Standard output, where a reader that has gone is an error like any other.
@@ -77,9 +84,9 @@ pub fn run(words: &[&str]) -> Result<(), String> {
             instances::folder_calls(Path::new(dir), |calls| output.calls(calls))?;
         }
         ["names", dir] => output.lines(names::lines(Path::new(dir))?)?,
+        ["marks"] => output.lines(marks::lines()?)?,
         ["text-calls", dir, seed, count] => {
-            let [rcp, sm] = texts::PUBLISHED.map(|name| text_of(&format!("{dir}/{name}")));
-            let (rcp, sm) = (rcp?, sm?);
+            let [rcp, sm] = published(dir)?;
             let (seed, count) = (number(seed)?, number(count)?);
             let published = [rcp.as_bytes(), sm.as_bytes()];
             output.lines(texts::lines(published, seed, count)?)?;

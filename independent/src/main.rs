@@ -13,6 +13,7 @@ mod jobshops;
 mod layouts;
 mod lines;
 mod make;
+mod marks;
 mod names;
 mod overload;
 mod patterson;

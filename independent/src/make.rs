@@ -155,11 +155,16 @@ fn capacities(random: &mut Random, project: &mut Project, real: usize) -> Result
     Ok(())
 }
 
-/// An instance of so many real jobs and the two dummies.
+/// An instance of a size that the library has.
 pub fn instance(seed: u64, real: usize) -> Result<Project, String> {
     if ![30, 60, 90, 120].contains(&real) {
         return Err("the library has 30, 60, 90 or 120 jobs".to_string());
     }
+    of_any_size(seed, real)
+}
+
+/// An instance of so many real jobs, at least seven, and the two dummies.
+pub fn of_any_size(seed: u64, real: usize) -> Result<Project, String> {
     let mut random = Random::new(seed);
     let network = Network::made(&mut random, real);
     let mut project = Project::default();

@@ -17,6 +17,7 @@ mod lean;
 mod lean_calls;
 mod lean_runs;
 mod lines;
+mod marks;
 mod names;
 mod narrowing;
 mod overload;
