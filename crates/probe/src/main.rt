@@ -11,8 +11,7 @@
 //
 // A list is its length and then its numbers; a text and a buffer are lists of bytes. What is written is the answer's word and
 // numbers, then the lists that the call may change, as they are afterwards, for `record` the part that it shows, and for
-// `conflict` the member set;
-// `unreadable` where the line has any other form.
+// `conflict` the member set; `unreadable` where the line has any other form.
 //
 // The lists of a line stand packed in one lent list of words, as the line has them, and a call changes them there: so what is
 // written behind most answers are stretches of these words (`replies`).
