@@ -9,11 +9,13 @@ use Rattle.answers.specs.Said.{Word, Said}
 use Rattle.desk.specs.Lists.{Win}
 use Rattle.desk.specs.Narrowing.{Call, After}
 use Rattle.desk.specs.Checking.{Checked}
+use Rattle.desk.specs.Conflicts.{Blamed}
 use Rattle.desk.specs.Reading.{Lent, TextCall, TextAfter}
 use Rattle.desk.proofs.Narrowing.{narrows-same}
 use Rattle.desk.proofs.Checking.{checks-same}
+use Rattle.desk.proofs.Conflicts.{blames-same}
 use Rattle.desk.proofs.Reading.{reads-one}
-use Rattle.caller.specs.Told.{ToldSettles, ToldHolds, ToldReads}
+use Rattle.caller.specs.Told.{ToldSettles, ToldHolds, ToldHopeless, ToldReads}
 
 -- results that are true exactly where the word is w, of one word
 same-result : (r q : Bool) (a b w : Word) → a ≡ b → (r ≡ true) ↔ (a ≡ w) → (q ≡ true) ↔ (b ≡ w) → r ≡ q
@@ -34,6 +36,10 @@ pub holds-same : (c : Call) (count : ℕ) (U W : Win) (r q : Bool) → ToldHolds
 holds-same c count U W r q f g =
     let h = checks-same c count _ _ (f .checks) (g .checks) in
     (same-result r q _ _ Word.holds (ap (λ (x : Checked). x .says .word) h) (f .holds) (g .holds), ap (λ (x : Checked). x .win) h)
+
+pub hopeless-same : (c : Call) (count : ℕ) (r q : Bool) → ToldHopeless c count r → ToldHopeless c count q → r ≡ q
+hopeless-same c count r q f g =
+    same-result r q _ _ Word.marked (ap (λ (x : Blamed). x .says .word) (blames-same c count _ _ (f .blames) (g .blames))) (f .marked) (g .marked)
 
 pub reads-same : (c : TextCall) (L K : Lent) (r q : Bool) → ToldReads c L r → ToldReads c K q → (r ≡ q) × (L ≡ K)
 reads-same c L K r q f g =

@@ -7,13 +7,16 @@ use mathlib.Core.List.{List}
 use mathlib.Core.Logic.{_⊎_, inl, inr, _↔_}
 use Rattle.answers.specs.declared.Answer.{Answer}
 use Rattle.answers.specs.declared.CheckAnswer.{CheckAnswer}
+use Rattle.answers.specs.declared.ConflictAnswer.{ConflictAnswer}
 use Rattle.answers.specs.declared.ReadAnswer.{ReadAnswer}
-use Rattle.answers.specs.Said.{Word, says, saysCheck, saysRead}
-use Rattle.desk.specs.Lists.{Win}
+use Rattle.answers.specs.Said.{Word, says, saysCheck, saysRead, saysConflict}
+use Rattle.desk.specs.Lists.{Win, Set, has}
 use Rattle.desk.specs.Narrowing.{Call, leaves, Narrows}
 use Rattle.desk.specs.Checking.{finds, Checks}
+use Rattle.desk.specs.Conflicts.{Among, blame, Blames}
 use Rattle.desk.specs.Reading.{Lent, TextCall, Reads}
-use Rattle.caller.specs.Told.{ToldSettles, ToldHolds, ToldReads}
+use Rattle.desk.proofs.Conflicts.{all-listed, none-elsewhere}
+use Rattle.caller.specs.Told.{ToldSettles, ToldHolds, ToldHopeless, ToldReads}
 
 -- false is not true
 not-true : false ≡ true → ⊥
@@ -43,6 +46,31 @@ tells-settles c U log a r h e =
 pub tells-holds : (c : Call) (count : ℕ) (U : Win) (a : CheckAnswer) (r : Bool) → Checks c count (finds (saysCheck a) U) → (r ≡ true) ↔ (saysCheck a .word ≡ Word.holds)
     → ToldHolds c count U r
 tells-holds c count U a r h e = record { says = saysCheck a; checks = h; holds = e }
+
+-- the jobs are among those of their own list
+own-among : (M : Set) (c : Call) → Among M c c (λ k. k)
+own-among M c =
+    record {
+      listed = λ k b h. b;
+      apart = λ i k b d h g e. e;
+      early = λ k b h. omega arith;
+      late = λ k b h. omega arith;
+      lasts = λ k b h. refl;
+      takes = λ k b h. omega arith;
+      supply = omega arith;
+    }
+
+pub tells-hopeless : (c : Call) (count : ℕ) (a : ConflictAnswer) (set : List ℕ) (r : Bool) → Blames c count (blame (saysConflict a) set)
+    → (r ≡ true) ↔ (saysConflict a .word ≡ Word.marked) → ToldHopeless c count r
+tells-hopeless c count a set r h e =
+    record {
+      says = saysConflict a;
+      set = set;
+      blames = h;
+      marked = e;
+      listed = λ z. all-listed c count _ (h .exactly) (e .0 z);
+      none = λ z. none-elsewhere c count _ h (e .0 z) c (λ k. k) (own-among (has set) c) .1;
+    }
 
 pub tells-reads : (c : TextCall) (L : Lent) (a : ReadAnswer) (r : Bool) → Reads c (record { says = saysRead a; lent = L }) → (r ≡ true) ↔ (saysRead a .word ≡ Word.read)
     → ToldReads c L r

@@ -1,15 +1,16 @@
 // A user of the desk: it names `desk answers` and nothing else, and is proved like the rest, from the contracts of the desk's calls.
 use answers::Answer;
 use answers::CheckAnswer;
+use answers::ConflictAnswer;
 use answers::ReadAnswer;
 ghost use mathlib.Core.Path.{_≡_};
 ghost use mathlib.Core.Bool.{true};
 ghost use mathlib.Core.Logic.{_↔_};
-ghost use Rattle.answers.specs.Said.{Word, says, saysCheck, saysRead};
+ghost use Rattle.answers.specs.Said.{Word, says, saysCheck, saysRead, saysConflict};
 ghost use Rattle.desk.specs.Lists.{win};
 ghost use Rattle.desk.specs.Narrowing.{call};
 ghost use Rattle.desk.specs.Reading.{patterson};
-ghost use Rattle.caller.specs.Told.{ToldSettles, ToldHolds, ToldReads};
+ghost use Rattle.caller.specs.Told.{ToldSettles, ToldHolds, ToldHopeless, ToldReads};
 
 fn settled(answer: Answer) -> bool
     ensures { λ r. ⌜ (r ≡ true) ↔ (says answer .word ≡ Word.settled) ⌝ }
@@ -59,6 +60,32 @@ pub fn holds(
     ensures { λ r. ⌜ ToldHolds (call (win (now (est .entry)) (now (lct .entry))) (now (dur .entry)) (now (dem .entry)) cap (now (log .entry))) count (win (now (est .exit)) (now (lct .exit))) r ⌝ }
 {
     held(desk::check_log(est, lct, dur, dem, cap, log, count))
+}
+
+fn marked(answer: ConflictAnswer) -> bool
+    ensures { λ r. ⌜ (r ≡ true) ↔ (saysConflict answer .word ≡ Word.marked) ⌝ }
+{
+    match answer {
+        ConflictAnswer::Marked(_) => true,
+        ConflictAnswer::Refused(_) => false,
+    }
+}
+
+// Whether a log shows some jobs that cannot be done together: then the whole list has no schedule either.
+pub fn hopeless(
+    est: &[u32],
+    lct: &[u32],
+    dur: &[u32],
+    dem: &[u32],
+    cap: u32,
+    log: &[u32],
+    count: usize,
+) -> bool
+    ensures { λ r. ⌜ ToldHopeless (call (win (now (est .entry)) (now (lct .entry))) (now (dur .entry)) (now (dem .entry)) cap (now (log .entry))) count r ⌝ }
+{
+    let given = desk::conflict(est, lct, dur, dem, cap, log, count);
+    let answer = given.answer;
+    marked(answer)
 }
 
 fn read(answer: ReadAnswer) -> bool
