@@ -1,11 +1,10 @@
 -- Two results of a user's function are equal, with every lent word: by the laws of the desk.
 use Prim.Native.Nat.{ℕ}
-use native.Mathlib.Omega.{arith}
 use mathlib.Core.Path.{_≡_, refl, sym, ap, _∙_}
 use mathlib.Core.Bool.{Bool, true, false}
 use mathlib.Core.List.{List}
 use mathlib.Core.Logic.{_↔_}
-use Rattle.answers.specs.Said.{Word, Said}
+use Rattle.answers.specs.Said.{Word}
 use Rattle.desk.specs.Lists.{Win}
 use Rattle.desk.specs.Narrowing.{Call, After}
 use Rattle.desk.specs.Checking.{Checked}

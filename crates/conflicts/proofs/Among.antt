@@ -5,17 +5,15 @@ use native.Mathlib.Omega.{arith}
 use native.Mathlib.Decide.{decLt, decLe}
 use mathlib.Core.Path.{_≡_, refl, sym, subst}
 use mathlib.Core.Bool.{Bool, true, false, not}
-use mathlib.Core.List.{List, _∷_}
+use mathlib.Core.List.{List}
 use lib.Dec.{eqb}
 use borrow.Author.Tests.{ne-eqb}
 use Rattle.lists.specs.Lists.{_!_}
 use Rattle.lists.specs.Tests.{both, only}
-use Rattle.lists.specs.Sums.{total}
 use Rattle.lists.specs.Sets.{Set, totalOf}
-use Rattle.lists.proofs.Lists.{set-any}
 use Rattle.lists.proofs.Tests.{true-both}
 use Rattle.lists.proofs.Sums.{total-le, placed-le}
-use Rattle.narrowing.specs.Windows.{Win, Side, early, late, Long, moved}
+use Rattle.narrowing.specs.Windows.{Win, Side, early, late, Long, Respects}
 use Rattle.narrowing.specs.Rules.{Stable}
 use Rattle.joblist.specs.Limits.{jobs}
 use Rattle.journal.specs.Journal.{records, jobOf, timeOf, isMember}
@@ -29,25 +27,9 @@ use Rattle.checks.specs.Fate.{nth, reached, Takes, Shut}
 use Rattle.verdicts.specs.Fate as fate
 use Rattle.conflicts.specs.Marks.{markedBy}
 use Rattle.conflicts.specs.Apart.{Among}
+use Rattle.conflicts.proofs.Narrower.{Narrower, moved-narrower}
 use Rattle.conflicts.proofs.Marks.{marked-more, marked-members, marked-own}
 use Rattle.conflicts.proofs.Shut.{shut-takes}
-
--- the window of Y at place i lies inside that of W at place k
-record Narrower (Y : Win) (i : ℕ) (W : Win) (k : ℕ) : Type 0 where
-  early : W .e ! k ≤ Y .e ! i
-  late : Y .l ! i ≤ W .l ! k
-
--- it respects what a record of time t says of side v
-abbrev Beyond : Win → ℕ → Side → ℕ → Type 0
-Beyond Y i early t = suc t ≤ Y .e ! i
-Beyond Y i late t = Y .l ! i ≤ t
-
--- then it lies inside after the record's change too
-moved-narrower : (Y W : Win) (i j k : ℕ) (v : Side) (t : ℕ) → Narrower Y i W k → (k ≡ j → Beyond Y i v t) → Narrower Y i (moved W j v (bound v t)) k
-moved-narrower Y W i j k early t h f =
-    record { early = set-any (λ (y : ℕ). y ≤ Y .e ! i) (W .e) j (suc t) k f (h .early); late = h .late }
-moved-narrower Y W i j k late t h f =
-    record { early = h .early; late = set-any (λ (y : ℕ). Y .l ! i ≤ y) (W .l) j t k f (h .late) }
 
 module _ (c d : Call) (π : ℕ → ℕ) (count j : ℕ) (among : Among (markedBy j (records (c .log) 0 count)) c d π) (Y : Win) (fine : StableIn d Y) where
   abbrev J : Jobs
@@ -134,17 +116,17 @@ module _ (c d : Call) (π : ℕ → ℕ) (count j : ℕ) (among : Among (markedB
           over = omega (arith, r, members-load, good .passes .exceeds, among .supply);
         }
 
-    -- so Y, to which no rule applies, lies beyond the record's change
-    beyond : (v : Side) → OwnTrue (J .p) (reached c i) own v (timeOf x) → Beyond Y (π own) v (timeOf x)
+    -- so Y, to which no rule applies, respects the record's bound
+    respected : (v : Side) → OwnTrue (J .p) (reached c i) own v (timeOf x) → Respects Y (π own) v (bound v (timeOf x))
     unfolding Stable
-    beyond early o =
+    respected early o =
         elim (decLt (timeOf x) (Y .e ! π own)) [
           | yes h ↦ h
           | no h ↦
               absurd (fine .stable (π own) early (suc (timeOf x)) (among .listed own own-listed own-marked)
               (record { from = omega arith; to = omega (arith, own-there .early, among .lasts own own-listed own-marked); crowded = crowded-there }))
         ]
-    beyond late o =
+    respected late o =
         elim (decLe (Y .l ! π own) (timeOf x)) [
           | yes h ↦ h
           | no h ↦
@@ -170,10 +152,10 @@ module _ (c d : Call) (π : ℕ → ℕ) (count j : ℕ) (among : Among (markedB
   within-step : (i : ℕ) → Takes c i → Within i → Within (suc i)
   unfolding fate.reached changed
   within-step i good so-far m e k b h =
-      moved-narrower Y (reached c i) (π k) (jobOf (nth c i)) k (side (nth c i)) (timeOf (nth c i))
+      moved-narrower Y (reached c i) (π k) (jobOf (nth c i)) k (side (nth c i)) (bound (side (nth c i)) (timeOf (nth c i)))
       (so-far (suc m) (omega arith) k b (one-more i m k h))
-      (λ q. subst (λ (y : ℕ). Beyond Y (π y) (side (nth c i)) (timeOf (nth c i))) (sym q)
-      (beyond i m e good (subst (λ (y : ℕ). ahead (suc i) m y ≡ true) q h) (so-far (suc m) (omega arith)) (side (nth c i)) (good .passes .stated .own)))
+      (λ q. subst (λ (y : ℕ). Respects Y (π y) (side (nth c i)) (bound (side (nth c i)) (timeOf (nth c i)))) (sym q)
+      (respected i m e good (subst (λ (y : ℕ). ahead (suc i) m y ≡ true) q h) (so-far (suc m) (omega arith)) (side (nth c i)) (good .passes .stated .own)))
 
   within : (i : ℕ) → ((h : ℕ) → h < i → Takes c h) → Within i
   within zero t = within-start

@@ -1,5 +1,6 @@
 pub mod Marks
 pub mod Shut
+pub mod Narrower
 pub mod Among
 pub mod Only
 pub mod Rows

@@ -1,9 +1,9 @@
 -- The marks of records: they only grow on the way back, a record whose moved job is marked has its members marked, and a job is marked exactly if it is traced.
 -- And the marks of a log as a member set.
-use Prim.Native.Nat.{ℕ, zero, suc, _+_, _*_, _≤_, _<_}
+use Prim.Native.Nat.{ℕ, zero, suc, _+_, _≤_, _<_}
 use native.Mathlib.Omega.{arith}
 use native.Mathlib.Decide.{decLt}
-use mathlib.Core.Path.{_≡_, refl, sym, ap, subst, _∙_}
+use mathlib.Core.Path.{_≡_, refl, sym, _∙_}
 use mathlib.Core.Bool.{Bool, true, false}
 use mathlib.Core.List.{List, [], _∷_}
 use mathlib.Core.Logic.{_⊎_, inl, inr, _↔_}
@@ -15,9 +15,9 @@ use Rattle.lists.proofs.Tests.{either-left, either-right}
 use Rattle.members.specs.Members.{setWords, has, setOf}
 use Rattle.members.proofs.Sets.{setOf-length, has-setOf, has-past}
 use Rattle.joblist.specs.Limits.{mostJobs}
-use Rattle.journal.specs.Journal.{headWords, recordWords, roomOf, recordAt, records, AreRecords, jobOf, isMember, setOfRecord}
+use Rattle.journal.specs.Journal.{headWords, roomOf, records, AreRecords, jobOf, isMember, setOfRecord}
 use Rattle.journal.proofs.Records.{record-length}
-use Rattle.conflicts.specs.Marks.{alone, mark, markedBy, Traced}
+use Rattle.conflicts.specs.Marks.{mark, markedBy, Traced}
 use Rattle.conflicts.specs.Table.{marksOf}
 
 pub either-cases : (a b : Bool) → either a b ≡ true → (a ≡ true) ⊎ (b ≡ true)
@@ -65,6 +65,18 @@ marked-own j (x ∷ xs) = marked-more j x xs j (marked-own j xs)
 pub marked-alone : (j k : ℕ) → (markedBy j [] k ≡ true) ↔ (k ≡ j)
 unfolding markedBy
 marked-alone j k = (eqb-true k j, λ e. eq-eqb k j e)
+
+-- the closing record's are its job and its members
+pub marked-closing : (x : List ℕ) (k : ℕ) → (markedBy (jobOf x) (x ∷ []) k ≡ true) ↔ ((k ≡ jobOf x) ⊎ (isMember x k ≡ true))
+marked-closing x k = (λ h. there (marked-cases (jobOf x) x [] k h), back)
+  where
+    there : (markedBy (jobOf x) [] k ≡ true) ⊎ ((markedBy (jobOf x) [] (jobOf x) ≡ true) × (isMember x k ≡ true)) → (k ≡ jobOf x) ⊎ (isMember x k ≡ true)
+    there (inl h) = inl (marked-alone (jobOf x) k .0 h)
+    there (inr h) = inr (h .1)
+
+    back : (k ≡ jobOf x) ⊎ (isMember x k ≡ true) → markedBy (jobOf x) (x ∷ []) k ≡ true
+    back (inl e) = marked-more (jobOf x) x [] k (marked-alone (jobOf x) k .1 e)
+    back (inr h) = marked-members (jobOf x) x [] k (marked-own (jobOf x) []) h
 
 -- ---- marked exactly if traced
 

@@ -1,15 +1,11 @@
 -- The call that names jobs keeps its promise; and what follows from the promise alone: wherever the marked jobs are listed, narrowing ends in a clash and there is
 -- no schedule.
-use Prim.Native.Nat.{ℕ, _≤_, _<_}
-use native.Mathlib.Omega.{arith}
-use mathlib.Core.Path.{_≡_, refl, sym, ap, subst, _∙_}
-use mathlib.Core.Bool.{true}
+use Prim.Native.Nat.{ℕ}
+use mathlib.Core.Path.{_≡_, ap, _∙_}
 use mathlib.Core.List.{List, [], _∷_}
-use mathlib.Core.Logic.{_↔_}
-use lib.ListN.{length}
 use Rattle.lists.specs.Picked.{pickedPlace}
 use Rattle.narrowing.proofs.Schedules.{none-schedule}
-use Rattle.answers.specs.Said.{Word, Said, said}
+use Rattle.answers.specs.Said.{Word, said}
 use Rattle.members.specs.Members.{has}
 use Rattle.journal.specs.Journal.{records}
 use Rattle.joblist.specs.Limits.{jobs}
@@ -17,11 +13,11 @@ use Rattle.timetable.specs.Time.{Applies, Fits}
 use Rattle.timetable.specs.Table.{Call, call, jobsOf, Good, After}
 use Rattle.timetable.specs.Promise.{Scheduled, NoneIn, Room, Narrows}
 use Rattle.timetable.proofs.Exact.{exact}
-use Rattle.checks.specs.Replay.{Checked, checked}
+use Rattle.checks.specs.Replay.{Checked}
 use Rattle.checks.proofs.Meaning.{checks}
 use Rattle.conflicts.specs.Apart.{Together, onlyOf, Among}
-use Rattle.conflicts.specs.Table.{Blamed, marking, conflictOf}
-use Rattle.conflicts.specs.Promise.{ClashOf, Exactly, Blames}
+use Rattle.conflicts.specs.Table.{Blamed, conflictOf}
+use Rattle.conflicts.specs.Promise.{ClashOf, Blames}
 use Rattle.conflicts.proofs.Marks.{marked-traced}
 use Rattle.conflicts.proofs.Among.{marked-none}
 use Rattle.conflicts.proofs.Only.{among-fewer, only-good, only-among, starts, only-scheduled}

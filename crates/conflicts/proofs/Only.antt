@@ -7,7 +7,6 @@ use mathlib.Core.List.{List}
 use lib.ListN.{length}
 use Rattle.lists.specs.Lists.{_!_}
 use Rattle.lists.specs.Tests.{both, only}
-use Rattle.lists.specs.Sums.{total}
 use Rattle.lists.specs.Sets.{Set, Sub}
 use Rattle.lists.specs.Picked.{picked, pickedPlace}
 use Rattle.lists.proofs.Lists.{listed, listed-at, listed-length}

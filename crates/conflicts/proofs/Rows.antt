@@ -1,5 +1,5 @@
 -- The rows of the call that names jobs, in facts: each refusal and the marks are given exactly when document 02's Item 14 says so, and leave the set that it says.
-use Prim.Native.Nat.{ℕ, zero, suc, _≤_, _<_}
+use Prim.Native.Nat.{ℕ, zero, suc, _≤_}
 use native.Mathlib.Omega.{arith}
 use mathlib.Core.Path.{_≡_, refl, sym, ap, subst, _∙_}
 use mathlib.Core.Bool.{Bool, true, false}
@@ -11,7 +11,7 @@ use borrow.Author.Tests.{ltb-true, ltb-false, lt-ltb, le-ltb}
 use Rattle.lists.specs.Lists.{_!_}
 use Rattle.answers.specs.Said.{Word, Said, said}
 use Rattle.answers.proofs.Same.{not-said, said-apart}
-use Rattle.members.specs.Members.{setWords, setOf, has, onesOf, AreWords}
+use Rattle.members.specs.Members.{setWords, has, onesOf, AreWords}
 use Rattle.members.proofs.Sets.{setOf-length, setOf-words}
 use Rattle.members.proofs.Writing.{zeros-words}
 use Rattle.journal.specs.Journal.{roomOf, records}

@@ -1,16 +1,14 @@
 -- Laws over the contract of the call that names jobs: two results are equal, and its field `exactly` alone makes them so; 8 is given exactly where the checker takes
 -- the log to no clash of any job; each marked job is one of the list, and they are as many as the list of them alone has jobs.
-use Prim.Native.Nat.{ℕ, zero, suc, _+_, _-_, _*_, _≤_, _<_}
+use Prim.Native.Nat.{ℕ, zero, suc, _+_, _-_, _≤_, _<_}
 use native.Mathlib.Omega.{arith}
-use mathlib.Core.Path.{_≡_, refl, sym, ap, subst, _∙_}
+use mathlib.Core.Path.{_≡_, refl, sym, ap, _∙_}
 use mathlib.Core.Bool.{Bool, true, false}
 use mathlib.Core.List.{List, [], _∷_}
 use mathlib.Core.Logic.{_⊎_, inl, inr, _↔_}
-use lib.ListN.{length}
-use Rattle.lists.specs.Lists.{_!_}
 use Rattle.lists.specs.Tests.{only}
 use Rattle.lists.specs.Sums.{total}
-use Rattle.lists.specs.Picked.{picked, pickedPlace}
+use Rattle.lists.specs.Picked.{pickedPlace}
 use Rattle.lists.proofs.Picked.{picked-length}
 use Rattle.lists.proofs.Sums.{total-cong}
 use Rattle.lists.proofs.Stretches.{total-join}
@@ -18,12 +16,12 @@ use Rattle.lists.proofs.Differences.{total-zeros}
 use Rattle.answers.specs.declared.Conflict.{Conflict}
 use Rattle.answers.specs.Said.{Word, Said, said, saysConflict}
 use Rattle.answers.proofs.Same.{not-said, marks-same}
-use Rattle.members.specs.Members.{setWords, setOf, has, onesOf}
+use Rattle.members.specs.Members.{setWords, setOf, has, onesOf, places}
 use Rattle.members.proofs.Sets.{setOf-unique, ones-members}
 use Rattle.joblist.specs.Limits.{jobs}
 use Rattle.journal.specs.Journal.{records, jobOf, isMember}
-use Rattle.timetable.specs.Table.{Call, jobsOf}
-use Rattle.checks.specs.Fate.{nth, Takes, Shut}
+use Rattle.timetable.specs.Table.{Call}
+use Rattle.checks.specs.Fate.{nth, Shut}
 use Rattle.checks.specs.Promise.{Claimed}
 use Rattle.conflicts.specs.Marks.{markedBy}
 use Rattle.conflicts.specs.Apart.{onlyOf}
@@ -120,14 +118,14 @@ module _ (c : Call) (count : ℕ) where
     marked-many log =
         let n = jobs (c .win) in
         let one : ℕ → ℕ = λ k. only (has (a .set) k) 1 in
-        let few : n ≤ 32 * length (a .set) = omega (arith, x .words .0, clash .1 .0 .0 .0 .few) in
-        let all : 32 * length (a .set) ≡ n + (32 * length (a .set) - n) = omega arith in
-        ones-members (a .set) ∙ ap (total one) all ∙ total-join one n (32 * length (a .set) - n)
+        let few : n ≤ places (a .set) = omega (arith, x .words .0, clash .1 .0 .0 .0 .few) in
+        let all : places (a .set) ≡ n + (places (a .set) - n) = omega arith in
+        ones-members (a .set) ∙ ap (total one) all ∙ total-join one n (places (a .set) - n)
         ∙ omega (
           arith,
           picked-length (has (a .set)) (c .win .e),
-          total-cong (λ k. one (n + k)) (λ k. 0) (32 * length (a .set) - n) (λ k b. past (n + k) (omega arith) (has (a .set) (n + k)) refl),
-          total-zeros (32 * length (a .set) - n),
+          total-cong (λ k. one (n + k)) (λ k. 0) (places (a .set) - n) (λ k b. past (n + k) (omega arith) (has (a .set) (n + k)) refl),
+          total-zeros (places (a .set) - n),
         )
       where
         past : (k : ℕ) → jobs (c .win) ≤ k → (b : Bool) → has (a .set) k ≡ b → only b 1 ≡ 0

@@ -1,6 +1,5 @@
 -- `tracer::check_copies` meets its contract: the checker sees the fronts of the copies, which are the submitted windows.
 use mathlib.Core.Path.{_≡_, refl, sym, ap, _∙_}
-use mathlib.Core.List.{List}
 use lib.ListN.{length, take}
 use borrow.Author.Needs.{needs}
 use Rattle.windows.proofs.Copies.{saved-back}

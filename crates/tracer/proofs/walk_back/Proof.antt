@@ -1,9 +1,9 @@
 -- `tracer::walk_back` meets its contract. Before each record the set holds those whom the records from `left` on mark; the walk ends since `left` falls.
-use Prim.Native.Nat.{ℕ, _-_, _≤_, _<_}
+use Prim.Native.Nat.{ℕ, _-_, _≤_}
 use native.Mathlib.Omega.{arith}
 use mathlib.Core.Path.{_≡_, sym, ap, _∙_}
 use mathlib.Core.List.{List}
-use lib.ListN.{length, replicate, length-replicate}
+use lib.ListN.{length, length-replicate}
 use borrow.Author.Needs.{needs}
 use Rattle.members.specs.Members.{setWords, setOf, inserted, joined, AreWords}
 use Rattle.members.proofs.Sets.{setOf-length}
