@@ -1,50 +1,15 @@
-// The jobs that cannot be done together (document 02, Item 14): from a clash log that the checker takes, the marks of the walk back from its closing record.
-// The log is judged by the checker alone, which is lent copies of the windows.
+// The call that names the jobs which cannot be done together (document 02, Item 14): the log is judged by the checker alone, which is lent copies of the
+// windows; where it ends in a clash, the marks of the walk back are given.
 use answers::CheckAnswer;
 use answers::Conflict;
 use answers::ConflictAnswer;
 ghost use mathlib.Core.Path.{_≡_};
-ghost use Prim.Native.Nat.{_≤_, _<_};
 ghost use Rattle.narrowing.specs.Windows.{win};
 ghost use Rattle.answers.specs.Said.{saysCheck, saysConflict};
-ghost use Rattle.joblist.specs.Limits.{mostJobs};
-ghost use Rattle.journal.specs.Journal.{roomOf};
 ghost use Rattle.timetable.specs.Table.{call, Good};
 ghost use Rattle.checks.specs.Replay.{checked};
-ghost use Rattle.conflicts.specs.Table.{blame, unmarked, marksOf, marking};
+ghost use Rattle.conflicts.specs.Table.{blame, unmarked};
 ghost use Rattle.conflicts.specs.Promise.{Blames};
-
-// The marks of the walk back over so many records, from the last one to the first: the job of the clash, and the members of each record whose moved job is
-// marked when the walk comes to it.
-fn walk_back(log: &[u32], count: usize, job: usize) -> [u32; bits::WORDS]
-    requires { ⌜ (count ≤ roomOf (now log)) × (job < mostJobs) ⌝ }
-    ensures { λ r. ⌜ r ≡ marksOf (now (log .entry)) count job ⌝ }
-{
-    let mut set = bits::empty();
-    bits::put(&mut set, job);
-    let mut left = count;
-    while 0 < left {
-        left -= 1;
-        let words = logbook::show_record(log, left);
-        if bits::has(&set, words[logbook::JOB_WORD] as usize) {
-            bits::join(&mut set, logbook::set_of(words));
-        }
-    }
-    set
-}
-
-// The marks and how many they are.
-fn marks(log: &[u32], count: usize, job: usize) -> Conflict
-    requires { ⌜ (count ≤ roomOf (now log)) × (job < mostJobs) ⌝ }
-    ensures { λ r. ⌜ blame (saysConflict (r .answer)) (r .set) ≡ marking (now (log .entry)) count job ⌝ }
-{
-    let set = walk_back(log, count, job);
-    let ones = bits::count(&set);
-    Conflict {
-        answer: ConflictAnswer::Marked(ones),
-        set: set,
-    }
-}
 
 // A refusal leaves no mark.
 fn refused(number: u32) -> Conflict
@@ -97,7 +62,7 @@ pub fn conflict(
     }
     let found = check_copies(est, lct, dur, dem, cap, log, count);
     match found {
-        CheckAnswer::Clash(_, job) => marks(log, count, job),
+        CheckAnswer::Clash(_, job) => marker::marks(log, count, job),
         CheckAnswer::Refused(k) => refused(k),
         CheckAnswer::Holds(_) => refused(8),
         CheckAnswer::Rejected(_, _) => refused(8),

@@ -1,4 +1,4 @@
--- `tracer::marks` meets its contract: the walk's set and its number of ones.
+-- `marker::marks` meets its contract: the walk's set and its number of ones.
 use Prim.Native.Nat.{ℕ}
 use mathlib.Core.Path.{ap, _∙_}
 use mathlib.Core.List.{List, [], _∷_}
@@ -6,8 +6,8 @@ use borrow.Author.Needs.{needs}
 use Rattle.answers.specs.Said.{Word, said}
 use Rattle.members.specs.Members.{onesOf}
 use Rattle.conflicts.specs.Table.{blame, marking}
-use Rattle.tracer.proofs.marks.Statement.{statement}
-use Rattle.tracer.proofs.marks.Tie as tie
+use Rattle.marker.proofs.marks.Statement.{statement}
+use Rattle.marker.proofs.marks.Tie as tie
 
 returns : tie.Need-returns
 unfolding marking

@@ -1,4 +1,4 @@
--- `tracer::walk_back` meets its contract. Before each record the set holds those whom the records from `left` on mark; the walk ends since `left` falls.
+-- `marker::walk_back` meets its contract. Before each record the set holds those whom the records from `left` on mark; the walk ends since `left` falls.
 use Prim.Native.Nat.{ℕ, _-_, _≤_}
 use native.Mathlib.Omega.{arith}
 use mathlib.Core.Path.{_≡_, sym, ap, _∙_}
@@ -9,9 +9,9 @@ use Rattle.members.specs.Members.{setWords, setOf, inserted, joined, AreWords}
 use Rattle.members.proofs.Sets.{setOf-length}
 use Rattle.journal.specs.Journal.{recordWords, setOfRecord}
 use Rattle.journal.proofs.Records.{record-length}
-use Rattle.tracer.proofs.Back.{behind, walk-first, walk-last, back-marked, back-passed, member-words}
-use Rattle.tracer.proofs.walk_back.Statement.{statement}
-use Rattle.tracer.proofs.walk_back.Tie as tie
+use Rattle.marker.proofs.Back.{behind, walk-first, walk-last, back-marked, back-passed, member-words}
+use Rattle.marker.proofs.walk_back.Statement.{statement}
+use Rattle.marker.proofs.walk_back.Tie as tie
 
 abbrev Inv-loop : tie.InvT-loop
 Inv-loop log count job set₀ left₀ set left = (left ≤ count) × (set ≡ setOf setWords (behind log count job left))
