@@ -55,7 +55,7 @@ own-among M c =
       apart = λ i k b d h g e. e;
       early = λ k b h. omega arith;
       late = λ k b h. omega arith;
-      lasts = λ k b h. refl;
+      lasts = λ k b h. omega arith;
       takes = λ k b h. omega arith;
       supply = omega arith;
     }

@@ -1,5 +1,5 @@
--- Any list that the marked jobs are among clashes by time-tabling, whatever its others are (document 02, Item 14): windows of it that are stable would lie, at the
--- marked jobs' places, inside the windows that the replay reaches, as long as the records ahead still mark the job; and the replay closes a window.
+-- Any list that the marked jobs are among clashes by time-tabling, whatever its others are (document 02, Item 14): windows of it that are stable would lie,
+-- at the marked jobs' places, inside the windows that the replay reaches, as long as the records ahead still mark the job; and the replay closes a window.
 use Prim.Native.Nat.{ℕ, zero, suc, _+_, _≤_, _<_}
 use native.Mathlib.Omega.{arith}
 use native.Mathlib.Decide.{decLt, decLe}

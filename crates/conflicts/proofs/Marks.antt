@@ -1,5 +1,5 @@
--- The marks of records: they only grow on the way back, a record whose moved job is marked has its members marked, and a job is marked exactly if it is traced.
--- And the marks of a log as a member set.
+-- The marks of records: they only grow on the way back, a record whose moved job is marked has its members marked, and a job is marked exactly if it is
+-- traced. And the marks of a log as a member set.
 use Prim.Native.Nat.{ℕ, zero, suc, _+_, _≤_, _<_}
 use native.Mathlib.Omega.{arith}
 use native.Mathlib.Decide.{decLt}
@@ -9,9 +9,8 @@ use mathlib.Core.List.{List, [], _∷_}
 use mathlib.Core.Logic.{_⊎_, inl, inr, _↔_}
 use lib.ListN.{length, length-drop}
 use borrow.Author.Tests.{eq-eqb, ne-eqb, eqb-true}
-use Rattle.lists.specs.Tests.{either}
 use Rattle.lists.specs.Sets.{Set}
-use Rattle.lists.proofs.Tests.{either-left, either-right}
+use Rattle.lists.proofs.Tests.{either-left, either-right, either-true}
 use Rattle.members.specs.Members.{setWords, has, setOf}
 use Rattle.members.proofs.Sets.{setOf-length, has-setOf, has-past}
 use Rattle.joblist.specs.Limits.{mostJobs}
@@ -19,10 +18,6 @@ use Rattle.journal.specs.Journal.{headWords, roomOf, records, AreRecords, jobOf
 use Rattle.journal.proofs.Records.{record-length}
 use Rattle.conflicts.specs.Marks.{mark, markedBy, Traced}
 use Rattle.conflicts.specs.Table.{marksOf}
-
-pub either-cases : (a b : Bool) → either a b ≡ true → (a ≡ true) ⊎ (b ≡ true)
-either-cases true b h = inl refl
-either-cases false b h = inr h
 
 -- ---- one more record in front
 
@@ -35,7 +30,7 @@ mark-members true M T k e h = either-right (M k) (T k) h
 mark-members false M T k e h = cc
 
 mark-cases : (b : Bool) (M T : Set) (k : ℕ) → mark b M T k ≡ true → (M k ≡ true) ⊎ ((b ≡ true) × (T k ≡ true))
-mark-cases true M T k h = elim (either-cases (M k) (T k) h) [ inl a ↦ inl a | inr a ↦ inr (refl, a) ]
+mark-cases true M T k h = elim (either-true (M k) (T k) h) [ inl a ↦ inl a | inr a ↦ inr (refl, a) ]
 mark-cases false M T k h = inl h
 
 mark-none : (b : Bool) (M T : Set) (k : ℕ) → M k ≡ false → T k ≡ false → mark b M T k ≡ false

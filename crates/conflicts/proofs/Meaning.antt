@@ -1,9 +1,12 @@
--- The call that names jobs keeps its promise; and what follows from the promise alone: wherever the marked jobs are listed, narrowing ends in a clash and there is
--- no schedule.
-use Prim.Native.Nat.{ℕ}
-use mathlib.Core.Path.{_≡_, ap, _∙_}
+-- The call that names jobs keeps its promise; and what follows from the promise alone: wherever the marked jobs are listed, narrowing ends in a clash and
+-- there is no schedule.
+use Prim.Native.Nat.{ℕ, suc, _≤_, _<_}
+use native.Mathlib.Omega.{arith}
+use mathlib.Core.Path.{_≡_, refl, ap, _∙_}
 use mathlib.Core.List.{List, [], _∷_}
+use Rattle.lists.specs.Lists.{_!_}
 use Rattle.lists.specs.Picked.{pickedPlace}
+use Rattle.narrowing.specs.Windows.{Inside, slack}
 use Rattle.narrowing.proofs.Schedules.{none-schedule}
 use Rattle.answers.specs.Said.{Word, said}
 use Rattle.members.specs.Members.{has}
@@ -11,12 +14,12 @@ use Rattle.journal.specs.Journal.{records}
 use Rattle.joblist.specs.Limits.{jobs}
 use Rattle.timetable.specs.Time.{Applies, Fits}
 use Rattle.timetable.specs.Table.{Call, call, jobsOf, Good, After}
-use Rattle.timetable.specs.Promise.{Scheduled, NoneIn, Room, Narrows}
+use Rattle.timetable.specs.Promise.{Scheduled, NoneIn, HasRoom, Room, Narrows}
 use Rattle.timetable.proofs.Exact.{exact}
 use Rattle.checks.specs.Replay.{Checked}
 use Rattle.checks.proofs.Meaning.{checks}
 use Rattle.conflicts.specs.Apart.{Together, onlyOf, Among}
-use Rattle.conflicts.specs.Table.{Blamed, conflictOf}
+use Rattle.conflicts.specs.Table.{Blamed, marking, conflictOf}
 use Rattle.conflicts.specs.Promise.{ClashOf, Blames}
 use Rattle.conflicts.proofs.Marks.{marked-traced}
 use Rattle.conflicts.proofs.Among.{marked-none}
@@ -73,12 +76,40 @@ module _ (c : Call) (count : ℕ) (a : Blamed) (x : Blames c count a) (e : a .sa
   pub none-elsewhere : (d : Call) (π : ℕ → ℕ) → Among (has (a .set)) c d π → NoneIn d × ((s : List ℕ) → Scheduled d (d .win) s → ⊥)
   none-elsewhere d π m = let n = none-there c count a (x .answered) e d π m in (n, none-scheduled d n)
 
+  -- in the same list neither narrower windows, longer jobs, greater demands nor less supply help
+  pub none-tighter : (d : Call) → jobs (d .win) ≡ jobs (c .win) → Inside (jobs (c .win)) (d .win) (c .win)
+      → ((k : ℕ) → k < jobs (c .win) → (c .p ! k ≤ d .p ! k) × (c .r ! k ≤ d .r ! k)) → d .cap ≤ c .cap → NoneIn d
+  none-tighter d same inside more less =
+      none-elsewhere d (λ k. k)
+      (record {
+        listed = λ k b t. omega (arith, same);
+        apart = λ i k b q s t z. z;
+        early = λ k b t. inside .early k b;
+        late = λ k b t. inside .late k b;
+        lasts = λ k b t. more k b .0;
+        takes = λ k b t. more k b .1;
+        supply = less;
+      }) .0
+
   -- and with room for the work narrowing says so
   pub clash-elsewhere : (d : Call) (π : ℕ → ℕ) → Among (has (a .set)) c d π → Good d → Room d → (b : After) → Narrows d b → b .says .word ≡ Word.clash
   clash-elsewhere d π m g r b n = n .largest g .clash r .1 (none-elsewhere d π m .0)
 
-  -- the list of the marked jobs alone is good, and narrowing it ends in a clash
-  pub clash-alone : (log : List ℕ) → Room (onlyOf (has (a .set)) c log) → (b : After) → Narrows (onlyOf (has (a .set)) c log) b → b .says .word ≡ Word.clash
-  clash-alone log r b n =
-      let g = marked-good c count a (x .answered) e in
-      n .largest (only-good (has (a .set)) c g log) .clash r .1 (x .clashes e log)
+  -- the list of the marked jobs alone is good, and narrowing it ends in a clash: with room for the work, or for more records than the sum of l - e - p
+  module _ (log : List ℕ) where
+    abbrev pub few : Call
+    few = onlyOf (has (a .set)) c log
+
+    few-good : Good few
+    few-good = only-good (has (a .set)) c (marked-good c count a (x .answered) e) log
+
+    pub clash-alone : Room few → (b : After) → Narrows few b → b .says .word ≡ Word.clash
+    clash-alone r b n = n .largest few-good .clash r .1 (x .clashes e log)
+
+    pub clash-alone-free : HasRoom few (suc (slack (few .p) (few .win) (jobs (few .win)))) → (b : After) → Narrows few b → b .says .word ≡ Word.clash
+    clash-alone-free r b n = n .largest few-good .free r .2 .1 (x .clashes e log)
+
+-- narrow, and hand the log of a clash on: its marks are given, never 8
+pub named-after-clash : (c : Call) (b : After) → Narrows c b → (n j : ℕ) → b .says ≡ said Word.clash (n ∷ j ∷ []) → (a : Blamed)
+    → Blames (call (c .win) (c .p) (c .r) (c .cap) (b .log)) n a → a ≡ marking (b .log) n j
+named-after-clash c b x n j e a y = y .taken (c .log) b x refl j e

@@ -2,7 +2,7 @@
 use Prim.Native.Nat.{ℕ, _+_, _≤_, _<_}
 use native.Mathlib.Omega.{arith}
 use mathlib.Core.Path.{_≡_, refl, sym, ap, subst, _∙_}
-use mathlib.Core.Bool.{Bool, true, false}
+use mathlib.Core.Bool.{true}
 use mathlib.Core.List.{List}
 use lib.ListN.{length}
 use Rattle.lists.specs.Lists.{_!_}
@@ -10,7 +10,7 @@ use Rattle.lists.specs.Tests.{both, only}
 use Rattle.lists.specs.Sets.{Set, Sub}
 use Rattle.lists.specs.Picked.{picked, pickedPlace}
 use Rattle.lists.proofs.Lists.{listed, listed-at, listed-length}
-use Rattle.lists.proofs.Tests.{both-true, true-both, only-le}
+use Rattle.lists.proofs.Tests.{both-true, true-both, only-le, only-both}
 use Rattle.lists.proofs.Sums.{total-le, total-cong}
 use Rattle.lists.proofs.Picked.{place-most, place-less, place-apart, place-back, place-total, picked-length, picked-at, picked-within}
 use Rattle.narrowing.specs.Windows.{Win}
@@ -103,7 +103,7 @@ module _ (M : Set) (c : Call) (g : Good c) (log : List ℕ) where
         apart = λ i k b q s t e. place-apart M i k s t e;
         early = λ k b t. omega (arith, at (c .win .e) e-long k b t);
         late = λ k b t. omega (arith, at (c .win .l) l-long k b t);
-        lasts = λ k b t. at (c .p) p-long k b t;
+        lasts = λ k b t. omega (arith, at (c .p) p-long k b t);
         takes = λ k b t. omega (arith, at (c .r) r-long k b t);
         supply = omega arith;
       }
@@ -133,17 +133,13 @@ module _ (M : Set) (c : Call) (g : Good c) (log : List ℕ) where
     unfolding runsAt
     draws t k b h = rw (start-at k b h, at (c .p) p-long k b h, at (c .r) r-long k b h)
 
-    nested : (a b : Bool) (y : ℕ) → only a (only b y) ≡ only (both a b) y
-    nested true b y = refl
-    nested false b y = refl
-
     drawn-same : (t : ℕ) → drawn (jobsOf few) starts t ≡ drawnBy (jobsOf c) M s t
     unfolding drawn drawnBy
     drawn-same t =
         rw (many (c .win .e) e-long)
         (place-total M (λ q. only (runsAt (few .p) starts q t) (few .r ! q)) (λ k. only (runsAt (c .p) s k t) (c .r ! k)) n (draws t)
         ∙ total-cong (λ k. only (M k) (only (runsAt (c .p) s k t) (c .r ! k))) (λ k. only (both (M k) (runsAt (c .p) s k t)) (c .r ! k)) n
-        (λ k b. nested (M k) (runsAt (c .p) s k t) (c .r ! k)))
+        (λ k b. sym (only-both (M k) (runsAt (c .p) s k t) (c .r ! k))))
 
     pub only-scheduled : Scheduled few (few .win) starts
     unfolding Fits

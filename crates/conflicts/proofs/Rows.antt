@@ -1,4 +1,5 @@
--- The rows of the call that names jobs, in facts: each refusal and the marks are given exactly when document 02's Item 14 says so, and leave the set that it says.
+-- The rows of the call that names jobs, in facts: each refusal and the marks are given exactly when document 02's Item 14 says so, and leave the set that
+-- it says.
 use Prim.Native.Nat.{ℕ, zero, suc, _≤_}
 use native.Mathlib.Omega.{arith}
 use mathlib.Core.Path.{_≡_, refl, sym, ap, subst, _∙_}

@@ -1,5 +1,5 @@
--- Laws over the contract of the call that names jobs: two results are equal, and its field `exactly` alone makes them so; 8 is given exactly where the checker takes
--- the log to no clash of any job; each marked job is one of the list, and they are as many as the list of them alone has jobs.
+-- Laws over the contract of the call that names jobs: two results are equal, and its field `exactly` alone makes them so; 8 is given exactly where the
+-- checker takes the log to no clash of any job; each marked job is one of the list, and they are as many as the list of them alone has jobs.
 use Prim.Native.Nat.{ℕ, zero, suc, _+_, _-_, _≤_, _<_}
 use native.Mathlib.Omega.{arith}
 use mathlib.Core.Path.{_≡_, refl, sym, ap, _∙_}
@@ -35,7 +35,8 @@ pub blames-same : (c : Call) (count : ℕ) (a b : Blamed) → Blames c count a �
 blames-same c count a b x y = x .answered ∙ sym (y .answered)
 
 -- the same of the Rattle values
-pub results-same : (c : Call) (count : ℕ) (r q : Conflict) → Blames c count (blame (saysConflict (r .answer)) (r .set)) → Blames c count (blame (saysConflict (q .answer)) (q .set)) → r ≡ q
+pub results-same : (c : Call) (count : ℕ) (r q : Conflict) → Blames c count (blame (saysConflict (r .answer)) (r .set))
+    → Blames c count (blame (saysConflict (q .answer)) (q .set)) → r ≡ q
 results-same c count r q x y =
     let h = blames-same c count _ _ x y in
     marks-same r q (ap (λ (a : Blamed). a .says) h) (ap (λ (a : Blamed). a .set) h)

@@ -28,13 +28,13 @@ pub record Together (J : Jobs) (M : Set) (W : Win) (s : List ℕ) : Type 0 where
 abbrev pub onlyOf : Set → Call → List ℕ → Call
 onlyOf M c log = call (win (picked M (c .win .e)) (picked M (c .win .l))) (picked M (c .p)) (picked M (c .r)) (c .cap) log
 
--- c's jobs of M are among those of d, whatever d's others are: each at a place of its own, in no wider a window, with its duration and no less demand; and
--- there is no more capacity
+-- c's jobs of M are among those of d, whatever d's others are: each at a place of its own, in no wider a window, no shorter and with no less demand;
+-- and there is no more capacity
 pub record Among (M : Set) (c d : Call) (π : ℕ → ℕ) : Type 0 where
   pub listed : (k : ℕ) → k < jobs (c .win) → M k ≡ true → π k < jobs (d .win)
   pub apart : (i k : ℕ) → i < jobs (c .win) → k < jobs (c .win) → M i ≡ true → M k ≡ true → π i ≡ π k → i ≡ k
   pub early : (k : ℕ) → k < jobs (c .win) → M k ≡ true → c .win .e ! k ≤ d .win .e ! π k
   pub late : (k : ℕ) → k < jobs (c .win) → M k ≡ true → d .win .l ! π k ≤ c .win .l ! k
-  pub lasts : (k : ℕ) → k < jobs (c .win) → M k ≡ true → d .p ! π k ≡ c .p ! k
+  pub lasts : (k : ℕ) → k < jobs (c .win) → M k ≡ true → c .p ! k ≤ d .p ! π k
   pub takes : (k : ℕ) → k < jobs (c .win) → M k ≡ true → c .r ! k ≤ d .r ! π k
   pub supply : d .cap ≤ c .cap

@@ -1,5 +1,5 @@
--- The marks of a clash log (document 02, Item 14): from the closing record back to the first, its job and its members, then the members of each earlier record
--- whose moved job is marked. As a walk, and in facts.
+-- The marks of a clash log (document 02, Item 14): from the closing record back to the first, its job and its members, then the members of each earlier
+-- record whose moved job is marked. As a walk, and in facts.
 use Prim.Native.Nat.{ℕ}
 use mathlib.Core.Path.{_≡_}
 use mathlib.Core.Bool.{Bool, true, false}

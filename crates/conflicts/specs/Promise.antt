@@ -41,12 +41,15 @@ pub record Exactly (c : Call) (count : ℕ) (a : Blamed) : Type 0 where
   pub zeros : a .says .word ≡ Word.refused → a .set ≡ replicate setWords 0
   pub words : (length (a .set) ≡ setWords) × AreWords (a .set)
 
+-- the marked jobs, with their submitted windows and the capacity, have no schedule by themselves
+abbrev pub NotTogether : Call → Blamed → Type 0
+NotTogether c a = a .says .word ≡ Word.marked → (s : List ℕ) → Together (jobsOf c) (has (a .set)) (c .win) s → ⊥
+
 -- the contract of the call
 pub record Blames (c : Call) (count : ℕ) (a : Blamed) : Type 0 where
   pub answered : a ≡ conflictOf c count
   pub exactly : Exactly c count a
-  -- the marked jobs, with their submitted windows and the capacity, have no schedule by themselves
-  pub blamed : a .says .word ≡ Word.marked → (s : List ℕ) → Together (jobsOf c) (has (a .set)) (c .win) s → ⊥
+  pub blamed : NotTogether c a
   -- and time-tabling shows it: to the list of them alone there are no stable windows
   pub clashes : a .says .word ≡ Word.marked → (log : List ℕ) → NoneIn (onlyOf (has (a .set)) c log)
   -- a clash log that narrowing left on these windows, whatever stood in it before, with all its records claimed, is answered by its marks

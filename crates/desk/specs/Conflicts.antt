@@ -1,5 +1,5 @@
--- The words of `conflict`'s contract, handed on: the marks of a clash log, some jobs apart from the others, and what the call gives. A call is one of `narrow`'s
--- (`Narrowing.Call`), its claimed records are the checker's (`Checking.Claimed`).
+-- The words of `conflict`'s contract, handed on: the marks of a clash log, some jobs apart from the others, and what the call gives. A call is one of
+-- `narrow`'s (`Narrowing.Call`), its claimed records are the checker's (`Checking.Claimed`).
 pub use Rattle.lists.specs.Picked.{keep}
 unfoldable pub use Rattle.lists.specs.Picked.{picked, pickedPlace}
 pub use Rattle.conflicts.specs.Marks.{alone, mark, Traced}
@@ -8,4 +8,4 @@ unfoldable pub use Rattle.conflicts.specs.Apart.{drawnBy}
 pub use Rattle.conflicts.specs.Apart.{Together, onlyOf, Among}
 pub use Rattle.conflicts.specs.Table.{Blamed, blame, unmarked}
 unfoldable pub use Rattle.conflicts.specs.Table.{marksOf, marking, conflictOf}
-pub use Rattle.conflicts.specs.Promise.{ClashOf, NoClash, RefusedRow, Exactly, Blames}
+pub use Rattle.conflicts.specs.Promise.{ClashOf, NoClash, RefusedRow, Exactly, NotTogether, Blames}

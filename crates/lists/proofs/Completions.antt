@@ -12,13 +12,9 @@ use borrow.Author.Tests.{ltb-true, ltb-false}
 use Rattle.lists.specs.Lists.{_!_}
 use Rattle.lists.specs.Tests.{both, either, only, pick, some?}
 use Rattle.lists.specs.Sets.{Set, Sub, Parts, totalOf, Ends, Latest, Completes, later}
-use Rattle.lists.proofs.Tests.{both-true, true-both, either-left, either-right}
+use Rattle.lists.proofs.Tests.{both-true, true-both, either-left, either-right, either-true}
 use Rattle.lists.proofs.Differences.{total-zeros, total-change}
 use Rattle.lists.proofs.Sets.{clash, totalOf-sub, totalOf-parts, least-of, some-at, at-some}
-
-either-true : (a b : Bool) → either a b ≡ true → (a ≡ true) ⊎ (b ≡ true)
-either-true true b h = inl h
-either-true false b h = inr h
 
 module _ (n : ℕ) (e p : List ℕ) (T L R : Set) (h : Parts n T L R) where
   -- of a subset with members in L, those alone complete no earlier than all of R before the whole

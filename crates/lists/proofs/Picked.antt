@@ -84,14 +84,16 @@ module _ (M : Set) where
           (y .0, omega arith, y .2, y .3)
 
 -- terms at the places among the places of M, one for each
-pub place-total : (M : Set) (f g : ℕ → ℕ) (n : ℕ) → ((k : ℕ) → k < n → M k ≡ true → f (pickedPlace M k) ≡ g k) → total f (pickedPlace M n) ≡ total (λ k. only (M k) (g k)) n
+pub place-total : (M : Set) (f g : ℕ → ℕ) (n : ℕ) → ((k : ℕ) → k < n → M k ≡ true → f (pickedPlace M k) ≡ g k)
+    → total f (pickedPlace M n) ≡ total (λ k. only (M k) (g k)) n
 place-total M f g zero h = rw (place-zero M) (total-zero f ∙ sym (total-zero (λ k. only (M k) (g k))))
 place-total M f g (suc n) h = go (M n) refl (place-total M f g n (λ k b. h k (omega arith)))
   where
     one : total (λ k. only (M k) (g k)) (suc n) ≡ total (λ k. only (M k) (g k)) n + only (M n) (g n)
     one = total-suc (λ k. only (M k) (g k)) n
 
-    go : (c : Bool) → M n ≡ c → total f (pickedPlace M n) ≡ total (λ k. only (M k) (g k)) n → total f (pickedPlace M (suc n)) ≡ total (λ k. only (M k) (g k)) (suc n)
+    go : (c : Bool) → M n ≡ c → total f (pickedPlace M n) ≡ total (λ k. only (M k) (g k)) n
+        → total f (pickedPlace M (suc n)) ≡ total (λ k. only (M k) (g k)) (suc n)
     go true e rest =
         let z : only (M n) (g n) ≡ g n = rw e in
         let q : pickedPlace M (suc n) ≡ suc (pickedPlace M n) = omega (arith, place-suc M n, (let y : only (M n) 1 ≡ 1 = rw e in y)) in
@@ -134,9 +136,3 @@ picked-within M (x ∷ xs) m h k = go (M 0) k (picked-within (behind M) xs m (λ
     go true zero f = h 0
     go true (suc i) f = f i
     go false i f = f i
-
--- of all places it is the list
-pub picked-all : (M : Set) (xs : List ℕ) → ((k : ℕ) → k < length xs → M k ≡ true) → picked M xs ≡ xs
-unfolding picked
-picked-all M [] h = refl
-picked-all M (x ∷ xs) h = rw (h 0 (omega arith), picked-all (behind M) xs (λ k b. h (suc k) (omega arith)))

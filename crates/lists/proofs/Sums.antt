@@ -9,6 +9,7 @@ use borrow.Author.Tests.{eq-eqb, ne-eqb}
 use Rattle.lists.specs.Tests.{both, only}
 use Rattle.lists.specs.Sums.{total}
 use Rattle.lists.specs.Sets.{Set}
+use Rattle.lists.proofs.Tests.{only-both}
 
 pub total-zero : (f : ℕ → ℕ) → total f 0 ≡ 0
 unfolding total
@@ -78,13 +79,9 @@ unfolding omitting
 total-others f x a m b =
     omega (
       arith,
-      total-cong (λ k. only (both (not (eqb k a)) (f k)) (x k)) (omitting (λ k. only (f k) (x k)) a) m (λ k c. nested (not (eqb k a)) (f k) (x k)),
+      total-cong (λ k. only (both (not (eqb k a)) (f k)) (x k)) (omitting (λ k. only (f k) (x k)) a) m (λ k c. only-both (not (eqb k a)) (f k) (x k)),
       total-omitting (λ k. only (f k) (x k)) a m b,
     )
-  where
-    nested : (c d : Bool) (y : ℕ) → only (both c d) y ≡ only c (only d y)
-    nested true d y = refl
-    nested false d y = refl
 
 -- where a sum is not 0, some term counts and is not 0
 pub total-some-term : (f : ℕ → Bool) (x : ℕ → ℕ) (m : ℕ) → 0 < total (λ k. only (f k) (x k)) m → (j : ℕ) × (j < m) × (1 ≤ x j) × (f j ≡ true)

@@ -5,6 +5,7 @@ use native.Mathlib.Numerals.{add-one}
 use native.Mathlib.Decide.{ℕ-discrete, decLe}
 use mathlib.Core.Path.{_≡_, refl, sym}
 use mathlib.Core.Bool.{Bool, true, false}
+use mathlib.Core.Logic.{_⊎_, inl, inr}
 use lib.Dec.{leb}
 use borrow.Author.Tests.{le-leb, lt-leb, lt-ltb, le-ltb}
 use Rattle.lists.specs.Tests.{both, either, between, only, failedOr, every}
@@ -122,3 +123,12 @@ either-left a b h = rw h
 pub either-right : (a b : Bool) → b ≡ true → either a b ≡ true
 either-right true b h = refl
 either-right false b h = h
+
+pub either-true : (a b : Bool) → either a b ≡ true → (a ≡ true) ⊎ (b ≡ true)
+either-true true b h = inl h
+either-true false b h = inr h
+
+-- one test behind the other
+pub only-both : (a b : Bool) (x : ℕ) → only (both a b) x ≡ only a (only b x)
+only-both true b x = refl
+only-both false b x = refl

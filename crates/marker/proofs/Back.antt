@@ -2,16 +2,15 @@
 use Prim.Native.Nat.{ℕ, suc, _+_, _-_, _≤_, _<_}
 use native.Mathlib.Omega.{arith}
 use native.Mathlib.Decide.{ℕ-discrete}
-use mathlib.Core.Path.{_≡_, refl, sym, ap, _∙_}
+use mathlib.Core.Path.{_≡_, refl, sym, _∙_}
 use mathlib.Core.Bool.{Bool, true, false}
 use mathlib.Core.List.{List}
 use lib.Seq.{getD-drop}
 use lib.ListN.{length, replicate, length-replicate}
 use borrow.Author.Tests.{eq-eqb, ne-eqb}
-use Rattle.lists.specs.Tests.{either}
 use Rattle.lists.specs.Sets.{Set}
 use Rattle.members.specs.Members.{setWords, has, setOf, inserted, joined, AreWords}
-use Rattle.members.proofs.Sets.{setOf-cong, setOf-unique}
+use Rattle.members.proofs.Sets.{setOf-unique}
 use Rattle.members.proofs.Inserted.{inserted-length, inserted-words, inserted-same, inserted-other}
 use Rattle.members.proofs.Joined.{joined-set}
 use Rattle.members.proofs.Writing.{zeros-words, zeros-has}
@@ -75,12 +74,12 @@ module _ (log : List ℕ) (count j : ℕ) (room : count ≤ roomOf log) (low : j
         sym (set-tells j (records log (suc i) (count - suc i)) (records-are log (count - suc i) (suc i) (omega arith)) low (jobOf x))
         ∙ (rw set-later at e)
 
+    -- so the marks with the record are those behind it, and its members where the test passes
+    one-more : (b : Bool) → has set (jobOf x) ≡ b → setOf setWords (mark b later (isMember x)) ≡ setOf setWords (behind log count j i)
+    one-more b e = rw (behind-is, job-marked b e)
+
     pub back-marked : has set (jobOf x) ≡ true → AreWords (setOfRecord x) → joined set (setOfRecord x) ≡ setOf setWords (behind log count j i)
-    back-marked t g =
-        rw set-later (joined-set setWords later (setOfRecord x) g)
-        ∙ setOf-cong setWords (λ k. either (later k) (isMember x k)) (behind log count j i) (λ k b. sym (ap (λ (f : Set). f k) behind-is ∙ ap (λ (c : Bool). mark c later (isMember x) k) (job-marked true t)))
+    back-marked t g = rw set-later (joined-set setWords later (setOfRecord x) g) ∙ one-more true t
 
     pub back-passed : has set (jobOf x) ≡ false → set ≡ setOf setWords (behind log count j i)
-    back-passed t =
-        set-later
-        ∙ setOf-cong setWords later (behind log count j i) (λ k b. sym (ap (λ (f : Set). f k) behind-is ∙ ap (λ (c : Bool). mark c later (isMember x) k) (job-marked false t)))
+    back-passed t = set-later ∙ one-more false t

@@ -2,7 +2,7 @@
 -- and the members are those of both, as far as the words go; and how a loop joins them, one word after the other.
 use Prim.Native.Nat.{ℕ, zero, suc, _+_, _/_, _%_, _≤_, _<_}
 use mathlib.Core.Path.{_≡_, refl, ap, _∙_}
-use mathlib.Core.Bool.{Bool, false}
+use mathlib.Core.Bool.{Bool}
 use mathlib.Core.List.{List, [], _∷_}
 use native.Mathlib.Omega.{arith}
 use native.Mathlib.Decide.{decLt}
@@ -17,7 +17,7 @@ use Rattle.lists.specs.Tests.{either}
 use Rattle.lists.proofs.Lists.{beyond}
 use Rattle.members.specs.Members.{has, places, setOf, joined, AreWords}
 use Rattle.members.proofs.Bits.{bitOf, bit-lt, or-bits}
-use Rattle.members.proofs.Sets.{has-past, setOf-length, setOf-words, has-setOf, setOf-unique}
+use Rattle.members.proofs.Sets.{setOf-length, setOf-words, has-setOf, setOf-unique}
 
 -- ---- the words
 
@@ -65,10 +65,6 @@ joined-has ws vs k b =
     let y = vs ! (k / 32) in
     let i = k % 32 in
     rw (joined-at ws vs (k / 32) (omega arith), or-bits x y i) (or-test (bitOf x i) (bitOf y i) (bit-lt x i) (bit-lt y i))
-
--- beyond the words there is none
-pub joined-past : (ws vs : List ℕ) (k : ℕ) → places ws ≤ k → has (joined ws vs) k ≡ false
-joined-past ws vs k h = has-past (joined ws vs) k (omega (arith, joined-length ws vs))
 
 -- a set joined with words is the set of the members of both
 pub joined-set : (w : ℕ) (f : ℕ → Bool) (vs : List ℕ) → AreWords vs → joined (setOf w f) vs ≡ setOf w (λ k. either (f k) (has vs k))

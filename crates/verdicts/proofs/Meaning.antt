@@ -29,7 +29,7 @@ module _ (T : Trial) (A : Ask) (y : Judges T A) where
   closing-takes h x i b = elim (ℕ-discrete i h) [ yes e ↦ rw e (x .takes) | no e ↦ x .before .held i (omega arith) .0 ]
 
   -- where a window is closed after so many records, all of them are good
-  shut-takes : (count j : ℕ) → Shut T A count j → (i : ℕ) → i < count → Takes T A i
+  pub shut-takes : (count j : ℕ) → Shut T A count j → (i : ℕ) → i < count → Takes T A i
   shut-takes zero j x i b = absurd (omega arith)
   shut-takes (suc h) j x i b = closing-takes h (x .0) i b
 

@@ -1,5 +1,5 @@
--- Wrong versions of the call that names jobs (document 02, Item 14), each refuted by the field of the contract that names it, without the help of `answered`: on
--- the log by hand, whose jobs 0, 1 and 3 cannot be done together.
+-- Wrong versions of the call that names jobs (document 02, Item 14), each refuted by the field of the contract that names it, without the help of
+-- `answered`: on the log by hand, whose jobs 0, 1 and 3 cannot be done together.
 use Prim.Native.Nat.{ℕ, zero, suc, _+_, _≤_, _<_}
 use native.Mathlib.Omega.{arith}
 use mathlib.Core.Path.{_≡_, refl, sym, ap, _∙_}
@@ -16,7 +16,7 @@ use Rattle.timetable.specs.Time.{runsAt}
 use Rattle.timetable.specs.Table.{Call, jobsOf}
 use Rattle.conflicts.specs.Apart.{drawnBy, Together}
 use Rattle.conflicts.specs.Table.{Blamed, blame, conflictOf}
-use Rattle.conflicts.specs.Promise.{Exactly}
+use Rattle.conflicts.specs.Promise.{Exactly, NotTogether}
 use Rattle.conflicts.proofs.Only.{together-fewer}
 use Rattle.conflicts.proofs.Same.{facts-answer}
 use Rattle.worked.specs.Rows.{with, noted}
@@ -35,15 +35,19 @@ given a h = facts-answer chained 3 a h
 other-set : (a : Blamed) → Exactly chained 3 a → (x : ℕ) → (11 ≡ x → ⊥) → a .set ≡ setAt 0 x → ⊥
 other-set a h x f e = f (ap (λ (s : List ℕ). s ! 0) (sym (ap (λ (z : Blamed). z .set) (given a h)) ∙ e))
 
--- all jobs; a record marked because a member of it, and not its moved job, is marked gives the same
+-- all jobs, as where a record is marked because its moved job or a member of it is
 pub marking-all : (a : Blamed) → Exactly chained 3 a → a .set ≡ setAt 0 15 → ⊥
 marking-all a h = other-set a h 15 (λ e. omega arith)
 
+-- a record marked, with its moved job, because a member of it and not its moved job is
+pub marked-by-a-member : (a : Blamed) → Exactly chained 3 a → a .set ≡ setAt 0 14 → ⊥
+marked-by-a-member a h = other-set a h 14 (λ e. omega arith)
+
 -- ---- too few: the jobs that are left have starts by themselves, whatever else is said (`blamed`)
 
--- jobs 1 and 3 at the times 0 and 1
+-- jobs 1 and 3 at the times 0 and 1; the others nowhere near their windows, one after its own and one before
 abbrev starts : List ℕ
-starts = 0 ∷ 0 ∷ 0 ∷ 1 ∷ []
+starts = 9 ∷ 0 ∷ 0 ∷ 1 ∷ []
 
 two : Together (jobsOf chained) (has (setAt 0 10)) (chained .win) starts
 unfolding has drawnBy runsAt
@@ -57,7 +61,7 @@ two = record { from = from; to = to; fits = fits }
     from (suc (suc (suc (suc k)))) b h = absurd (omega arith)
 
     to : (k : ℕ) → k < 4 → has (setAt 0 10) k ≡ true → starts ! k + chained .p ! k ≤ chained .win .l ! k
-    to zero b h = omega arith
+    to zero b h = let z : _≡_ {A = ℕ} 0 1 = cc in absurd (omega arith)
     to (suc zero) b h = omega arith
     to (suc (suc zero)) b h = omega arith
     to (suc (suc (suc zero))) b h = omega arith
@@ -83,12 +87,12 @@ one = together-fewer (jobsOf chained) (has (setAt 0 10)) (has (setAt 0 8)) sub (
     sub (suc (suc (suc (suc k)))) b h = absurd (omega arith)
 
 -- the closing record's job and members alone, as where marks are looked up in the records' order, or where the first record is skipped
-pub in-the-records-order : ((s : List ℕ) → Together (jobsOf chained) (has (setAt 0 10)) (chained .win) s → ⊥) → ⊥
-in-the-records-order f = f starts two
+pub in-the-records-order : (a : Blamed) → NotTogether chained a → a .says .word ≡ Word.marked → a .set ≡ setAt 0 10 → ⊥
+in-the-records-order a f e q = f e starts (rw q two)
 
 -- the job of the clash alone, as where the closing record's members are not marked
-pub named-job-alone : ((s : List ℕ) → Together (jobsOf chained) (has (setAt 0 8)) (chained .win) s → ⊥) → ⊥
-named-job-alone f = f starts one
+pub named-job-alone : (a : Blamed) → NotTogether chained a → a .says .word ≡ Word.marked → a .set ≡ setAt 0 8 → ⊥
+named-job-alone a f e q = f e starts (rw q one)
 
 -- ---- the answer and the set of a refusal (`exactly`)
 

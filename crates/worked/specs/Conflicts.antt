@@ -1,5 +1,5 @@
--- Clash logs and others by hand for the call that names jobs (document 02, Item 14): the capacity, the jobs, the claimed records, the log, and what is due: the
--- number of marked jobs and the set, or a refusal. A row's number is 80 for marks, else the refusal's.
+-- Clash logs and others by hand for the call that names jobs (document 02, Item 14): the capacity, the jobs, the claimed records, the log, and what is due:
+-- the number of marked jobs and the set, or a refusal. A row's number is 80 for marks, else the refusal's.
 use Prim.Native.Nat.{ℕ, suc, _-_}
 use mathlib.Core.Path.{_≡_}
 use mathlib.Core.List.{List, [], _∷_, _++_}
@@ -49,6 +49,14 @@ chain = job 0 1 1 1 ∷ job 0 2 1 1 ∷ job 1 3 1 1 ∷ job 1 2 1 1 ∷ []
 abbrev pub chainLog : List ℕ
 chainLog = noted 1 0 0 1 1 ++ noted 2 0 1 1 2 ++ noted 3 0 1 1 2
 
+-- jobs 0, 1 and 3 cannot be done together: 1 needs time 1 wherever it starts, 3 has time 2, and 0 wants one of them; job 2 has time 0
+abbrev pub aside : List Job
+aside = job 1 3 1 1 ∷ job 0 3 2 1 ∷ job 0 1 1 1 ∷ job 2 3 1 1 ∷ []
+
+-- by hand: 1 moves 0, then 2 moves 1, then 3 closes 0. The second record's moved job is marked by the first alone, which the walk reaches after it
+abbrev pub asideLog : List ℕ
+asideLog = noted 0 0 1 1 2 ++ noted 1 0 0 1 4 ++ noted 0 0 2 1 8
+
 -- two jobs that want one time, with so many between them that ask for nothing
 abbrev pub farApart : ℕ → List Job
 farApart between = job 0 1 1 1 ∷ (replicate between (job 0 9 1 0) ++ (job 0 1 1 1 ∷ []))
@@ -57,6 +65,8 @@ abbrev pub traces : List Trace
 traces =
     marksRow 1 caseFour 1 (noted 0 0 1 1 2) 2 (setAt 0 3) ∷
     marksRow 1 chain 3 chainLog 3 (setAt 0 11) ∷
+    -- a record whose moved job no later one marks: its member stays unmarked
+    marksRow 1 aside 3 asideLog 3 (setAt 0 11) ∷
     -- the planner's own log: 0 moves 1, and 3 closes it; and with words behind the claimed records
     marksRow 1 chain 2 (noted 1 0 0 1 1 ++ noted 1 0 1 1 8) 3 (setAt 0 11) ∷
     marksRow 1 chain 2 (noted 1 0 0 1 1 ++ noted 1 0 1 1 8 ++ noted 9 9 9 9 9) 3 (setAt 0 11) ∷

@@ -1,10 +1,10 @@
 -- `marker::walk_back` meets its contract. Before each record the set holds those whom the records from `left` on mark; the walk ends since `left` falls.
-use Prim.Native.Nat.{ℕ, _-_, _≤_}
+use Prim.Native.Nat.{ℕ, _+_, _-_, _≤_}
 use native.Mathlib.Omega.{arith}
 use mathlib.Core.Path.{_≡_, sym, ap, _∙_}
 use mathlib.Core.List.{List}
 use lib.ListN.{length, length-replicate}
-use borrow.Author.Needs.{needs}
+use borrow.Author.Needs.{needs, fits-under}
 use Rattle.members.specs.Members.{setWords, setOf, inserted, joined, AreWords}
 use Rattle.members.proofs.Sets.{setOf-length}
 use Rattle.journal.specs.Journal.{recordWords, setOfRecord}
@@ -26,7 +26,10 @@ loop-holds : tie.Need-loop-holds Inv-loop μ-loop
 loop-holds c =
     let s = c .before .before .before .before .before in
     let a = s .args in
-    (omega arith, c .before .put .ensures ∙ ap (λ (x : List ℕ). inserted x (a .job)) (c .before .before .before .empty .ensures) ∙ walk-first (a .log .now) (a .count) (a .job) (s .pre .0) (s .pre .1))
+    let none = c .before .before .before .empty .ensures in (
+      omega arith,
+      c .before .put .ensures ∙ ap (λ (x : List ℕ). inserted x (a .job)) none ∙ walk-first (a .log .now) (a .count) (a .job) (s .pre .0) (s .pre .1),
+    )
 
 -- ---- a record, once it is shown
 
@@ -46,7 +49,7 @@ words d = d .show-record .result .now
 words-length : (d : Shown) → length (words d) ≡ recordWords
 words-length d =
     ap length (d .show-record .ensures)
-    ∙ record-length (begun d .args .log .now) (place d) (omega (arith, begun d .pre .0, d .before .loop-test .taken, d .before .before .loop .inv .0))
+    ∙ record-length (begun d .args .log .now) _ (omega (arith, begun d .pre .0, d .before .loop-test .taken, d .before .before .loop .inv .0))
 
 set-length : (d : Shown) → setWords ≡ length (d .before .before .loop .set)
 set-length d = sym (ap length (d .before .before .loop .inv .1) ∙ setOf-length _ _)
@@ -58,7 +61,7 @@ shared-slice-read-has : tie.Need-shared-slice-read-has Inv-loop μ-loop
 shared-slice-read-has c = omega (arith, words-length (c .before .before))
 
 cast-has : tie.Need-cast-has Inv-loop μ-loop
-cast-has c = omega (arith, c .shared-slice-known2 .given 0)
+cast-has c = fits-under _ _ _ (c .shared-slice-known2 .given _ .fits) tt
 
 slice-aggregate-join : tie.Need-slice-aggregate-join Inv-loop μ-loop
 slice-aggregate-join c = set-length (c .before .before .before .before .before)
@@ -75,9 +78,14 @@ loop-again c =
     let l = d .before .before .loop in
     let e = d .show-record .ensures in
     let t = rw e at (sym (c .before .before .before .before .before .has .ensures) ∙ c .before .before .before .before .if1 .taken) in
-    let g : AreWords (setOfRecord (words d)) = member-words (words d) (λ q. c .before .before .before .before .before .before .shared-slice-known2 .given q .fits) in
-    let j : c .before .join .last .0 ≡ joined (l .set) (setOfRecord (words d)) = c .before .join .ensures ∙ ap (joined (l .set)) (c .before .before .set-of .ensures) in
-    (omega arith, (rw e at j) ∙ back-marked (a .log .now) (a .count) (a .job) (s .pre .0) (s .pre .1) (place d) (l .left) (omega (arith, d .before .loop-test .taken)) (l .inv .0) (l .set) (l .inv .1) t (rw e at g))
+    let read = c .before .before .before .before .before .before .shared-slice-known2 in
+    let g : AreWords (setOfRecord (words d)) = member-words (words d) (λ q. read .given q .fits) in
+    let j : c .before .join .last .0 ≡ joined (l .set) (setOfRecord (words d)) =
+    c .before .join .ensures ∙ ap (joined (l .set)) (c .before .before .set-of .ensures) in
+    let next : l .left ≡ place d + 1 = omega (arith, d .before .loop-test .taken) in (
+      omega arith,
+      (rw e at j) ∙ back-marked (a .log .now) (a .count) (a .job) (s .pre .0) (s .pre .1) (place d) (l .left) next (l .inv .0) (l .set) (l .inv .1) t (rw e at g),
+    )
 
 -- it is not, and the record is passed over
 loop-again-2 : tie.Need-loop-again-2 Inv-loop μ-loop
@@ -87,7 +95,8 @@ loop-again-2 c =
     let a = s .args in
     let l = d .before .before .loop in
     let t = rw (d .show-record .ensures) at (sym (c .before .has .ensures) ∙ c .if1 .left) in
-    (omega arith, back-passed (a .log .now) (a .count) (a .job) (s .pre .0) (s .pre .1) (place d) (l .left) (omega (arith, d .before .loop-test .taken)) (l .inv .0) (l .set) (l .inv .1) t)
+    let next : l .left ≡ place d + 1 = omega (arith, d .before .loop-test .taken) in
+    (omega arith, back-passed (a .log .now) (a .count) (a .job) (s .pre .0) (s .pre .1) (place d) (l .left) next (l .inv .0) (l .set) (l .inv .1) t)
 
 returns : tie.Need-returns Inv-loop μ-loop
 returns c =
