@@ -74,7 +74,9 @@ abbrev is : Said → Word → Bool
 is s w = eqb (told (s .word)) (told w)
 
 abbrev heardOf : Said → Answer
-heardOf s = cond (is s Word.settled) (Answer.Settled (s .numbers ! 0)) (cond (is s Word.clash) (Answer.Clash (s .numbers ! 0) (s .numbers ! 1)) (Answer.Refused (s .numbers ! 0)))
+heardOf s =
+    cond (is s Word.settled) (Answer.Settled (s .numbers ! 0))
+    (cond (is s Word.clash) (Answer.Clash (s .numbers ! 0) (s .numbers ! 1)) (Answer.Refused (s .numbers ! 0)))
 
 heard-says : (a : Answer) → heardOf (says a) ≡ a
 heard-says (Answer.Settled n) = refl

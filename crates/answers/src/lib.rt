@@ -34,13 +34,13 @@ pub enum WriteAnswer {
     Refused(u32),
 }
 
-// The call that names the jobs which cannot be done together: how many there are; the refusal's number.
+// The call that names the jobs which cannot be done together: how many are marked; the refusal's number.
 pub enum ConflictAnswer {
     Marked(u32),
     Refused(u32),
 }
 
-// And beside that the marked jobs as a member set, all zeros on a refusal.
+// What that call gives: its answer, and the marked jobs as a member set, all zeros on a refusal.
 pub struct Conflict {
     pub answer: ConflictAnswer,
     pub set: [u32; bits::WORDS],

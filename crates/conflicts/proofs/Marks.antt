@@ -77,13 +77,13 @@ marked-closing x k = (λ h. there (marked-cases (jobOf x) x [] k h), back)
 
 traced-marked : (j : ℕ) (xs : List (List ℕ)) (k : ℕ) → Traced j xs k → markedBy j xs k ≡ true
 traced-marked j xs k (Traced.own) = marked-own j xs
-traced-marked j (x ∷ xs) k (Traced.later t) = marked-more j x xs k (traced-marked j xs k t)
-traced-marked j (x ∷ xs) k (Traced.member t h) = marked-members j x xs k (traced-marked j xs (jobOf x) t) h
+traced-marked j (x ∷ xs) k (Traced.behind t) = marked-more j x xs k (traced-marked j xs k t)
+traced-marked j (x ∷ xs) k (Traced.through t h) = marked-members j x xs k (traced-marked j xs (jobOf x) t) h
 
 marked-is-traced : (j : ℕ) (xs : List (List ℕ)) (k : ℕ) → markedBy j xs k ≡ true → Traced j xs k
 marked-is-traced j [] k h = let e : k ≡ j = marked-alone j k .0 h in rw e Traced.own
 marked-is-traced j (x ∷ xs) k h =
-    elim (marked-cases j x xs k h) [ inl a ↦ Traced.later (marked-is-traced j xs k a) | inr a ↦ Traced.member (marked-is-traced j xs (jobOf x) (a .0)) (a .1) ]
+    elim (marked-cases j x xs k h) [ inl a ↦ Traced.behind (marked-is-traced j xs k a) | inr a ↦ Traced.through (marked-is-traced j xs (jobOf x) (a .0)) (a .1) ]
 
 pub marked-traced : (j : ℕ) (xs : List (List ℕ)) (k : ℕ) → (markedBy j xs k ≡ true) ↔ Traced j xs k
 marked-traced j xs k = (marked-is-traced j xs k, traced-marked j xs k)

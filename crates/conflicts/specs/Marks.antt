@@ -24,8 +24,8 @@ unfoldable pub markedBy : ℕ → List (List ℕ) → Set
 markedBy j [] = alone j
 markedBy j (x ∷ xs) = let later = markedBy j xs in mark (later (jobOf x)) later (isMember x)
 
--- the same in facts: job k is j; or traced by later records; or a member of a record whose moved job is traced by later ones
+-- the same in facts: job k is j; or traced by the records behind the first; or a member of the first, whose moved job is traced by those behind it
 pub data Traced (j : ℕ) : List (List ℕ) → ℕ → Type 0 where
   own : {xs : List (List ℕ)} → Traced j xs j
-  later : {x : List ℕ} {xs : List (List ℕ)} {k : ℕ} → Traced j xs k → Traced j (x ∷ xs) k
-  member : {x : List ℕ} {xs : List (List ℕ)} {k : ℕ} → Traced j xs (jobOf x) → isMember x k ≡ true → Traced j (x ∷ xs) k
+  behind : {x : List ℕ} {xs : List (List ℕ)} {k : ℕ} → Traced j xs k → Traced j (x ∷ xs) k
+  through : {x : List ℕ} {xs : List (List ℕ)} {k : ℕ} → Traced j xs (jobOf x) → isMember x k ≡ true → Traced j (x ∷ xs) k
