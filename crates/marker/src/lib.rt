@@ -36,6 +36,6 @@ pub fn marks(log: &[u32], count: usize, job: usize) -> Conflict
     let ones = bits::count(&set);
     Conflict {
         answer: ConflictAnswer::Marked(ones),
-        set: set,
+        set,
     }
 }

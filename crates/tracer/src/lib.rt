@@ -18,7 +18,7 @@ fn refused(number: u32) -> Conflict
     let set = bits::empty();
     Conflict {
         answer: ConflictAnswer::Refused(number),
-        set: set,
+        set,
     }
 }
 
