@@ -18,7 +18,7 @@ use Rattle.narrowing.specs.Windows.{Win, Side, early, late}
 use Rattle.narrowing.specs.Rules.{Step}
 use Rattle.narrowing.proofs.Steps.{step-move}
 use Rattle.journal.specs.Journal.{jobOf, timeOf, isMember}
-use Rattle.timetable.specs.Time.{Jobs, Runs, runsAt, load, Crowded, Applies, bound}
+use Rattle.timetable.specs.Time.{Jobs, Runs, runsAt, drawnBy, load, Crowded, Applies, bound}
 use Rattle.timetable.specs.Search.{member}
 use Rattle.timetable.specs.Reason.{OwnFact, Stated, namedDrawn, Changed, Implied, StartsWithin}
 use Rattle.timetable.specs.Table.{Call, jobsOf, asks}
@@ -68,7 +68,7 @@ module _ (J : Jobs) (W : Win) (x : List ℕ) (g : Passes J W x) where
 
     -- the members and the moved job, all running, draw more than the capacity
     over-named : runsAt (J .p) s (jobOf x) (timeOf x) ≡ true → J .cap < namedDrawn J s (isMember x) (jobOf x) (timeOf x)
-    unfolding namedDrawn totalOf
+    unfolding namedDrawn drawnBy totalOf
     over-named h =
         let a = total-others counts (λ k. J .r ! k) (jobOf x) (J .n) (g .in-range .job) in
         let own : counts (jobOf x) ≡ true = true-both _ _ (either-right (isMember x (jobOf x)) _ (eq-eqb (jobOf x) (jobOf x) refl)) h in

@@ -4,51 +4,39 @@ use Prim.Native.Nat.{ℕ, zero, suc, _+_, _≤_, _<_}
 use native.Mathlib.Omega.{arith}
 use native.Mathlib.Decide.{decLt}
 use mathlib.Core.Path.{_≡_, refl, sym, _∙_}
-use mathlib.Core.Bool.{Bool, true, false}
+use mathlib.Core.Bool.{true, false}
 use mathlib.Core.List.{List, [], _∷_}
 use mathlib.Core.Logic.{_⊎_, inl, inr, _↔_}
 use lib.ListN.{length, length-drop}
 use borrow.Author.Tests.{eq-eqb, ne-eqb, eqb-true}
-use Rattle.lists.specs.Sets.{Set}
-use Rattle.lists.proofs.Tests.{either-left, either-right, either-true}
+use Rattle.lists.specs.Tests.{both}
+use Rattle.lists.proofs.Tests.{both-true, true-both, both-false, either-left, either-right, either-true}
 use Rattle.members.specs.Members.{setWords, has, setOf}
 use Rattle.members.proofs.Sets.{setOf-length, has-setOf, has-past}
 use Rattle.joblist.specs.Limits.{mostJobs}
 use Rattle.journal.specs.Journal.{headWords, roomOf, records, AreRecords, jobOf, isMember, setOfRecord}
 use Rattle.journal.proofs.Records.{record-length}
-use Rattle.conflicts.specs.Marks.{mark, markedBy, Traced}
+use Rattle.conflicts.specs.Marks.{markedBy, Traced}
 use Rattle.conflicts.specs.Table.{marksOf}
 
 -- ---- one more record in front
 
-mark-more : (b : Bool) (M T : Set) (k : ℕ) → M k ≡ true → mark b M T k ≡ true
-mark-more true M T k h = either-left (M k) (T k) h
-mark-more false M T k h = h
-
-mark-members : (b : Bool) (M T : Set) (k : ℕ) → b ≡ true → T k ≡ true → mark b M T k ≡ true
-mark-members true M T k e h = either-right (M k) (T k) h
-mark-members false M T k e h = cc
-
-mark-cases : (b : Bool) (M T : Set) (k : ℕ) → mark b M T k ≡ true → (M k ≡ true) ⊎ ((b ≡ true) × (T k ≡ true))
-mark-cases true M T k h = elim (either-true (M k) (T k) h) [ inl a ↦ inl a | inr a ↦ inr (refl, a) ]
-mark-cases false M T k h = inl h
-
-mark-none : (b : Bool) (M T : Set) (k : ℕ) → M k ≡ false → T k ≡ false → mark b M T k ≡ false
-mark-none true M T k e f = rw (e, f)
-mark-none false M T k e f = e
-
 module _ (j : ℕ) (x : List ℕ) (xs : List (List ℕ)) (k : ℕ) where
   pub marked-more : markedBy j xs k ≡ true → markedBy j (x ∷ xs) k ≡ true
   unfolding markedBy
-  marked-more h = mark-more (markedBy j xs (jobOf x)) (markedBy j xs) (isMember x) k h
+  marked-more h = either-left (markedBy j xs k) _ h
 
   pub marked-members : markedBy j xs (jobOf x) ≡ true → isMember x k ≡ true → markedBy j (x ∷ xs) k ≡ true
   unfolding markedBy
-  marked-members e h = mark-members (markedBy j xs (jobOf x)) (markedBy j xs) (isMember x) k e h
+  marked-members e h = either-right (markedBy j xs k) _ (true-both (markedBy j xs (jobOf x)) (isMember x k) e h)
 
   pub marked-cases : markedBy j (x ∷ xs) k ≡ true → (markedBy j xs k ≡ true) ⊎ ((markedBy j xs (jobOf x) ≡ true) × (isMember x k ≡ true))
   unfolding markedBy
-  marked-cases h = mark-cases (markedBy j xs (jobOf x)) (markedBy j xs) (isMember x) k h
+  marked-cases h =
+      elim (either-true (markedBy j xs k) (both (markedBy j xs (jobOf x)) (isMember x k)) h) [
+        | inl a ↦ inl a
+        | inr a ↦ inr (both-true (markedBy j xs (jobOf x)) (isMember x k) a)
+      ]
 
 -- the job of the clash is always marked
 pub marked-own : (j : ℕ) (xs : List (List ℕ)) → markedBy j xs j ≡ true
@@ -96,7 +84,7 @@ unfolding markedBy
 marked-past j [] k r low h = ne-eqb k j (λ e. omega arith)
 marked-past j (x ∷ xs) k r low h =
     let long : length (setOfRecord x) ≡ setWords = length-drop headWords x ∙ rw (r .0) in
-    mark-none (markedBy j xs (jobOf x)) (markedBy j xs) (isMember x) k (marked-past j xs k (r .1) low h) (has-past (setOfRecord x) k (omega arith))
+    rw (marked-past j xs k (r .1) low h, has-past (setOfRecord x) k (omega arith)) (both-false (markedBy j xs (jobOf x)))
 
 pub records-are : (log : List ℕ) (m i : ℕ) → i + m ≤ roomOf log → AreRecords (records log i m)
 unfolding records

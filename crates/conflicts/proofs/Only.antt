@@ -15,10 +15,10 @@ use Rattle.lists.proofs.Sums.{total-le, total-cong}
 use Rattle.lists.proofs.Picked.{place-most, place-less, place-apart, place-back, place-total, picked-length, picked-at, picked-within}
 use Rattle.narrowing.specs.Windows.{Win}
 use Rattle.joblist.specs.Limits.{jobs}
-use Rattle.timetable.specs.Time.{Jobs, runsAt, drawn, Fits}
+use Rattle.timetable.specs.Time.{Jobs, runsAt, drawnBy, drawn, Fits}
 use Rattle.timetable.specs.Table.{Call, jobsOf, Good}
 use Rattle.timetable.specs.Promise.{Scheduled}
-use Rattle.conflicts.specs.Apart.{drawnBy, Together, onlyOf, Among}
+use Rattle.conflicts.specs.Apart.{Together, onlyOf, Among}
 
 -- fewer jobs stand among others where more do
 pub among-fewer : (M O : Set) (c d : Call) (π : ℕ → ℕ) → ((k : ℕ) → O k ≡ true → M k ≡ true) → Among M c d π → Among O c d π

@@ -4,19 +4,12 @@ use mathlib.Core.Path.{_≡_}
 use mathlib.Core.Bool.{true}
 use mathlib.Core.List.{List}
 use Rattle.lists.specs.Lists.{_!_}
-use Rattle.lists.specs.Tests.{both, only}
-use Rattle.lists.specs.Sums.{total}
 use Rattle.lists.specs.Sets.{Set}
 use Rattle.lists.specs.Picked.{picked}
 use Rattle.narrowing.specs.Windows.{Win, win}
 use Rattle.joblist.specs.Limits.{jobs}
-use Rattle.timetable.specs.Time.{Jobs, runsAt}
+use Rattle.timetable.specs.Time.{Jobs, drawnBy}
 use Rattle.timetable.specs.Table.{Call, call}
-
--- the demands of the jobs of M that run at t
-unfoldable pub drawnBy : Jobs → Set → List ℕ → ℕ → ℕ
-unfolding total runsAt
-drawnBy J M s t = total (λ k. only (both (M k) (runsAt (J .p) s k t)) (J .r ! k)) (J .n)
 
 -- starts of the jobs of M by themselves: each within its window, and at every time their demands add up to at most the capacity; no other job counts
 pub record Together (J : Jobs) (M : Set) (W : Win) (s : List ℕ) : Type 0 where

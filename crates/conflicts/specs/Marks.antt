@@ -2,27 +2,18 @@
 -- record whose moved job is marked. As a walk, and in facts.
 use Prim.Native.Nat.{ℕ}
 use mathlib.Core.Path.{_≡_}
-use mathlib.Core.Bool.{Bool, true, false}
+use mathlib.Core.Bool.{true}
 use mathlib.Core.List.{List, [], _∷_}
 use lib.Dec.{eqb}
-use Rattle.lists.specs.Tests.{either}
+use Rattle.lists.specs.Tests.{both, either}
 use Rattle.lists.specs.Sets.{Set}
 use Rattle.journal.specs.Journal.{jobOf, isMember}
-
--- job j alone
-abbrev pub alone : ℕ → Set
-alone j k = eqb k j
-
--- those marked, and those of T besides where the test passes
-abbrev pub mark : Bool → Set → Set → Set
-mark true M T k = either (M k) (T k)
-mark false M T k = M k
 
 -- whom records mark in a clash of job j: with no record j alone; with one more in front of others those whom the others mark, and its members where its moved
 -- job is one of those. The moved job of the closing record, the last, is j itself.
 unfoldable pub markedBy : ℕ → List (List ℕ) → Set
-markedBy j [] = alone j
-markedBy j (x ∷ xs) = let later = markedBy j xs in mark (later (jobOf x)) later (isMember x)
+markedBy j [] k = eqb k j
+markedBy j (x ∷ xs) k = either (markedBy j xs k) (both (markedBy j xs (jobOf x)) (isMember x k))
 
 -- the same in facts: job k is j; or traced by the records behind the first; or a member of the first, whose moved job is traced by those behind it
 pub data Traced (j : ℕ) : List (List ℕ) → ℕ → Type 0 where

@@ -2,9 +2,8 @@
 -- `narrow`'s (`Narrowing.Call`), its claimed records are the checker's (`Checking.Claimed`).
 pub use Rattle.lists.specs.Picked.{keep}
 unfoldable pub use Rattle.lists.specs.Picked.{picked, pickedPlace}
-pub use Rattle.conflicts.specs.Marks.{alone, mark, Traced}
+pub use Rattle.conflicts.specs.Marks.{Traced}
 unfoldable pub use Rattle.conflicts.specs.Marks.{markedBy}
-unfoldable pub use Rattle.conflicts.specs.Apart.{drawnBy}
 pub use Rattle.conflicts.specs.Apart.{Together, onlyOf, Among}
 pub use Rattle.conflicts.specs.Table.{Blamed, blame, unmarked}
 unfoldable pub use Rattle.conflicts.specs.Table.{marksOf, marking, conflictOf}

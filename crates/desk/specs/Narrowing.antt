@@ -12,7 +12,7 @@ pub use Rattle.narrowing.specs.Run.{reachedBy}
 pub use Rattle.narrowing.specs.Rounds.{placeOf, Passed, Choice, Chosen}
 pub use Rattle.narrowing.specs.Led.{SameLengths, Led, Closes, Clashed}
 pub use Rattle.promises.specs.Reasons.{Logged, Settles, Clashes}
-unfoldable pub use Rattle.timetable.specs.Time.{runsAt, drawn, Fits, sure, load}
+unfoldable pub use Rattle.timetable.specs.Time.{runsAt, drawnBy, drawn, Fits, sure, load}
 pub use Rattle.timetable.specs.Time.{Jobs, Runs, Overdrawn, Sure, Crowded, Early, Late, bound, Applies}
 unfoldable pub use Rattle.timetable.specs.Search.{crowded, best, member, leanMember, naming}
 pub use Rattle.timetable.specs.Search.{search, Member, entry}

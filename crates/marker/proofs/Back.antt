@@ -7,30 +7,36 @@ use mathlib.Core.Bool.{Bool, true, false}
 use mathlib.Core.List.{List}
 use lib.Seq.{getD-drop}
 use lib.ListN.{length, replicate, length-replicate}
+use lib.Dec.{eqb}
 use borrow.Author.Tests.{eq-eqb, ne-eqb}
+use Rattle.lists.specs.Tests.{both, either}
 use Rattle.lists.specs.Sets.{Set}
 use Rattle.members.specs.Members.{setWords, has, setOf, inserted, joined, AreWords}
-use Rattle.members.proofs.Sets.{setOf-unique}
+use Rattle.members.proofs.Sets.{setOf-cong, setOf-unique}
 use Rattle.members.proofs.Inserted.{inserted-length, inserted-words, inserted-same, inserted-other}
 use Rattle.members.proofs.Joined.{joined-set}
 use Rattle.members.proofs.Writing.{zeros-words, zeros-has}
 use Rattle.joblist.specs.Limits.{mostJobs}
 use Rattle.journal.specs.Journal.{headWords, roomOf, recordAt, records, jobOf, isMember, setOfRecord}
-use Rattle.conflicts.specs.Marks.{alone, mark, markedBy}
+use Rattle.conflicts.specs.Marks.{markedBy}
 use Rattle.conflicts.specs.Table.{marksOf}
 use Rattle.conflicts.proofs.Marks.{records-are, set-tells}
 
 -- one job put into no words
-alone-set : (j : ℕ) → j < mostJobs → inserted (replicate setWords 0) j ≡ setOf setWords (alone j)
+alone-set : (j : ℕ) → j < mostJobs → inserted (replicate setWords 0) j ≡ setOf setWords (λ k. eqb k j)
 alone-set j b =
     let z : List ℕ = replicate setWords 0 in
     let long : length z ≡ setWords = length-replicate {A = ℕ} setWords 0 in
-    setOf-unique setWords (alone j) (inserted z j) (inserted-length z j ∙ long) (inserted-words z j (zeros-words setWords))
+    setOf-unique setWords (λ k. eqb k j) (inserted z j) (inserted-length z j ∙ long) (inserted-words z j (zeros-words setWords))
     (λ k c.
     elim (ℕ-discrete k j) [
       | yes e ↦ rw e (inserted-same z j (omega (arith, long)) ∙ sym (eq-eqb j j refl))
       | no ne ↦ inserted-other z j k ne ∙ zeros-has setWords k ∙ sym (ne-eqb k j ne)
     ])
+
+either-no : (a : Bool) → either a false ≡ a
+either-no true = refl
+either-no false = refl
 
 -- a record's member words are words
 pub member-words : (x : List ℕ) → AreWords x → AreWords (setOfRecord x)
@@ -65,9 +71,9 @@ module _ (log : List ℕ) (count j : ℕ) (room : count ≤ roomOf log) (low : j
     set-later : set ≡ setOf setWords later
     set-later = let e : n ≡ suc i = omega arith in rw e at h
 
-    behind-is : behind log count j i ≡ mark (later (jobOf x)) later (isMember x)
+    behind-is : (k : ℕ) → behind log count j i k ≡ either (later k) (both (later (jobOf x)) (isMember x k))
     unfolding markedBy records
-    behind-is = let e : count - i ≡ suc (count - suc i) = omega arith in rw e
+    behind-is k = let e : count - i ≡ suc (count - suc i) = omega arith in rw e
 
     job-marked : (b : Bool) → has set (jobOf x) ≡ b → later (jobOf x) ≡ b
     job-marked b e =
@@ -75,11 +81,15 @@ module _ (log : List ℕ) (count j : ℕ) (room : count ≤ roomOf log) (low : j
         ∙ (rw set-later at e)
 
     -- so the marks with the record are those behind it, and its members where the test passes
-    one-more : (b : Bool) → has set (jobOf x) ≡ b → setOf setWords (mark b later (isMember x)) ≡ setOf setWords (behind log count j i)
-    one-more b e = rw (behind-is, job-marked b e)
+    one-more : (b : Bool) → has set (jobOf x) ≡ b → setOf setWords (λ k. either (later k) (both b (isMember x k))) ≡ setOf setWords (behind log count j i)
+    one-more b e =
+        setOf-cong setWords (λ k. either (later k) (both b (isMember x k))) (behind log count j i) (λ k c. rw (behind-is k, job-marked b e))
 
     pub back-marked : has set (jobOf x) ≡ true → AreWords (setOfRecord x) → joined set (setOfRecord x) ≡ setOf setWords (behind log count j i)
     back-marked t g = rw set-later (joined-set setWords later (setOfRecord x) g) ∙ one-more true t
 
     pub back-passed : has set (jobOf x) ≡ false → set ≡ setOf setWords (behind log count j i)
-    back-passed t = set-later ∙ one-more false t
+    back-passed t =
+        set-later
+        ∙ setOf-cong setWords later (λ k. either (later k) (both false (isMember x k))) (λ k b. sym (either-no (later k)))
+        ∙ one-more false t

@@ -6,13 +6,12 @@ use mathlib.Core.Bool.{Bool, true}
 use mathlib.Core.List.{List}
 use lib.Dec.{eqb}
 use Rattle.lists.specs.Lists.{_!_}
-use Rattle.lists.specs.Tests.{both, either, only}
-use Rattle.lists.specs.Sums.{total}
+use Rattle.lists.specs.Tests.{either}
 use Rattle.lists.specs.Spares.{amount, NoneSpare}
 use Rattle.narrowing.specs.Windows.{Win, Side, early, late}
 use Rattle.members.specs.Members.{onesOf}
 use Rattle.journal.specs.Journal.{countWord, setOfRecord, jobOf, isMember}
-use Rattle.timetable.specs.Time.{Jobs, runsAt}
+use Rattle.timetable.specs.Time.{Jobs, drawnBy}
 
 -- the moved job, on side 0, starts no earlier than t - p + 1; on side 1, no later than t
 abbrev pub OwnFact : List ℕ → List ℕ → ℕ → Side → ℕ → Type 0
@@ -26,8 +25,8 @@ pub record Stated (n : ℕ) (p s : List ℕ) (M : ℕ → Bool) (j : ℕ) (side 
 
 -- the demands of the named jobs, members and moved job, that run at t
 unfoldable pub namedDrawn : Jobs → List ℕ → (ℕ → Bool) → ℕ → ℕ → ℕ
-unfolding total runsAt
-namedDrawn J s M j t = total (λ k. only (both (either (M k) (eqb k j)) (runsAt (J .p) s k t)) (J .r ! k)) (J .n)
+unfolding drawnBy
+namedDrawn J s M j t = drawnBy J (λ k. either (M k) (eqb k j)) s t
 
 -- the change: on side 0 the moved job starts no earlier than t + 1, on side 1 it ends by t
 abbrev pub Changed : List ℕ → List ℕ → ℕ → Side → ℕ → Type 0

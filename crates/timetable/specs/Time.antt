@@ -7,6 +7,7 @@ use lib.Dec.{ltb, leb, eqb}
 use Rattle.lists.specs.Lists.{_!_}
 use Rattle.lists.specs.Tests.{both, only}
 use Rattle.lists.specs.Sums.{total}
+use Rattle.lists.specs.Sets.{Set}
 use Rattle.narrowing.specs.Windows.{Win, Side, early, late}
 use Rattle.narrowing.specs.Rules.{Family}
 
@@ -27,7 +28,11 @@ pub record Runs (p s : List ℕ) (k t : ℕ) : Type 0 where
 unfoldable pub runsAt : List ℕ → List ℕ → ℕ → ℕ → Bool
 runsAt p s k t = both (leb (s ! k) t) (ltb t (s ! k + p ! k))
 
--- the demands of the jobs that run at t
+-- the demands of the jobs of M that run at t; of all jobs
+unfoldable pub drawnBy : Jobs → Set → List ℕ → ℕ → ℕ
+unfolding total runsAt
+drawnBy J M s t = total (λ k. only (both (M k) (runsAt (J .p) s k t)) (J .r ! k)) (J .n)
+
 unfoldable pub drawn : Jobs → List ℕ → ℕ → ℕ
 unfolding total runsAt
 drawn J s t = total (λ k. only (runsAt (J .p) s k t) (J .r ! k)) (J .n)

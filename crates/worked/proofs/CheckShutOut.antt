@@ -12,7 +12,7 @@ use Rattle.answers.specs.Said.{Word, Said, said}
 use Rattle.answers.proofs.Same.{not-said}
 use Rattle.members.specs.Members.{has, setWords}
 use Rattle.journal.specs.Journal.{recordAt}
-use Rattle.timetable.specs.Time.{runsAt}
+use Rattle.timetable.specs.Time.{runsAt, drawnBy}
 use Rattle.timetable.specs.Reason.{namedDrawn}
 use Rattle.timetable.specs.Table.{Call, call, After}
 use Rattle.timetable.specs.Promise.{Narrows}
@@ -45,7 +45,7 @@ abbrev alone : Call
 alone = with 1 caseFive (noted 0 0 1 0 0)
 
 not-implied : Reasoned alone 0 → ⊥
-unfolding recordAt has namedDrawn runsAt
+unfolding recordAt has namedDrawn drawnBy runsAt
 not-implied r =
     omega (
       arith,

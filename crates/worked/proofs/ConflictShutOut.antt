@@ -12,9 +12,9 @@ use Rattle.lists.proofs.Tests.{both-false}
 use Rattle.answers.specs.Said.{Word, Said, said}
 use Rattle.answers.proofs.Same.{not-said}
 use Rattle.members.specs.Members.{has}
-use Rattle.timetable.specs.Time.{runsAt}
+use Rattle.timetable.specs.Time.{runsAt, drawnBy}
 use Rattle.timetable.specs.Table.{Call, jobsOf}
-use Rattle.conflicts.specs.Apart.{drawnBy, Together}
+use Rattle.conflicts.specs.Apart.{Together}
 use Rattle.conflicts.specs.Table.{Blamed, blame, conflictOf}
 use Rattle.conflicts.specs.Promise.{Exactly, NotTogether}
 use Rattle.conflicts.proofs.Only.{together-fewer}
