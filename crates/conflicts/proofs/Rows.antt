@@ -1,6 +1,6 @@
 -- The rows of the call that names jobs, in facts: each refusal and the marks are given exactly when document 02's Item 14 says so, and leave the set that
 -- it says.
-use Prim.Native.Nat.{ℕ, zero, suc, _≤_}
+use Prim.Native.Nat.{ℕ, zero, suc}
 use native.Mathlib.Omega.{arith}
 use mathlib.Core.Path.{_≡_, refl, sym, ap, subst, _∙_}
 use mathlib.Core.Bool.{Bool, true, false}
@@ -8,7 +8,7 @@ use mathlib.Core.List.{List, [], _∷_}
 use mathlib.Core.Logic.{_⊎_, inl, inr, _↔_}
 use lib.Dec.{ltb}
 use lib.ListN.{length, replicate, length-replicate}
-use borrow.Author.Tests.{ltb-true, ltb-false, lt-ltb, le-ltb}
+use borrow.Author.Tests.{ltb-true, ltb-false}
 use Rattle.lists.specs.Lists.{_!_}
 use Rattle.answers.specs.Said.{Word, Said, said}
 use Rattle.answers.proofs.Same.{not-said, said-apart}
@@ -17,9 +17,10 @@ use Rattle.members.proofs.Sets.{setOf-length, setOf-words}
 use Rattle.members.proofs.Writing.{zeros-words}
 use Rattle.journal.specs.Journal.{roomOf, records}
 use Rattle.journal.proofs.Records.{room-short}
-use Rattle.promises.proofs.Calls.{call-admitted, admitted-call, away-refused, away-exactly}
+use Rattle.promises.proofs.Calls.{admitted-call, away-exactly}
 use Rattle.timetable.specs.Table.{Call, jobsOf, asks, refusalOf}
 use Rattle.verdicts.proofs.Fates.{fate-exactly}
+use Rattle.verdicts.proofs.Rows as general
 use Rattle.checks.specs.Replay.{trial, Verdict, holds, clashes, rejected, verdictOn}
 use Rattle.checks.specs.Fate.{Fate}
 use Rattle.checks.specs.Promise.{Claimed}
@@ -42,22 +43,13 @@ module _ (c : Call) (count : ℕ) where
   -- ---- the facts of a row give it
 
   pub refused-row : (k : ℕ) → checks.RefusedRow c count k → conflictOf c count ≡ unmarked k
-  unfolding conflictOf refusalOf rows
-  refused-row k (inl t) = by k (away-refused (asks c) k t) (away-exactly (asks c) k .1 t .0)
-    where
-      by : (m : ℕ) → refusalOf c ≡ m → 1 ≤ m → rows c count (refusalOf c) ≡ unmarked m
-      by zero e b = absurd (omega arith)
-      by (suc m) e b = rw e
-  refused-row k (inr (e, g, b)) = six (call-admitted (asks c) g) ∙ ap unmarked (sym e)
-    where
-      six : refusalOf c ≡ 0 → rows c count (refusalOf c) ≡ unmarked 6
-      six q = rw (q, lt-ltb (roomOf (c .log)) count (room-short (c .log) count .1 b))
+  unfolding conflictOf rows refusalOf
+  refused-row k r = general.refused-row (trial (jobsOf c)) (asks c) count unmarked (byVerdict (c .log) count) k r
 
   judged-row : Claimed c count → (v : Verdict) → Fate c count v → conflictOf c count ≡ byVerdict (c .log) count v
-  unfolding conflictOf refusalOf rows
-  judged-row (g, b) v f =
-      let e = verdict-exactly v .1 f in
-      rw (call-admitted (asks c) g, le-ltb (roomOf (c .log)) count b, e)
+  unfolding conflictOf rows refusalOf verdictOn
+  judged-row g v f =
+      general.judged-row (trial (jobsOf c)) (asks c) count unmarked (byVerdict (c .log) count) g ∙ ap (byVerdict (c .log) count) (verdict-exactly v .1 f)
 
   pub clash-row : (j : ℕ) → ClashOf c count j → conflictOf c count ≡ marking (c .log) count j
   unfolding byVerdict

@@ -1,15 +1,14 @@
 -- What the call that names jobs gives (document 02, Item 14): refusals 1, 2, 3, 7 and 6, in that order and as the checker gives them; then 8 where the log is
 -- rejected or ends in no clash; else the marks as a member set, and how many they are. A refusal leaves the set all zeros. Windows and log are only read.
-use Prim.Native.Nat.{ℕ, zero, suc}
-use mathlib.Core.Bool.{cond}
+use Prim.Native.Nat.{ℕ}
 use mathlib.Core.List.{List, [], _∷_}
 use lib.ListN.{replicate}
-use lib.Dec.{ltb}
 use Rattle.answers.specs.Said.{Word, Said, said}
 use Rattle.members.specs.Members.{setWords, setOf, onesOf}
-use Rattle.journal.specs.Journal.{roomOf, records}
-use Rattle.timetable.specs.Table.{Call, jobsOf, refusalOf}
-use Rattle.checks.specs.Replay.{Verdict, holds, clashes, rejected, verdictOn}
+use Rattle.journal.specs.Journal.{records}
+use Rattle.timetable.specs.Table.{Call, jobsOf, asks, refusalOf}
+use Rattle.verdicts.specs.Replay.{rowsOf}
+use Rattle.checks.specs.Replay.{trial, Verdict, holds, clashes, rejected}
 use Rattle.conflicts.specs.Marks.{markedBy}
 
 -- what the call gives: its answer and a member set
@@ -33,7 +32,7 @@ unfoldable pub marking : List ℕ → ℕ → ℕ → Blamed
 unfolding marksOf onesOf
 marking log count j = blame (said Word.marked (onesOf (marksOf log count j) ∷ [])) (marksOf log count j)
 
--- the rows of the checker's verdict, of a refusal before it, and of all
+-- the row of the checker's verdict; all rows, in the checker's own order
 unfoldable pub byVerdict : List ℕ → ℕ → Verdict → Blamed
 unfolding marking
 byVerdict log count (clashes j) = marking log count j
@@ -41,11 +40,8 @@ byVerdict log count (holds U) = unmarked 8
 byVerdict log count (rejected i k) = unmarked 8
 
 unfoldable pub rows : Call → ℕ → ℕ → Blamed
-unfolding byVerdict verdictOn records roomOf
-rows c count zero =
-    let v = byVerdict (c .log) count (verdictOn (jobsOf c) (c .win) (records (c .log) 0 count)) in
-    cond (ltb (roomOf (c .log)) count) (unmarked 6) v
-rows c count (suc k) = unmarked (suc k)
+unfolding byVerdict rowsOf
+rows c count k = rowsOf unmarked (byVerdict (c .log) count) (trial (jobsOf c)) (asks c) count k
 
 unfoldable pub conflictOf : Call → ℕ → Blamed
 unfolding rows refusalOf

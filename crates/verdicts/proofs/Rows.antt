@@ -7,15 +7,15 @@ use mathlib.Core.Bool.{Bool, true, false}
 use mathlib.Core.List.{[], _∷_}
 use mathlib.Core.Logic.{inl, inr, _↔_}
 use lib.Dec.{ltb}
-use borrow.Author.Tests.{ltb-true, ltb-false, le-ltb}
+use borrow.Author.Tests.{ltb-true, ltb-false, lt-ltb, le-ltb}
 use Rattle.lists.specs.Lists.{_!_}
 use Rattle.answers.specs.Said.{Word, Said, said}
 use Rattle.answers.proofs.Same.{not-said, said-apart}
 use Rattle.journal.specs.Journal.{roomOf, records}
 use Rattle.journal.proofs.Records.{room-short}
 use Rattle.promises.specs.Ask.{Ask, jobCount, lasts, Admitted, refusalOf}
-use Rattle.promises.proofs.Calls.{admitted-call, call-admitted, away-exactly, admitted-not-away}
-use Rattle.verdicts.specs.Replay.{Trial, Verdict, holds, clashes, rejected, verdictOn, Checked, judged, refuses, orSix, rows, checked}
+use Rattle.promises.proofs.Calls.{admitted-call, call-admitted, away-refused, away-exactly, admitted-not-away}
+use Rattle.verdicts.specs.Replay.{Trial, Verdict, holds, clashes, rejected, verdictOn, Checked, judged, refuses, orSix, rowsOf, rows, checked}
 use Rattle.verdicts.specs.Fate.{reached, Open, Shut, Fate}
 use Rattle.verdicts.specs.Promise.{Judges, RefusedRow, Claimed, Exactly}
 use Rattle.verdicts.proofs.Fates.{fate-exactly}
@@ -23,6 +23,24 @@ use Rattle.verdicts.proofs.Fates.{fate-exactly}
 module _ (T : Trial) (A : Ask) (count : ℕ) where
   abbrev verdict : Verdict
   verdict = verdictOn T (jobCount A) (lasts A) (A .win) (records (A .log) 0 count)
+
+  -- ---- the facts of a row give it, whatever is made of a refusal and of a verdict
+
+  module _ {X : Type 0} (refuse : ℕ → X) (judge : Verdict → X) where
+    pub refused-row : (k : ℕ) → RefusedRow A count k → rowsOf refuse judge T A count (refusalOf A) ≡ refuse k
+    unfolding rowsOf
+    refused-row k (inl t) = by k (away-refused A k t) (away-exactly A k .1 t .0)
+      where
+        by : (m : ℕ) → refusalOf A ≡ m → 1 ≤ m → rowsOf refuse judge T A count (refusalOf A) ≡ refuse m
+        by zero e b = absurd (omega arith)
+        by (suc m) e b = rw e
+    refused-row k (inr (e, g, b)) = rw (call-admitted A g, lt-ltb (roomOf (A .log)) count (room-short (A .log) count .1 b), e)
+
+    pub judged-row : Claimed A count → rowsOf refuse judge T A count (refusalOf A) ≡ judge verdict
+    unfolding rowsOf
+    judged-row (g, b) = rw (call-admitted A g, le-ltb (roomOf (A .log)) count b)
+
+  -- ---- the checker's
 
   -- the answer is a refusal's, 6, or the verdict's
   pub data Case (a : Checked) : Type 0 where
@@ -46,7 +64,7 @@ module _ (T : Trial) (A : Ask) (count : ℕ) where
   -- the answer where the claimed records are there
   pub claimed-judged : Claimed A count → checked T A count ≡ judged (A .win) count verdict
   unfolding checked rows
-  claimed-judged (g, b) = rw (call-admitted A g, le-ltb (roomOf (A .log)) count b)
+  claimed-judged g = judged-row (refuses (A .win)) (judged (A .win) count) g
 
   module _ (y : Judges T A) (a : Checked) (h : a ≡ checked T A count) where
     says-of : (b : Checked) → a ≡ b → (x : Said) → a .says ≡ x → b .says ≡ x

@@ -75,16 +75,21 @@ abbrev pub refuses : Win → ℕ → Checked
 refuses W k = finds (said Word.refused (k ∷ [])) W
 
 -- 6: the log is shorter than a record's words for each claimed record
-abbrev pub orSix : Bool → Checked → Checked → Checked
+abbrev pub orSix : {X : Type 0} → Bool → X → X → X
 orSix true six v = six
 orSix false six v = v
 
-unfoldable pub rows : Trial → Ask → ℕ → ℕ → Checked
+-- what is made of a call with so many claimed records, where number k turns it away or, 0, none does: of k, of 6, else of the verdict. The checker's rows
+unfoldable pub rowsOf : {X : Type 0} → (ℕ → X) → (Verdict → X) → Trial → Ask → ℕ → ℕ → X
 unfolding roomOf records verdictOn
-rows T A count zero =
-    let v = judged (A .win) count (verdictOn T (jobCount A) (lasts A) (A .win) (records (A .log) 0 count)) in
-    orSix (ltb (roomOf (A .log)) count) (refuses (A .win) 6) v
-rows T A count (suc k) = refuses (A .win) (suc k)
+rowsOf refuse judge T A count zero =
+    let v = judge (verdictOn T (jobCount A) (lasts A) (A .win) (records (A .log) 0 count)) in
+    orSix (ltb (roomOf (A .log)) count) (refuse 6) v
+rowsOf refuse judge T A count (suc k) = refuse (suc k)
+
+unfoldable pub rows : Trial → Ask → ℕ → ℕ → Checked
+unfolding rowsOf
+rows T A count k = rowsOf (refuses (A .win)) (judged (A .win) count) T A count k
 
 -- the checker's answer on a call with so many claimed records
 unfoldable pub checked : Trial → Ask → ℕ → Checked
