@@ -1,6 +1,7 @@
 //! What is refused where jobs would be marked: each refusal, their order, and
 //! that the set is all zeros then (02, Item 14).
 
+use super::bad_lists;
 use super::conflict::{assert_marked, start, BEHIND};
 use crate::answers::Answer;
 use crate::conflict::conflict;
@@ -30,27 +31,8 @@ fn the_lists_come_first() {
     let ragged = vec![9; 7];
     for count in CLAIMS {
         for log in [&log, &ragged] {
-            for spoil in [
-                (|times: &mut Times| times.est.truncate(2)) as fn(&mut Times),
-                |times| times.lct.push(u32::MAX),
-                |times| times.dur.truncate(0),
-            ] {
-                let mut times = good.clone();
-                spoil(&mut times);
-                assert_refused(1, &times, &supply, count, log);
-            }
-            assert_refused(1, &good, &Supply::default(), count, log);
-            let (times, supply) = lists(u32::MAX, &[(3, 6, u32::MAX, 1); 257]);
-            assert_refused(2, &times, &supply, count, log);
-            for (cap, job) in [
-                (1, (1_000_001, 0, 0, 0)),
-                (1, (0, 1_000_001, 0, 0)),
-                (1, (3, 6, 1_000_001, 0)),
-                (1, (3, 6, 4, 10_001)),
-                (10_001, (3, 6, 4, 1)),
-            ] {
-                let (times, supply) = lists(cap, &[(3, 6, 4, 1), job]);
-                assert_refused(3, &times, &supply, count, log);
+            for (number, times, supply) in bad_lists(&good, &supply) {
+                assert_refused(number, &times, &supply, count, log);
             }
         }
     }

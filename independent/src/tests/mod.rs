@@ -78,6 +78,35 @@ fn small_lists(random: &mut Random) -> (Times, Supply) {
     lists(random.between(0, 4), &jobs)
 }
 
+/// Lists that refusals 1 to 3 turn away, each with its number: lists of unequal
+/// length made from good ones, too many jobs, and each kind of number too great,
+/// beside a window that is too short.
+fn bad_lists(good: &Times, supply: &Supply) -> Vec<(u32, Times, Supply)> {
+    let mut bad = vec![(1, good.clone(), Supply::default())];
+    for spoil in [
+        (|times: &mut Times| times.est.truncate(2)) as fn(&mut Times),
+        |times| times.lct.push(u32::MAX),
+        |times| times.dur.truncate(0),
+    ] {
+        let mut times = good.clone();
+        spoil(&mut times);
+        bad.push((1, times, supply.clone()));
+    }
+    let (times, supply) = lists(u32::MAX, &[(3, 6, u32::MAX, 1); 257]);
+    bad.push((2, times, supply));
+    for (cap, job) in [
+        (1, (1_000_001, 0, 0, 0)),
+        (1, (0, 1_000_001, 0, 0)),
+        (1, (3, 6, 1_000_001, 0)),
+        (1, (3, 6, 4, 10_001)),
+        (10_001, (3, 6, 4, 1)),
+    ] {
+        let (times, supply) = lists(cap, &[(3, 6, 4, 1), job]);
+        bad.push((3, times, supply));
+    }
+    bad
+}
+
 /// The run with room for as many records as it may need.
 fn run(times: &Times, supply: &Supply) -> (Answer, Times, Vec<u32>) {
     let mut narrowed = times.clone();

@@ -1,6 +1,7 @@
 //! Logs of every length about one to three records, by hand: narrowing and the
 //! checker, beside every other refusal and answer (02, Item 10).
 
+use super::bad_lists;
 use super::codes::{bench, GOOD};
 use crate::answers::Answer;
 use crate::joblist::{lists, Supply, Times};
@@ -148,27 +149,8 @@ fn assert_refused(number: u32, times: &Times, supply: &Supply) {
 #[test]
 fn refusals_1_to_3_come_before_a_ragged_log() {
     let (good, supply) = lists(1, &[(0, 2, 2, 1), (0, 2, 2, 1), (3, 6, 4, 1)]);
-    for shorten in [
-        (|times: &mut Times| times.est.truncate(2)) as fn(&mut Times),
-        |times| times.lct.truncate(0),
-        |times| times.dur.push(u32::MAX),
-    ] {
-        let mut times = good.clone();
-        shorten(&mut times);
-        assert_refused(1, &times, &supply);
-    }
-    assert_refused(1, &good, &Supply::default());
-    let (times, supply) = lists(u32::MAX, &[(3, 6, u32::MAX, 1); 257]);
-    assert_refused(2, &times, &supply);
-    for (cap, job) in [
-        (1, (1_000_001, 0, 0, 0)),
-        (1, (0, 1_000_001, 0, 0)),
-        (1, (3, 6, 1_000_001, 0)),
-        (1, (3, 6, 4, 10_001)),
-        (10_001, (3, 6, 4, 1)),
-    ] {
-        let (times, supply) = lists(cap, &[(0, 2, 2, 1), job]);
-        assert_refused(3, &times, &supply);
+    for (number, times, supply) in bad_lists(&good, &supply) {
+        assert_refused(number, &times, &supply);
     }
 }
 
