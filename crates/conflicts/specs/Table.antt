@@ -8,7 +8,8 @@ use Rattle.members.specs.Members.{setWords, setOf, onesOf}
 use Rattle.journal.specs.Journal.{records}
 use Rattle.timetable.specs.Table.{Call, jobsOf, asks, refusalOf}
 use Rattle.verdicts.specs.Replay.{rowsOf}
-use Rattle.checks.specs.Replay.{trial, Verdict, holds, clashes, rejected}
+use Rattle.codes.specs.Codes.{code}
+use Rattle.checks.specs.Replay.{changed, trial, Verdict, holds, clashes, rejected}
 use Rattle.conflicts.specs.Marks.{markedBy}
 
 -- what the call gives: its answer and a member set
@@ -40,7 +41,7 @@ byVerdict log count (holds U) = unmarked 8
 byVerdict log count (rejected i k) = unmarked 8
 
 unfoldable pub rows : Call → ℕ → ℕ → Blamed
-unfolding byVerdict rowsOf
+unfolding byVerdict rowsOf code changed
 rows c count k = rowsOf unmarked (byVerdict (c .log) count) (trial (jobsOf c)) (asks c) count k
 
 unfoldable pub conflictOf : Call → ℕ → Blamed
