@@ -1,0 +1,55 @@
+"""How a command ends: its lines on standard output with status 0 or 1, or one sentence on standard error with status 2.
+
+Nothing is written before all is known, so that a command that could not ask its questions leaves standard output empty.
+"""
+
+from __future__ import annotations
+
+import os
+import signal
+import sys
+from collections.abc import Callable
+
+GOOD, REFUSED, STOPPED = 0, 1, 2
+
+
+class Stop(Exception):
+    """The sentence that is said where nothing could be asked."""
+
+
+def write(place: int, text: str) -> None:
+    """The whole text into an open file. Python's own streams are left out: they complain once more when the program ends."""
+    rest = memoryview(text.encode("ascii", "backslashreplace"))
+    while rest:
+        rest = rest[os.write(place, rest) :]
+
+
+def complain(sentence: str) -> None:
+    try:
+        write(2, sentence + "\n")
+    except OSError:
+        pass
+
+
+def put(lines: list[str]) -> bool:
+    """Whether the lines could be written. A reader that has gone away, such as head, needs no sentence."""
+    try:
+        write(1, "".join(line + "\n" for line in lines))
+        return True
+    except BrokenPipeError:
+        return False
+    except OSError:
+        complain("The output cannot be written.")
+        return False
+
+
+def run(command: Callable[[list[str]], tuple[list[str], int]]) -> None:
+    """Ends the program with what the command makes of its arguments."""
+    if signal.getsignal(signal.SIGINT) is signal.default_int_handler:
+        signal.signal(signal.SIGINT, signal.SIG_DFL)
+    try:
+        lines, status = command(sys.argv[1:])
+    except Stop as stop:
+        complain(str(stop))
+        sys.exit(STOPPED)
+    sys.exit(status if put(lines) else REFUSED)

@@ -1,0 +1,45 @@
+"""What the number of a refusal means, in a sentence, and which numbers each call gives (docs/DECISIONS.md, 'Order of tests')."""
+
+from __future__ import annotations
+
+SENTENCES = {
+    1: "The lists differ in length.",
+    2: "There are more than 256 jobs.",
+    3: "A number is above its limit.",
+    5: "The work needs more records than the log has room for.",
+    6: "The log has fewer records than are claimed.",
+    7: "The length of the log is no whole number of records.",
+    8: "The log is rejected, or it ends in no clash.",
+    30: "A number is missing, a word stands where a number has to be, or text is left over.",
+    31: "A number is above its limit, there are more than eight resources, or a job has more successors than there are jobs.",
+    32: "A successor is out of range.",
+    33: "The precedences have a cycle.",
+    34: "The horizon is shorter than the longest chain.",
+    35: "A heading is missing, stands twice or is out of order.",
+    36: "The buffer is too short for the text.",
+    37: "There is no such resource.",
+    38: "A lent list is not as long as there are jobs, or the room for pairs is too short.",
+}
+
+# The writer gives 32 for something else than the readers.
+WRITER = {32: "A pair is out of range or out of order."}
+
+GIVEN = {
+    "narrow": (1, 2, 3, 7, 5),
+    "check": (1, 2, 3, 7, 6),
+    "conflict": (1, 2, 3, 7, 6, 8),
+    "overload": (1, 2, 3),
+    "patterson": (31, 30, 32, 37, 38, 33, 34),
+    "psplib": (31, 35, 30, 32, 37, 38, 33, 34),
+    "write": (1, 2, 3, 32, 33, 36),
+}
+
+
+def is_given(call: str, number: int) -> bool:
+    return number in GIVEN[call]
+
+
+def refusal(call: str, number: int) -> str:
+    """The line that says a refusal."""
+    special = WRITER if call == "write" else {}
+    return f"refused {number}: {special.get(number, SENTENCES[number])}"
