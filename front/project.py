@@ -17,7 +17,7 @@ from typing import NamedTuple
 
 import asking
 import calls
-from ending import GOOD, REFUSED, Stop, run
+from ending import GOOD, REFUSED, Stop
 from layouts import Walked, layout_of, walked
 from limits import Limits, limits
 from refusals import refusal
@@ -189,7 +189,3 @@ def command(arguments: list[str]) -> tuple[list[str], int]:
     if len(arguments) not in (3, 4):
         raise Stop(USAGE)
     return answered(task_of(arguments, True))
-
-
-if __name__ == "__main__":
-    run(command)

@@ -119,7 +119,8 @@ def arguments() -> None:
     check("resource 1", said(TWO, "1", "auto"), ([SAYS[37], "hint: the text has one resource, 0."], 1))
     check("no resources", said(b"0 0", "0", "0"), ([SAYS[37], "hint: the text has no resources."], 1))
     check("no room", said(RCP, "0", "38", "0")[0][1:], [SAYS[5], "hint: give more RECORDS than 0; 10922 is the greatest number that is taken."])
-    check("no more room", said(b"2 1 1 30000 1 0 2 1 0", "0", "auto", "10922")[0][2:], [SAYS[5], "hint: 10922 is the greatest number of RECORDS that is taken."])
+    most = said(b"2 1 1 30000 1 0 2 1 0", "0", "auto", "10922")
+    check("no more room", most[0][2:], [SAYS[5], "hint: 10922 is the greatest number of RECORDS that is taken."])
     check("no room: status", said(RCP, "0", "38", "0")[1], 1)
     nine = b"2 1 1 18 1 0 2 1 0"
     check("010 is ten", said(nine, "0", "auto", "010")[0][2], "clash 9 1 2 0 0 2 18 18")
