@@ -1,4 +1,4 @@
-"""The calls as lines that the program takes, and its answers taken apart (the form stands in independent/README.md)."""
+"""The calls as lines that the program takes, and its answers taken apart (their form stands in docs/ANSWERS.md, 'The lines of `probe`')."""
 
 from __future__ import annotations
 

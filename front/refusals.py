@@ -1,4 +1,4 @@
-"""What the number of a refusal means, in a sentence, and which numbers each call gives (docs/DECISIONS.md, 'Order of tests')."""
+"""What the number of a refusal means, in the sentence that docs/ANSWERS.md has for it, and which numbers each call gives, in the order of its tests."""
 
 from __future__ import annotations
 

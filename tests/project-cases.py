@@ -14,6 +14,7 @@ sys.path.insert(0, str(TOP / "front"))
 
 from ending import Stop  # noqa: E402
 from project import command  # noqa: E402
+from refusals import SENTENCES, WRITER  # noqa: E402
 
 RCP = (TOP / "instances/j301_1.rcp").read_bytes()
 SM = (TOP / "instances/j301_1.sm").read_bytes()
@@ -159,7 +160,15 @@ def good() -> None:
     check("65,280 pairs", said(pairs, "0", "auto")[0][:2][-1][:20], "read 9 65280 256 0 1")
 
 
+def documented() -> None:
+    """The sentences are those of docs/ANSWERS.md."""
+    answers = (TOP / "docs/ANSWERS.md").read_text("utf-8")
+    for number, sentence in [*SENTENCES.items(), *WRITER.items()]:
+        check(("docs/ANSWERS.md", number), f"\n| {number} | {sentence} | " in answers, True)
+
+
 def main() -> int:
+    documented()
     texts()
     arguments()
     good()
