@@ -1,5 +1,5 @@
 // Lists packed into one list of words, one behind the other, each as its length and then its numbers: found, copied out and put back.
-// They stand as a line of input or output has them (independent/README.md). Nothing here knows of jobs.
+// They stand as a line of input or output has them (docs/ANSWERS.md). Nothing here knows of jobs.
 ghost use mathlib.Core.Path.{_≡_};
 ghost use Prim.Native.Nat.{min};
 ghost use Rattle.io.specs.Counts.{Counts};

@@ -1,4 +1,4 @@
-// Answers calls from standard input, one to a line, on standard output, a line for each (independent/README.md has the form):
+// Answers calls from standard input, one to a line, on standard output, a line for each (docs/ANSWERS.md has the form):
 //
 // narrow CAP est lct dur dem log
 // check CAP COUNT est lct dur dem log

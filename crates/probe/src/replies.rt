@@ -1,6 +1,6 @@
 // The reply to a line of input: the call that it asks for is made over the lists of the line, which stand packed in lent words and are changed there;
 // what it says goes into the sink, from its first byte on, and behind it the lists that the call may change, as they are afterwards, the part that `record`
-// shows, or the set that `conflict` gives (independent/README.md has the form). A function for each kind of call; it answers where the sink goes on.
+// shows, or the set that `conflict` gives (docs/ANSWERS.md has the form). A function for each kind of call; it answers where the sink goes on.
 use forms::Line;
 use requests::Call;
 use requests::Layout;

@@ -1,4 +1,4 @@
--- The calls' names and the form of each one's line, as independent/README.md has them under 'Lines'.
+-- The calls' names and the form of each one's line, as docs/ANSWERS.md has them under 'The lines of `probe`'.
 use Prim.Native.Nat.{ℕ}
 use mathlib.Core.Path.{_≡_}
 use mathlib.Core.Bool.{Bool, true, false}

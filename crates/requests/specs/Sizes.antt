@@ -1,4 +1,4 @@
--- The most that a line of `probe` may hold, as independent/README.md has it under 'Lines'; the library knows no such limit.
+-- The most that a line of `probe` may hold, as docs/ANSWERS.md has it under 'The lines of `probe`'; the library knows no such limit.
 use Prim.Native.Nat.{ℕ, suc, _+_, _*_}
 
 -- the entries of a list of jobs, of a log and of a list of pairs

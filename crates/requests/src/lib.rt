@@ -1,4 +1,4 @@
-// A call as a line of input asks it (independent/README.md has the forms): its name, its numbers, its lists and its bytes.
+// A call as a line of input asks it (docs/ANSWERS.md has the forms): its name, its numbers, its lists and its bytes.
 mod names; // names.rt: the calls' names, and the form of each one's line
 
 use forms::Line;
