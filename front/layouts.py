@@ -22,6 +22,9 @@ HEADINGS = (
     b"RESOURCEAVAILABILITIES:",
 )
 
+# What some editors put before a text: UTF-8 and both kinds of UTF-16.
+BYTE_ORDER_MARKS = (b"\xef\xbb\xbf", b"\xff\xfe", b"\xfe\xff")
+
 # A heading stands behind nothing but spaces on its line. None is the beginning of another.
 HEADING = re.compile(b"^ *(" + b"|".join(map(re.escape, HEADINGS)) + b")", re.MULTILINE)
 
@@ -60,9 +63,20 @@ def successors(row: Tokens, job: int, jobs: int) -> int:
     return count
 
 
+def job_count(row: Tokens, text: bytes, limits: Limits) -> int:
+    """Of a text without a heading. Where it does not even begin with a number it may have been meant for the other layout."""
+    try:
+        return at_most(row, limits.jobs, "the job count")
+    except Refused as refused:
+        if refused.number != 30 or not text.split():
+            raise
+        mark = ["the file begins with a byte order mark, which no number may have before it."] if text.startswith(BYTE_ORDER_MARKS) else []
+        raise Refused(30, *refused.hints, *mark, "no heading of the PSPLIB layout was found, so that the text was read in the Patterson layout.") from None
+
+
 def patterson(text: bytes, limits: Limits) -> Walked:
     row = tokens(text, 0, len(text))
-    jobs = at_most(row, limits.jobs, "the job count")
+    jobs = job_count(row, text, limits)
     resources = at_most(row, limits.resources, "the resource count")
     capacities(row, resources, limits)
     pairs = 0
@@ -77,10 +91,24 @@ def name(heading: int) -> str:
     return f'"{HEADINGS[heading].decode()}"'
 
 
-def heading_hint(heading: int, found: list[re.Match[bytes]]) -> str:
+def squeezed(text: bytes) -> bytes:
+    """Without blanks, and in small letters."""
+    return b"".join(text.split()).lower()
+
+
+def missing_hint(heading: int, text: bytes) -> str:
+    """A line may have the heading written in another way."""
+    like = squeezed(HEADINGS[heading])
+    for number, line in enumerate(text.split(b"\n"), 1):
+        if squeezed(line).startswith(like):
+            return f"the heading {name(heading)} is missing; line {number} is like it, but it has to be written just so, behind nothing but spaces."
+    return f"the heading {name(heading)} is missing."
+
+
+def heading_hint(heading: int, found: list[re.Match[bytes]], text: bytes) -> str:
     """What is wrong with the places of one heading; nothing where there is just one."""
     if not found:
-        return f"the heading {name(heading)} is missing."
+        return missing_hint(heading, text)
     if len(found) == 1:
         return ""
     first, second = (line_number(match.string, match.start()) for match in found[:2])
@@ -102,7 +130,7 @@ def heading_places(text: bytes) -> list[int]:
     found: list[list[re.Match[bytes]]] = [[] for _ in HEADINGS]
     for match in HEADING.finditer(text):
         found[HEADINGS.index(match[1])].append(match)
-    hints = [heading_hint(heading, matches) for heading, matches in enumerate(found)]
+    hints = [heading_hint(heading, matches, text) for heading, matches in enumerate(found)]
     if not any(hints):
         places = [matches[0].start() for matches in found]
         hints = [order_hint(places, text)]

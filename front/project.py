@@ -3,7 +3,7 @@ records (64 where none is named). Printed are the reader's answer as the program
 without the zero words behind the last other one. With `auto` the horizon is the least that the reader takes, and stands in a line before them.
 
 A refusal is printed in words, with status 1; hints to its cause are our own and marked as such. Where nothing could be asked there is one sentence on standard
-error, and status 2.
+error, behind what the program that is asked may say there, and status 2.
 
 ./project --line FILE RESOURCE HORIZON: prints the line that asks the program to read the file, and asks nothing.
 """
@@ -66,7 +66,7 @@ def bytes_of(file: str, most: int) -> bytes:
 def task_of(arguments: list[str], may_search: bool) -> Task:
     known = limits()
     file, resource_word, horizon_word, records_word = (*arguments, USUAL_RECORDS)[:4]
-    resource = number("RESOURCE", resource_word, known.number)
+    resource = number("RESOURCE", resource_word, known.number, "; 0 is the file's first")
     horizon = None
     if not (may_search and horizon_word == AUTO):
         horizon = number("HORIZON", horizon_word, known.number, ", or auto" if may_search else "")
@@ -132,11 +132,14 @@ def refused_lines(call: str, refused: int, hints: list[str]) -> list[str]:
     return [refusal(call, refused), *(f"hint: {hint}" for hint in hints)]
 
 
-def record_hints(task: Task) -> list[str]:
+def record_hints(task: Task, answer: calls.Answer) -> list[str]:
+    """As many records as the sum of l - e - p over the jobs and one more are always enough (docs/ANSWERS.md, refusal 5); no window that is read is too short."""
     most = task.limits.records
-    if task.records < most:
-        return [f"give more RECORDS than {task.records}; {most} is the greatest number that is taken."]
-    return [f"{most} is the greatest number of RECORDS that is taken."]
+    starts, ends, lengths = answer.lists[:3]
+    enough = sum(ends) - sum(starts) - sum(lengths) + 1
+    if enough <= most:
+        return [f"with RECORDS {enough} there is always room enough."]
+    return [f"up to {enough} records may be needed; {most} is the greatest number of RECORDS that is taken."]
 
 
 def record_lines(task: Task, count: int, log: list[int]) -> list[str]:
@@ -156,7 +159,7 @@ def narrowed(task: Task, answer: calls.Answer) -> tuple[list[str], int]:
     said = asking.answer(calls.narrowing(capacity, answer.lists[:4], words))
     word, numbers, lists = calls.understood("narrow", said, [task.walk.jobs] * 2 + [words])
     if word == "refused":
-        return refused_lines("narrow", numbers[0], record_hints(task) if numbers[0] == 5 else []), REFUSED
+        return refused_lines("narrow", numbers[0], record_hints(task, answer) if numbers[0] == 5 else []), REFUSED
     if numbers[0] > task.records:
         raise calls.no_answer()
     starts, ends, log = lists

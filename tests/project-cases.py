@@ -31,12 +31,17 @@ SAYS = {
     37: "refused 37: There is no such resource.",
 }
 
+NEARLY = " is missing; line %d is like it, but it has to be written just so, behind nothing but spaces."
+
 # A text for resource 0 with horizon 10; the refusal; the hint where there is one.
 TEXTS = [
     (b"", 30, "the text ends where the job count has to stand."),
     (b"\n \t\r\n", 30, "the text ends where the job count has to stand."),
     (b"\0 \xff 1", 30, r'line 1, column 1: "\x00" is no number (the job count).'),
     (b"\xef\xbb\xbf" + TWO, 30, r'line 1, column 1: "\xef\xbb\xbf2" is no number (the job count).'),
+    (SM.replace(b"REQUESTS/D", b"\tREQUESTS/D"), 35, 'the heading "REQUESTS/DURATIONS:"' + NEARLY % 52),
+    (SM.replace(b"PRECEDENCE RELATIONS:", b"Precedence  Relations:"), 35, 'the heading "PRECEDENCE RELATIONS:"' + NEARLY % 17),
+    (SM.replace(b"/sink ):", b"/sink):"), 35, 'the heading "jobs (incl. supersource/sink ):"' + NEARLY % 6),
     (b"1000000000000 -1", 31, 'line 1, column 1: "1000000000000" is above 256 (the job count).'),
     (b"-1 1000000000000", 30, 'line 1, column 1: "-1" is no number (the job count).'),
     (b"1000000000 -1 -1 -1 -1\n", 31, 'line 1, column 1: "1000000000" is above 256 (the job count).'),
@@ -110,7 +115,7 @@ def texts() -> None:
         lines = [SAYS[number], *([] if hint is None else [f"hint: {hint}"])]
         found = said(text, "0", "10")
         check(text[:60], (found[0][: len(lines)], found[1]), (lines, 1))
-        check((text[:60], "more hints"), all(line.endswith("is missing.") for line in found[0][len(lines) :]), True)
+        check((text[:60], "more hints"), all(line.endswith(("is missing.", "Patterson layout.", "before it.")) for line in found[0][len(lines) :]), True)
 
 
 def arguments() -> None:
@@ -119,13 +124,18 @@ def arguments() -> None:
     check("resource 4", said(RCP, "4", "38"), ([SAYS[37], "hint: the text has 4 resources, counted from 0: the last is 3."], 1))
     check("resource 1", said(TWO, "1", "auto"), ([SAYS[37], "hint: the text has one resource, 0."], 1))
     check("no resources", said(b"0 0", "0", "0"), ([SAYS[37], "hint: the text has no resources."], 1))
-    check("no room", said(RCP, "0", "38", "0")[0][1:], [SAYS[5], "hint: give more RECORDS than 0; 10922 is the greatest number that is taken."])
+    check("no room", said(RCP, "0", "38", "0")[0][1:], [SAYS[5], "hint: with RECORDS 203 there is always room enough."])
     most = said(b"2 1 1 30000 1 0 2 1 0", "0", "auto", "10922")
-    check("no more room", most[0][2:], [SAYS[5], "hint: 10922 is the greatest number of RECORDS that is taken."])
+    check("no more room", most[0][2:], [SAYS[5], "hint: up to 29999 records may be needed; 10922 is the greatest number of RECORDS that is taken."])
+    check("a mark", said(b"\xef\xbb\xbf" + TWO, "0", "10")[0][2:], [
+        "hint: the file begins with a byte order mark, which no number may have before it.",
+        "hint: no heading of the PSPLIB layout was found, so that the text was read in the Patterson layout.",
+    ])
+    check("no mark", len(said(b"", "0", "10")[0]) + len(said(b"1 x", "0", "10")[0]), 4)
     check("no room: status", said(RCP, "0", "38", "0")[1], 1)
     nine = b"2 1 1 18 1 0 2 1 0"
     check("010 is ten", said(nine, "0", "auto", "010")[0][2], "clash 9 1 2 0 0 2 18 18")
-    check("08 is eight", said(nine, "0", "auto", "08")[0][2:], [SAYS[5], "hint: give more RECORDS than 8; 10922 is the greatest number that is taken."])
+    check("08 is eight", said(nine, "0", "auto", "08")[0][2:], [SAYS[5], "hint: with RECORDS 17 there is always room enough."])
     for odd in ODD + GREAT:
         for words in ([odd, "38"], ["0", odd], ["0", "38", odd]):
             check(words, stopped([str(TOP / "instances/j301_1.rcp"), *words]), "HAS TO")
