@@ -128,8 +128,8 @@ def reader_hints(task: Task, horizon: int, refused: int) -> list[str]:
     return horizon_hints(task, horizon) if refused == 34 else []
 
 
-def refused_lines(call: str, refused: int, hints: list[str]) -> list[str]:
-    return [refusal(call, refused), *(f"hint: {hint}" for hint in hints)]
+def refused_lines(task: Task, call: str, refused: int, hints: list[str]) -> list[str]:
+    return [refusal(call, refused, task.limits), *(f"hint: {hint}" for hint in hints)]
 
 
 def record_hints(task: Task, answer: calls.Answer) -> list[str]:
@@ -159,7 +159,7 @@ def narrowed(task: Task, answer: calls.Answer) -> tuple[list[str], int]:
     said = asking.answer(calls.narrowing(capacity, answer.lists[:4], words))
     word, numbers, lists = calls.understood("narrow", said, [task.walk.jobs] * 2 + [words])
     if word == "refused":
-        return refused_lines("narrow", numbers[0], record_hints(task, answer) if numbers[0] == 5 else []), REFUSED
+        return refused_lines(task, "narrow", numbers[0], record_hints(task, answer) if numbers[0] == 5 else []), REFUSED
     if numbers[0] > task.records:
         raise calls.no_answer()
     starts, ends, log = lists
@@ -178,7 +178,7 @@ def answered(task: Task) -> tuple[list[str], int]:
         said, answer = read(task, horizon)
     if answer.word == "refused":
         refused = answer.numbers[0]
-        return before + refused_lines(task.layout, refused, reader_hints(task, horizon, refused)), REFUSED
+        return before + refused_lines(task, task.layout, refused, reader_hints(task, horizon, refused)), REFUSED
     lines, status = narrowed(task, answer)
     return [*before, said, *lines], status
 

@@ -1,17 +1,22 @@
-"""What the number of a refusal means, in the sentence that docs/ANSWERS.md has for it, and which numbers each call gives, in the order of its tests."""
+"""What the number of a refusal means, in the sentence that docs/ANSWERS.md has for it, and which numbers each call gives, in the order of its tests.
+
+The limits in a sentence are put in where it is said, since they stand in the sources.
+"""
 
 from __future__ import annotations
 
+from limits import Limits
+
 SENTENCES = {
     1: "The lists differ in length.",
-    2: "There are more than 256 jobs.",
+    2: "There are more than {jobs} jobs.",
     3: "A number is above its limit.",
     5: "The work needs more records than the log has room for.",
     6: "The log has fewer records than are claimed.",
     7: "The length of the log is no whole number of records.",
     8: "The log is rejected, or it ends in no clash.",
     30: "A number is missing, a word stands where a number has to be, or text is left over.",
-    31: "A number is above its limit, there are more than eight resources, or a job has more successors than there are jobs.",
+    31: "A number is above its limit, there are more than {resources} resources, or a job has more successors than there are jobs.",
     32: "A successor is out of range.",
     33: "The precedences have a cycle.",
     34: "The horizon is shorter than the longest chain.",
@@ -39,7 +44,8 @@ def is_given(call: str, number: int) -> bool:
     return number in GIVEN[call]
 
 
-def refusal(call: str, number: int) -> str:
+def refusal(call: str, number: int, limits: Limits) -> str:
     """The line that says a refusal."""
     special = WRITER if call == "write" else {}
-    return f"refused {number}: {special.get(number, SENTENCES[number])}"
+    sentence = special.get(number, SENTENCES[number]).format(jobs=limits.jobs, resources=limits.resources)
+    return f"refused {number}: {sentence}"

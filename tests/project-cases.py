@@ -13,23 +13,22 @@ TOP = Path(__file__).resolve().parent.parent
 sys.path.insert(0, str(TOP / "front"))
 
 from ending import Stop  # noqa: E402
+from limits import limits  # noqa: E402
 from project import command  # noqa: E402
-from refusals import SENTENCES, WRITER  # noqa: E402
+from refusals import GIVEN, refusal  # noqa: E402
 
 RCP = (TOP / "instances/j301_1.rcp").read_bytes()
 SM = (TOP / "instances/j301_1.sm").read_bytes()
 TWO = b"2 1\n5\n3 1 1 2\n4 2 0\n"
 
-SAYS = {
-    5: "refused 5: The work needs more records than the log has room for.",
-    30: "refused 30: A number is missing, a word stands where a number has to be, or text is left over.",
-    31: "refused 31: A number is above its limit, there are more than eight resources, or a job has more successors than there are jobs.",
-    32: "refused 32: A successor is out of range.",
-    33: "refused 33: The precedences have a cycle.",
-    34: "refused 34: The horizon is shorter than the longest chain.",
-    35: "refused 35: A heading is missing, stands twice or is out of order.",
-    37: "refused 37: There is no such resource.",
-}
+# docs/ANSWERS.md: the sentences of the refusals, as pairs of the number and the sentence, and of each call the numbers in the order of its tests. Numbers from 20
+# to 29 are codes of a record.
+ANSWERS = (TOP / "docs/ANSWERS.md").read_text("utf-8")
+TOLD = [(int(number), sentence) for number, sentence in re.findall(r"^\| (\d+) \| ([A-Z][^|]*\.) \| ", ANSWERS.split("## Refusals")[1].split("## Codes")[0], re.MULTILINE)]
+TESTS = {word: re.findall(r"\b(?!2\d\b)\d+\b", tests) for word, tests in re.findall(r"^\| `\w+` \| `(\w+)` \| [^|]* \| ([^|]*) \|$", ANSWERS, re.MULTILINE)}
+
+# The line that says a refusal of a reader or of narrowing; the first sentence of a number is theirs.
+SAYS = {number: f"refused {number}: {sentence}" for number, sentence in reversed(TOLD)}
 
 NEARLY = " is missing; line %d is like it, but it has to be written just so, behind nothing but spaces."
 
@@ -171,10 +170,12 @@ def good() -> None:
 
 
 def documented() -> None:
-    """The sentences are those of docs/ANSWERS.md."""
-    answers = (TOP / "docs/ANSWERS.md").read_text("utf-8")
-    for number, sentence in [*SENTENCES.items(), *WRITER.items()]:
-        check(("docs/ANSWERS.md", number), f"\n| {number} | {sentence} | " in answers, True)
+    """The sentences, and the order of each call's tests, are those of docs/ANSWERS.md."""
+    known = limits()
+    said = {(number, refusal(call, number, known)) for call, numbers in GIVEN.items() for number in numbers}
+    check("the sentences of docs/ANSWERS.md", said, {(number, f"refused {number}: {sentence}") for number, sentence in TOLD})
+    ordered = {word: list(dict.fromkeys(map(int, numbers))) for word, numbers in TESTS.items() if numbers}
+    check("the tests of docs/ANSWERS.md", ordered, {call: list(numbers) for call, numbers in GIVEN.items()})
 
 
 def main() -> int:
