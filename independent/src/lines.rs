@@ -12,7 +12,7 @@ use crate::text::Line;
 use crate::timetable::narrow;
 use crate::words::Words;
 use crate::writing::{self, Listing};
-use std::io::{BufRead, Write};
+use std::io::{BufRead, BufReader, Read, Write};
 
 pub const LONGEST_JOB_LIST: usize = 1_200;
 pub const LONGEST_LOG: usize = 131_072;
@@ -125,8 +125,11 @@ pub fn answer(line: &[u8]) -> String {
     }
 }
 
-/// Answers every line of the input; the last one may lack its line feed.
-pub fn answer_all(mut input: impl BufRead, mut output: impl Write) -> std::io::Result<()> {
+/// Answers every line of the input; the last one may lack its line feed. An answer
+/// is written out before more input is waited for; lines that are there already
+/// are answered first.
+pub fn answer_all(input: impl Read, mut output: impl Write) -> std::io::Result<()> {
+    let mut input = BufReader::new(input);
     let mut line = Vec::new();
     while input.read_until(b'\n', &mut line)? > 0 {
         if line.last() == Some(&b'\n') {
@@ -134,6 +137,9 @@ pub fn answer_all(mut input: impl BufRead, mut output: impl Write) -> std::io::R
         }
         writeln!(output, "{}", answer(&line))?;
         line.clear();
+        if !input.buffer().contains(&b'\n') {
+            output.flush()?;
+        }
     }
-    output.flush()
+    Ok(())
 }

@@ -34,6 +34,7 @@ mod sizes;
 mod spare;
 mod text_lines;
 mod texts;
+mod waiting;
 mod writing;
 
 use crate::answers::Answer;
