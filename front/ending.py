@@ -1,4 +1,4 @@
-"""How a command ends: its lines on standard output with status 0 or 1, or one sentence on standard error with status 2.
+"""How a command ends: its lines on standard output with the status that it gives, or where it stops the reason on standard error, with status 2 or another.
 
 Nothing is written before all is known, so that a command that could not ask its questions leaves standard output empty.
 """
@@ -14,21 +14,32 @@ GOOD, REFUSED, STOPPED = 0, 1, 2
 
 
 class Stop(Exception):
-    """The sentence that is said where nothing could be asked."""
+    """What is said where a command stops, mostly one sentence, and the status that it ends with."""
+
+    def __init__(self, text: str, status: int = STOPPED) -> None:
+        super().__init__(text)
+        self.status = status
 
 
 def write(place: int, text: str) -> None:
-    """The whole text into an open file. Python's own streams are left out: they complain once more when the program ends."""
-    rest = memoryview(text.encode("ascii", "backslashreplace"))
+    """The whole text into an open file, bytes of a file name that are no UTF-8 as their numbers. Python's own streams are left out: they complain once more
+    when the program ends.
+    """
+    rest = memoryview(text.encode("utf-8", "backslashreplace"))
     while rest:
         rest = rest[os.write(place, rest) :]
 
 
-def complain(sentence: str) -> None:
+def tell(text: str) -> None:
+    """On standard error, where that can be written."""
     try:
-        write(2, sentence + "\n")
+        write(2, text)
     except OSError:
         pass
+
+
+def complain(sentence: str) -> None:
+    tell(sentence + "\n")
 
 
 def put(lines: list[str]) -> bool:
@@ -51,5 +62,5 @@ def run(command: Callable[[list[str]], tuple[list[str], int]]) -> None:
         lines, status = command(sys.argv[1:])
     except Stop as stop:
         complain(str(stop))
-        sys.exit(STOPPED)
+        sys.exit(stop.status)
     sys.exit(status if put(lines) else REFUSED)
