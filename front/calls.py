@@ -5,7 +5,7 @@ from __future__ import annotations
 from collections.abc import Iterator, Sequence
 from typing import NamedTuple
 
-from ending import Stop
+from asking import no_answer
 from refusals import is_given
 
 # The numbers behind the word of an answer, by call.
@@ -55,10 +55,6 @@ def showing(log: Sequence[int], count: int, words: int) -> Iterator[str]:
         part = row(log[first * words : (first + PART) * words])
         for k in range(min(PART, count - first)):
             yield f"record {k} {part}"
-
-
-def no_answer() -> Stop:
-    return Stop("The program that is asked says something that is no answer.")
 
 
 def numbers_of(words: list[str]) -> list[int]:

@@ -15,8 +15,8 @@ import re
 import stat
 from typing import NamedTuple
 
-import asking
 import calls
+from asking import Program, no_answer, started
 from ending import GOOD, REFUSED, Stop
 from layouts import Walked, layout_of, walked
 from limits import Limits, limits
@@ -84,9 +84,9 @@ def reading_line(task: Task, horizon: int) -> str:
     return calls.reading(task.layout, task.resource, horizon, task.walk.jobs, room(task), task.text)
 
 
-def read(task: Task, horizon: int) -> tuple[str, calls.Answer]:
+def read(program: Program, task: Task, horizon: int) -> tuple[str, calls.Answer]:
     """What the program says, as it says it and taken apart."""
-    said = asking.answer(reading_line(task, horizon))
+    said = program.answer(reading_line(task, horizon))
     answer = calls.understood(task.layout, said, [task.walk.jobs] * 4 + [room(task)] * 2)
     if answer.word == "refused" and answer.numbers[0] == 38 and task.walk.pairs > room(task):
         raise Stop(f"FILE has {task.walk.pairs} pairs of jobs and successors; the program that is asked takes {room(task)}.")
@@ -99,11 +99,11 @@ def least_horizon(answer: calls.Answer) -> int:
     return max((start + length for start, length in zip(starts, lengths)), default=0)
 
 
-def horizon_hints(task: Task, horizon: int) -> list[str]:
+def horizon_hints(program: Program, task: Task, horizon: int) -> list[str]:
     """Behind refusal 34: the least horizon, from a reading with the greatest."""
     most = task.limits.time
     if horizon < most:
-        _, answer = read(task, most)
+        _, answer = read(program, task, most)
         if answer.word == "read":
             return [f"the least horizon that is taken is {least_horizon(answer)}."]
         if answer.numbers[0] != 34:
@@ -117,7 +117,7 @@ def resource_hints(walk: Walked) -> list[str]:
     return [f"the text has {walk.resources} resources, counted from 0: the last is {walk.resources - 1}."]
 
 
-def reader_hints(task: Task, horizon: int, refused: int) -> list[str]:
+def reader_hints(program: Program, task: Task, horizon: int, refused: int) -> list[str]:
     """Nothing where our own walk of the text does not come to the same number."""
     if horizon > task.limits.time:
         return [f"the horizon {horizon} is above {task.limits.time}."] if refused == 31 else []
@@ -125,7 +125,7 @@ def reader_hints(task: Task, horizon: int, refused: int) -> list[str]:
         return list(task.walk.hints) if refused == task.walk.refusal else []
     if refused == 37 and task.resource >= task.walk.resources:
         return resource_hints(task.walk)
-    return horizon_hints(task, horizon) if refused == 34 else []
+    return horizon_hints(program, task, horizon) if refused == 34 else []
 
 
 def refused_lines(task: Task, call: str, refused: int, hints: list[str]) -> list[str]:
@@ -142,10 +142,10 @@ def record_hints(task: Task, answer: calls.Answer) -> list[str]:
     return [f"up to {enough} records may be needed; {most} is the greatest number of RECORDS that is taken."]
 
 
-def record_lines(task: Task, count: int, log: list[int]) -> list[str]:
+def record_lines(program: Program, task: Task, count: int, log: list[int]) -> list[str]:
     """The records by the program's own call for them, without the zero words behind the last other one; the first four always stand there."""
     lines = []
-    for said in asking.answers(calls.showing(log, count, task.limits.record)):
+    for said in program.each(calls.showing(log, count, task.limits.record)):
         [words] = calls.understood("record", said, [task.limits.record]).lists
         while len(words) > task.limits.head and words[-1] == 0:
             words.pop()
@@ -153,33 +153,33 @@ def record_lines(task: Task, count: int, log: list[int]) -> list[str]:
     return lines
 
 
-def narrowed(task: Task, answer: calls.Answer) -> tuple[list[str], int]:
+def narrowed(program: Program, task: Task, answer: calls.Answer) -> tuple[list[str], int]:
     capacity = answer.numbers[0]
     words = task.records * task.limits.record
-    said = asking.answer(calls.narrowing(capacity, answer.lists[:4], words))
+    said = program.answer(calls.narrowing(capacity, answer.lists[:4], words))
     word, numbers, lists = calls.understood("narrow", said, [task.walk.jobs] * 2 + [words])
     if word == "refused":
         return refused_lines(task, "narrow", numbers[0], record_hints(task, answer) if numbers[0] == 5 else []), REFUSED
     if numbers[0] > task.records:
-        raise calls.no_answer()
+        raise no_answer()
     starts, ends, log = lists
     first = " ".join((word, *map(str, numbers), calls.row(starts), calls.row(ends)))
-    return [first, *record_lines(task, numbers[0], log)], GOOD
+    return [first, *record_lines(program, task, numbers[0], log)], GOOD
 
 
-def answered(task: Task) -> tuple[list[str], int]:
+def answered(program: Program, task: Task) -> tuple[list[str], int]:
     """The lines of the whole answer, and the status."""
     before: list[str] = []
     horizon = task.limits.time if task.horizon is None else task.horizon
-    said, answer = read(task, horizon)
+    said, answer = read(program, task, horizon)
     if task.horizon is None and answer.word == "read":
         horizon = least_horizon(answer)
         before = [f"horizon {horizon}"]
-        said, answer = read(task, horizon)
+        said, answer = read(program, task, horizon)
     if answer.word == "refused":
         refused = answer.numbers[0]
-        return before + refused_lines(task, task.layout, refused, reader_hints(task, horizon, refused)), REFUSED
-    lines, status = narrowed(task, answer)
+        return before + refused_lines(task, task.layout, refused, reader_hints(program, task, horizon, refused)), REFUSED
+    lines, status = narrowed(program, task, answer)
     return [*before, said, *lines], status
 
 
@@ -191,4 +191,6 @@ def command(arguments: list[str]) -> tuple[list[str], int]:
         return [reading_line(task, task.horizon)], GOOD
     if len(arguments) not in (3, 4):
         raise Stop(USAGE)
-    return answered(task_of(arguments, True))
+    task = task_of(arguments, True)
+    with started() as program:
+        return answered(program, task)
