@@ -47,6 +47,11 @@ def words() -> list[str]:
     return os.environ.get("PROBE", "").split() or [str(TOP / "run"), "probe"]
 
 
+def name() -> str:
+    """The program as it is told to people."""
+    return os.environ.get("PROBE", "").strip() or "./run probe"
+
+
 class Program:
     """The started program. It is fed as much as it takes without waiting, and what it says is heard meanwhile, so that neither side waits for the other."""
 

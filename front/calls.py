@@ -11,6 +11,8 @@ from refusals import is_given
 # The numbers behind the word of an answer, by call.
 HEADS = {
     "narrow": {"settled": 1, "clash": 2, "refused": 1},
+    "check": {"holds": 1, "clash": 2, "rejected": 2, "refused": 1},
+    "conflict": {"marked": 1, "refused": 1},
     "patterson": {"read": 2, "refused": 1},
     "psplib": {"read": 2, "refused": 1},
     "record": {"record": 0},
@@ -47,6 +49,11 @@ def reading(layout: str, resource: int, horizon: int, jobs: int, room: int, text
 def narrowing(capacity: int, lists: Sequence[Sequence[int]], words: int) -> str:
     """Earliest starts, latest ends, lengths and draws, with an empty log of so many words."""
     return " ".join(("narrow", str(capacity), *map(row, lists), zeros(words)))
+
+
+def judging(call: str, capacity: int, lists: Sequence[Sequence[int]], count: int, log: Sequence[int]) -> str:
+    """The claimed records of a log, for the checker (`check`) or for the jobs that cannot be done together (`conflict`)."""
+    return " ".join((call, str(capacity), str(count), *map(row, lists), row(log)))
 
 
 def showing(log: Sequence[int], count: int, words: int) -> Iterator[str]:

@@ -21,7 +21,8 @@ class Limits(NamedTuple):
     # Of a record: all its words, and those before the member set.
     record: int
     head: int
-    # Of a line: the longest lists of pairs and of log words, the longest text, the greatest number.
+    # Of a line: the longest lists of jobs, of pairs and of log words, the longest text, the greatest number.
+    line_jobs: int
     pairs: int
     log: int
     text: int
@@ -65,6 +66,7 @@ def limits() -> Limits:
         demand=constant("screen/src/lib.rt", "MOST_DEMAND"),
         record=constant("logbook/src/lib.rt", "RECORD"),
         head=constant("logbook/src/lib.rt", "HEAD"),
+        line_jobs=constant("requests/src/names.rt", "JOBS"),
         pairs=constant("requests/src/names.rt", "PAIRS"),
         log=constant("requests/src/names.rt", "LOG"),
         text=constant("requests/src/names.rt", "TEXT"),

@@ -1,4 +1,5 @@
-"""What the number of a refusal means, in the sentence that docs/ANSWERS.md has for it, and which numbers each call gives, in the order of its tests.
+"""What the number of a refusal or the code of a bad record means, in the sentence that docs/ANSWERS.md has for it, and which refusals each call gives, in the order
+of its tests.
 
 The limits in a sentence are put in where it is said, since they stand in the sources.
 """
@@ -29,6 +30,20 @@ SENTENCES = {
 # The writer gives 32 for something else than the readers.
 WRITER = {32: "A pair is out of range or out of order."}
 
+CODES = {
+    20: "An earlier record already closed a window, or one was too short before any.",
+    21: "Its job is not in the list, its side is above 1, or its time above {time:,}.",
+    22: "Its job or a member lasts 0 or draws 0, or a member is not in the list or is the moved job itself.",
+    23: "Its word 3, the number of members, is not the number of ones in the member set.",
+    24: "The demands named, members' and moved job's together, do not exceed the capacity: nothing follows.",
+    25: (
+        "A stated fact is not true of the windows reached so far: a member could start later than t, or earlier than t − p + 1; or the moved job could start earlier "
+        "than that (side 0), or later than t (side 1)."
+    ),
+    26: "The change tightens nothing: the bound is as tight already.",
+    27: "A member can be left out: without it the demands named still exceed the capacity.",
+}
+
 GIVEN = {
     "narrow": (1, 2, 3, 7, 5),
     "check": (1, 2, 3, 7, 6),
@@ -42,6 +57,11 @@ GIVEN = {
 
 def is_given(call: str, number: int) -> bool:
     return number in GIVEN[call]
+
+
+def code(number: int, limits: Limits) -> str:
+    """The line that says why a record is bad."""
+    return f"code {number}: {CODES[number].format(time=limits.time)}"
 
 
 def refusal(call: str, number: int, limits: Limits) -> str:

@@ -15,16 +15,17 @@ sys.path.insert(0, str(TOP / "front"))
 from ending import Stop  # noqa: E402
 from limits import limits  # noqa: E402
 from project import command  # noqa: E402
-from refusals import GIVEN, refusal  # noqa: E402
+from refusals import CODES, GIVEN, code, refusal  # noqa: E402
 
 RCP = (TOP / "instances/j301_1.rcp").read_bytes()
 SM = (TOP / "instances/j301_1.sm").read_bytes()
 TWO = b"2 1\n5\n3 1 1 2\n4 2 0\n"
 
-# docs/ANSWERS.md: the sentences of the refusals, as pairs of the number and the sentence, and of each call the numbers in the order of its tests. Numbers from 20
-# to 29 are codes of a record.
+# docs/ANSWERS.md: the sentences of the refusals and of the codes, as pairs of the number and the sentence, and of each call the numbers in the order of its tests,
+# among which numbers from 20 to 29 are codes of a record.
 ANSWERS = (TOP / "docs/ANSWERS.md").read_text("utf-8")
 TOLD = [(int(number), sentence) for number, sentence in re.findall(r"^\| (\d+) \| ([A-Z][^|]*\.) \| ", ANSWERS.split("## Refusals")[1].split("## Codes")[0], re.MULTILINE)]
+MEANT = re.findall(r"^\| (\d+) \| ([A-Z][^|]*\.) \| ", ANSWERS.split("## Codes")[1].split("\n## ")[0], re.MULTILINE)
 TESTS = {word: re.findall(r"\b(?!2\d\b)\d+\b", tests) for word, tests in re.findall(r"^\| `\w+` \| `(\w+)` \| [^|]* \| ([^|]*) \|$", ANSWERS, re.MULTILINE)}
 
 # The line that says a refusal of a reader or of narrowing; the first sentence of a number is theirs.
@@ -170,10 +171,11 @@ def good() -> None:
 
 
 def documented() -> None:
-    """The sentences, and the order of each call's tests, are those of docs/ANSWERS.md."""
+    """The sentences of refusals and codes, and the order of each call's tests, are those of docs/ANSWERS.md."""
     known = limits()
     said = {(number, refusal(call, number, known)) for call, numbers in GIVEN.items() for number in numbers}
     check("the sentences of docs/ANSWERS.md", said, {(number, f"refused {number}: {sentence}") for number, sentence in TOLD})
+    check("the codes of docs/ANSWERS.md", [code(number, known) for number in CODES], [f"code {number}: {sentence}" for number, sentence in MEANT])
     ordered = {word: list(dict.fromkeys(map(int, numbers))) for word, numbers in TESTS.items() if numbers}
     check("the tests of docs/ANSWERS.md", ordered, {call: list(numbers) for call, numbers in GIVEN.items()})
 
