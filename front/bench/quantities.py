@@ -1,0 +1,97 @@
+"""Times and draws as a list has them: whole ticks and whole steps for the program, and the same in the list's own words for people.
+
+Nothing is rounded. A word that is no whole number of ticks or steps is no time, no length and no draw; what is said of a number of ticks or steps is read back as
+that number.
+"""
+
+from __future__ import annotations
+
+import re
+from typing import NamedTuple
+
+CLOCK, TICKS = "HH:MM", "ticks"
+HOUR = 60
+
+# No number of a list has more digits: a longer one is greater than every number that the program takes, and is told as such.
+DIGITS = 12
+
+
+class Times(NamedTuple):
+    """Ticks are minutes of a clock, on which the hours go on behind 24:00, or they are whatever the list means by them."""
+
+    clock: bool = False
+
+    @property
+    def form(self) -> str:
+        return CLOCK if self.clock else TICKS
+
+    def time(self, word: str) -> int | None:
+        """The ticks of a time, none where the word is no time."""
+        if not self.clock:
+            return whole(word)
+        said = re.fullmatch(r"([0-9]{1,6}):([0-5][0-9])", word, re.ASCII)
+        return int(said[1]) * HOUR + int(said[2]) if said else None
+
+    def length(self, word: str) -> int | None:
+        """With a clock a length is written like a time or as a number of minutes."""
+        if not self.clock or ":" in word:
+            return self.time(word)
+        return whole(word[:-3].rstrip() if word.endswith("min") else word)
+
+    def say(self, time: int) -> str:
+        return f"{time // HOUR:02d}:{time % HOUR:02d}" if self.clock else str(time)
+
+    def lasts(self, length: int) -> str:
+        return f"{length} min" if self.clock else str(length)
+
+    @property
+    def time_form(self) -> str:
+        return "a time HH:MM" if self.clock else "a whole number of ticks"
+
+    @property
+    def length_form(self) -> str:
+        return "a length HH:MM or a whole number of minutes" if self.clock else self.time_form
+
+
+class Draws(NamedTuple):
+    """A step is so many units of the last of so many decimals: 0.25 A is 25 of the second."""
+
+    step: int = 1
+    places: int = 0
+    unit: str = ""
+
+    def draw(self, word: str, comma: bool = False) -> int | None:
+        """The steps of a draw, with its unit or without; none where the word is no draw or the step cannot hold it.
+
+        No more decimals are taken than the step has: 1.000 may be a thousand where somebody else has written it. A decimal comma is taken where commas do not part cells.
+        """
+        number = word[: -len(self.unit)].rstrip() if self.unit and word.endswith(self.unit) else word
+        said = re.fullmatch(r"([0-9]+)(?:[.,]([0-9]+))?" if comma else r"([0-9]+)(?:\.([0-9]+))?", number, re.ASCII)
+        decimals = (said[2] or "") if said else ""
+        if not said or len(decimals) > self.places or len(number) > DIGITS:
+            return None
+        scaled = int(said[1] + decimals.ljust(self.places, "0"))
+        return None if scaled % self.step else scaled // self.step
+
+    def say(self, steps: int) -> str:
+        digits = str(steps * self.step).rjust(self.places + 1, "0")
+        number = f"{digits[: -self.places]}.{digits[-self.places :]}" if self.places else digits
+        return f"{number} {self.unit}" if self.unit else number
+
+    @property
+    def form(self) -> str:
+        return f"a whole number of steps of {self.say(1)}"
+
+
+def whole(word: str) -> int | None:
+    return int(word) if re.fullmatch(rf"[0-9]{{1,{DIGITS}}}", word, re.ASCII) else None
+
+
+def step_of(word: str) -> Draws | None:
+    """The step that is written so, as `0.1 A`; none where that is no step."""
+    said = re.fullmatch(r"([0-9]{1,6})(?:\.([0-9]{1,6}))?(?:\s*([^\W\d_]+))?", word)
+    if not said:
+        return None
+    decimals = said[2] or ""
+    step = int(said[1] + decimals)
+    return Draws(step, len(decimals), said[3] or "") if step else None
