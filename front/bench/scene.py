@@ -2,12 +2,16 @@
 
 from __future__ import annotations
 
+from collections.abc import Iterable
 from typing import NamedTuple
 
 from .quantities import Draws, Times
 
 # An earliest start and a latest end.
 Window = tuple[int, int]
+
+# From a time up to another, and what is drawn there in any case.
+Stretch = tuple[int, int, int]
 
 
 class Row(NamedTuple):
@@ -29,3 +33,50 @@ class Scene(NamedTuple):
     draws: Draws
     supply: int
     rows: tuple[Row, ...]
+
+
+def too_short(row: Row) -> bool:
+    earliest, latest = row.now
+    return earliest + row.length > latest
+
+
+def sure(row: Row) -> Window | None:
+    """From when until when the unit is being read in any case; none where there is no such time, or no room for the read."""
+    earliest, latest = row.now
+    start, end = latest - row.length, earliest + row.length
+    return (start, end) if start < end <= latest else None
+
+
+def load(rows: Iterable[Row]) -> list[Stretch]:
+    """The sure load where there is any. Neighbours differ, or there is a gap between them."""
+    changes: dict[int, int] = {}
+    for row in rows:
+        stretch = sure(row)
+        if stretch and row.draw:
+            start, end = stretch
+            changes[start] = changes.get(start, 0) + row.draw
+            changes[end] = changes.get(end, 0) - row.draw
+    stretches: list[Stretch] = []
+    start = drawn = 0
+    for time in sorted(changes):
+        if changes[time]:
+            if drawn:
+                stretches.append((start, time, drawn))
+            start, drawn = time, drawn + changes[time]
+    return stretches
+
+
+def overdrawn(stretches: Iterable[Stretch], supply: int) -> list[Window]:
+    """Where the load exceeds the supply; neighbours are joined."""
+    joined: list[Window] = []
+    for start, end, drawn in stretches:
+        if drawn > supply:
+            before = joined.pop() if joined and joined[-1][1] == start else (start, start)
+            joined.append((before[0], end))
+    return joined
+
+
+def span(rows: Iterable[Row]) -> Window:
+    """From the first bound up to the last, and one tick where that is none."""
+    bounds = [bound for row in rows for bound in (*row.submitted, *row.now)] or [0]
+    return min(bounds), max(max(bounds), min(bounds) + 1)
