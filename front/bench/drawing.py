@@ -1,13 +1,14 @@
 """The elements of an SVG picture as text, and how much room words take in it.
 
-No font is at hand here. Words are measured by the widest of the fonts that are asked for, so that they rather end early than overlap; what no XML text may hold,
-such as a control character, is replaced.
+No font is at hand here. Words are measured by the widest of the fonts that are asked for, so that they rather end early than overlap; what no XML text may
+hold, such as a control character, is replaced.
 """
 
 from __future__ import annotations
 
 import re
 import unicodedata
+from collections.abc import Callable
 
 FONTS = "DejaVu Sans, Verdana, Arial, sans-serif"
 CUT = "\u2026"
@@ -57,16 +58,20 @@ def width(words: str, size: float, bold: bool = False) -> float:
     return sum(map(part, words)) * size * (BOLD if bold else 1)
 
 
-def cut(words: str, room: float, size: float, bold: bool = False) -> str:
-    """The words, or as many of their characters as there is room for, and a sign that there are more."""
-    if width(words, size, bold) <= room:
-        return words
-    left = room - width(CUT, size, bold)
-    for at, character in enumerate(words):
-        left -= width(character, size, bold)
-        if left < 0:
-            return words[:at].rstrip() + CUT
+def shortened(words: str, room: float, wide: Callable[[str], float], sign: str) -> str:
+    """The words, or as many of their characters as leave room for a sign that there are more."""
+    less = room - sum(map(wide, sign))
+    taken, kept = 0.0, 0
+    for at, character in enumerate(words, 1):
+        taken += wide(character)
+        if taken > room:
+            return words[:kept].rstrip() + sign
+        kept = at if taken <= less else kept
     return words
+
+
+def cut(words: str, room: float, size: float, bold: bool = False) -> str:
+    return shortened(words, room / (size * (BOLD if bold else 1)), part, CUT)
 
 
 def element(name: str, attributes: dict[str, object], inside: str = "") -> str:

@@ -11,7 +11,7 @@ CLOCK_STEPS = (1, 2, 5, 10, 15, 30, HOUR, 2 * HOUR, 3 * HOUR, 4 * HOUR, 6 * HOUR
 
 
 def step_from(least: float, multiple: int = 1) -> int:
-    """The smallest of 1, 2, 5, 10, 20, 50, 100 and so on that is no less, and a multiple of the number given where there is one of at most ten times as much."""
+    """The smallest of 1, 2, 5, 10, 20, 50, 100 and so on that is no less, and a multiple of the number given where one of about that size is."""
     power = 1
     while 5 * power < least:
         power *= 10

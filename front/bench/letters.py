@@ -1,7 +1,7 @@
 """The picture of a list for a terminal: a row for each unit and one letter for so many ticks, below them what is drawn in any case against the supply.
 
-A letter stands for all of its ticks, and says that something is so in part of them at least. Signs are ASCII; names are as they are, but for characters that no
-terminal shows in a place of their own.
+A letter stands for all of its ticks, and says that something is so in part of them at least. Signs are ASCII; names are as they are, but for characters that
+no terminal shows in a place of their own.
 """
 
 from __future__ import annotations
@@ -10,7 +10,7 @@ from collections.abc import Callable, Iterator
 from itertools import count
 from typing import NamedTuple
 
-from .drawing import is_wide, joins
+from .drawing import is_wide, joins, shortened
 from .grid import marks, time_step
 from .quantities import HOUR, Times
 from .scene import Row, Scene, Stretch, Window, load, span, sure, too_short
@@ -22,7 +22,7 @@ CUT = ".."
 LEVELS = 5
 MORE = "more"
 
-# Ticks of a letter: these and their tenfolds, or with a clock what divides an hour or a day, and so many days. Steps of a time scale are multiples of each.
+# Ticks of a letter: these and their tenfolds, or with a clock what divides an hour or a day, and whole days. Each divides a step of the time scale.
 ONES = (1, 2, 4, 5, 8)
 CLOCK_ONES = (1, 2, 3, 4, 5, 6, 10, 12, 15, 20, 30, *(hours * HOUR for hours in (1, 2, 3, 4, 6, 8, 12)))
 
@@ -41,17 +41,17 @@ class Page(NamedTuple):
         return "".join(sign(start, start + self.ticks) for start in starts)
 
 
+def places(character: str) -> int:
+    return 0 if joins(character) else 2 if is_wide(character) else 1
+
+
 def columns_of(words: str) -> int:
-    return sum(0 if joins(character) else 2 if is_wide(character) else 1 for character in words)
+    return sum(map(places, words))
 
 
 def fitted(words: str, columns: int, right: bool = False) -> str:
     """The words in just so many columns, cut where they are longer."""
-    shown = "".join(character if character.isprintable() else "?" for character in words)
-    if columns_of(shown) > columns:
-        while columns_of(shown) > columns - len(CUT):
-            shown = shown[:-1]
-        shown += CUT
+    shown = shortened("".join(character if character.isprintable() else "?" for character in words), columns, places, CUT)
     blank = " " * (columns - columns_of(shown))
     return blank + shown if right else shown + blank
 

@@ -1,7 +1,7 @@
 """The picture of a list as SVG 1.1: a row for each unit with its windows, below them what is drawn in any case against the supply.
 
-The text depends on the scene alone. Each row is a group of the class `read`; its title, which a browser shows where the pointer rests, says all of the read and
-begins with the unit's name on a line of its own. Colours differ in lightness as well, and each has a second sign: a dash, a hatch, a bracket or bold letters.
+The text depends on the scene alone. Each row is a group of the class `read`; its title, which a browser shows where the pointer rests, says all of the read
+and begins with the unit's name on a line of its own. Colours differ in lightness as well; most have a second sign, such as a dash, a hatch or bold letters.
 """
 
 from __future__ import annotations
@@ -47,13 +47,17 @@ def edges(plan: Plan, window: Window) -> tuple[float, ...]:
     return (x, x + wide) if wide > 4 else (x + wide / 2,)
 
 
+def field(plan: Plan, index: int, count: int, **look: object) -> str:
+    """So many rows from the left of the picture to the right."""
+    return rect(MARGIN / 2, plan.top + index * plan.row, WIDTH - MARGIN, count * plan.row, **look)
+
+
 def bands(scene: Scene, plan: Plan, over: list[Window]) -> list[str]:
     """Behind all: every second row, or ten where they are thin, the marked rows, and the times at which too much is drawn in any case."""
     at_once = 10 if plan.thin else 1
     starts = range(at_once, len(scene.rows), 2 * at_once)
-    stripes = [rect(MARGIN / 2, plan.top + start * plan.row, WIDTH - MARGIN, min(at_once, len(scene.rows) - start) * plan.row, fill=STRIPE) for start in starts]
-    marked = [index for index, row in enumerate(scene.rows) if row.marked]
-    tinted = [rect(MARGIN / 2, plan.top + index * plan.row, WIDTH - MARGIN, plan.row, fill=MARKED) for index in marked]
+    stripes = [field(plan, start, min(at_once, len(scene.rows) - start), fill=STRIPE) for start in starts]
+    tinted = [field(plan, index, 1, fill=MARKED) for index, row in enumerate(scene.rows) if row.marked]
     crowded = [rect(x, plan.top, wide, plan.base - plan.top, fill=OVER) for x, wide in (plan.bar(*window, 1) for window in over)]
     return stripes + tinted + crowded
 
@@ -90,9 +94,8 @@ def reads(scene: Scene, plan: Plan) -> list[str]:
     names = name_places(scene, plan)
     lines = []
     for index, row in enumerate(scene.rows):
-        y = plan.top + index * plan.row
-        field = rect(MARGIN / 2, y, WIDTH - MARGIN, plan.row, fill="none", pointer_events="all")
-        inside = [field, *bars(row, plan, plan.middle(index)), *(words(scene, row, plan, index, names[index]) if index in names else [])]
+        rest = field(plan, index, 1, fill="none", pointer_events="all")
+        inside = [rest, *bars(row, plan, plan.middle(index)), *(words(scene, row, plan, index, names[index]) if index in names else [])]
         lines.append(f'<g class="read">{titled(said(scene, row))}{"".join(inside)}</g>')
     return lines
 

@@ -101,7 +101,7 @@ def planned(scene: Scene, peak: int, top: float) -> Plan:
 
 
 def name_places(scene: Scene, plan: Plan) -> dict[int, float]:
-    """The middle of the names that are shown, by the index of their row. In thin rows these are the marked ones, moved apart, and only some where they are too many."""
+    """The middle of each name that is shown, by the index of its row. In thin rows these are marked ones, as many as there is room for, moved apart."""
     if not plan.thin:
         return {index: plan.middle(index) for index in range(len(scene.rows))}
     high = plan.name_size + 2
