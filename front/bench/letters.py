@@ -11,7 +11,7 @@ from itertools import count
 from typing import NamedTuple
 
 from .drawing import is_wide, joins, shortened
-from .grid import marks, time_step
+from .grid import DAY, marks, time_step
 from .quantities import HOUR, Times
 from .scene import Row, Scene, Stretch, Window, load, span, sure, too_short
 
@@ -59,7 +59,7 @@ def fitted(words: str, columns: int, right: bool = False) -> str:
 def tick_counts(times: Times) -> Iterator[int]:
     if times.clock:
         yield from CLOCK_ONES
-    unit = 24 * HOUR if times.clock else 1
+    unit = DAY if times.clock else 1
     for power in count():
         yield from (one * 10**power * unit for one in ONES)
 
