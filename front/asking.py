@@ -112,20 +112,17 @@ class Program:
     def each(self, lines: Iterable[str]) -> Iterator[str]:
         """The answers, one by one; lines are taken as they are needed, a few ahead. Nothing else may be asked before the last answer is taken."""
         owed = 0
-        for line in lines:
-            if owed == AHEAD:
-                yield self.timed()
-                owed -= 1
-            self.give(line)
-            owed += 1
-        for _ in range(owed):
-            yield self.timed()
+        with Clock("The program is at work") as clock:
+            for line in lines:
+                if owed == AHEAD:
+                    yield self.taken(clock)
+                    owed -= 1
+                self.give(line)
+                owed += 1
+            for _ in range(owed):
+                yield self.taken(clock)
         if self.heard:
             raise not_one_each()
-
-    def timed(self) -> str:
-        with Clock("The program is at work") as clock:
-            return self.taken(clock)
 
     def answers(self, lines: Iterable[str]) -> list[str]:
         return list(self.each(lines))

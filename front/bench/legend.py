@@ -4,7 +4,7 @@ from __future__ import annotations
 
 from .drawing import line, path, rect, text, width
 from .looks import CLASH, IDLE, MARKED, NOW, OVER, SHORT, SUBMITTED, SURE
-from .plan import MARGIN, SIZE, WIDTH
+from .ground import MARGIN, SIZE, WIDTH
 from .scene import Scene, sure, too_short
 
 FIRST, LINE = 54, 20

@@ -11,7 +11,7 @@ from .drawing import cut, group, line, path, rect, text, titled, width
 from .grid import draw_step, marks, time_step
 from .legend import legend
 from .looks import CLASH, GRID, IDLE, INK, LOADED, MARKED, NOW, OVER, QUIET, RED, SHORT, STRIPE, SUBMITTED, SUPPLY, SURE, TOO_MUCH, Look, defs
-from .plan import FRAMED, GAP, LABEL_GAP, LOAD, MARGIN, SIZE, SMALL, TITLE_SIZE, WIDTH, Plan, name_places, planned
+from .ground import FRAMED, GAP, LABEL_GAP, LOAD, MARGIN, SIZE, SMALL, TITLE_SIZE, WIDTH, Ground, name_places, ground_of
 from .scene import Row, Scene, Stretch, Window, load, overdrawn, sure, too_short
 
 
@@ -19,83 +19,83 @@ def svg(scene: Scene) -> str:
     stretches = load(scene.rows)
     over = overdrawn(stretches, scene.supply)
     key, below = legend(scene, bool(over))
-    plan = planned(scene, max([scene.supply, *(drawn for _, _, drawn in stretches)]), below + 34)
-    size = {"width": WIDTH, "height": plan.height, "viewBox": f"0 0 {WIDTH} {drawing.number(plan.height)}"}
+    ground = ground_of(scene, max([scene.supply, *(drawn for _, _, drawn in stretches)]), below + 34)
+    size = {"width": WIDTH, "height": ground.height, "viewBox": f"0 0 {WIDTH} {drawing.number(ground.height)}"}
     look = {"font_family": drawing.FONTS, "font_size": SIZE, "fill": INK}
     elements = [
         titled(scene.title),
         defs(),
-        rect(0, 0, WIDTH, plan.height, fill="#ffffff"),
+        rect(0, 0, WIDTH, ground.height, fill="#ffffff"),
         text(MARGIN, 28, cut(scene.title, WIDTH - 2 * MARGIN, TITLE_SIZE, True), font_size=TITLE_SIZE, font_weight="bold"),
         *group("legend", key),
-        *group("bands", bands(scene, plan, over)),
-        *group("times", times(scene, plan)),
-        *heads(scene, plan),
-        *reads(scene, plan),
-        *group("scale", scale(scene, plan)),
-        *group("load", loads(scene, plan, stretches)),
-        *group("edges", [line(x, plan.top, x, plan.base, **CLASH) for window in over for x in edges(plan, window)]),
-        *supply(scene, plan),
+        *group("bands", bands(scene, ground, over)),
+        *group("times", times(scene, ground)),
+        *heads(scene, ground),
+        *reads(scene, ground),
+        *group("scale", scale(scene, ground)),
+        *group("load", loads(scene, ground, stretches)),
+        *group("edges", [line(x, ground.top, x, ground.base, **CLASH) for window in over for x in edges(ground, window)]),
+        *supply(scene, ground),
     ]
     whole = drawing.element("svg", {"xmlns": "http://www.w3.org/2000/svg", "version": "1.1", **size, **look}, "\n".join(("", *elements, "")))
     return f'<?xml version="1.0" encoding="UTF-8"?>\n{whole}\n'
 
 
-def edges(plan: Plan, window: Window) -> tuple[float, ...]:
+def edges(ground: Ground, window: Window) -> tuple[float, ...]:
     """Both ends of a window, or its middle where they are too near to be told apart."""
-    x, wide = plan.bar(*window, 1)
+    x, wide = ground.bar(*window, 1)
     return (x, x + wide) if wide > 4 else (x + wide / 2,)
 
 
-def field(plan: Plan, index: int, count: int, **look: object) -> str:
+def field(ground: Ground, index: int, count: int, **look: object) -> str:
     """So many rows from the left of the picture to the right."""
-    return rect(MARGIN / 2, plan.top + index * plan.row, WIDTH - MARGIN, count * plan.row, **look)
+    return rect(MARGIN / 2, ground.top + index * ground.row, WIDTH - MARGIN, count * ground.row, **look)
 
 
-def bands(scene: Scene, plan: Plan, over: list[Window]) -> list[str]:
+def bands(scene: Scene, ground: Ground, over: list[Window]) -> list[str]:
     """Behind all: every second row, or ten where they are thin, the marked rows, and the times at which too much is drawn in any case."""
-    at_once = 10 if plan.thin else 1
+    at_once = 10 if ground.thin else 1
     starts = range(at_once, len(scene.rows), 2 * at_once)
-    stripes = [field(plan, start, min(at_once, len(scene.rows) - start), fill=STRIPE) for start in starts]
-    tinted = [field(plan, index, 1, fill=MARKED) for index, row in enumerate(scene.rows) if row.marked]
-    crowded = [rect(x, plan.top, wide, plan.base - plan.top, fill=OVER) for x, wide in (plan.bar(*window, 1) for window in over)]
+    stripes = [field(ground, start, min(at_once, len(scene.rows) - start), fill=STRIPE) for start in starts]
+    tinted = [field(ground, index, 1, fill=MARKED) for index, row in enumerate(scene.rows) if row.marked]
+    crowded = [rect(x, ground.top, wide, ground.base - ground.top, fill=OVER) for x, wide in (ground.bar(*window, 1) for window in over)]
     return stripes + tinted + crowded
 
 
-def times(scene: Scene, plan: Plan) -> list[str]:
+def times(scene: Scene, ground: Ground) -> list[str]:
     """A line for each mark of the time scale, named above the rows and below the load."""
-    frame = [line(x, plan.top, x, plan.base, stroke=GRID) for x in (plan.left, plan.right)]
+    frame = [line(x, ground.top, x, ground.base, stroke=GRID) for x in (ground.left, ground.right)]
     if not scene.rows:
         return frame
-    first, last = plan.times
-    step = time_step(scene.times, (width(scene.times.say(last), SMALL) + LABEL_GAP) / plan.tick)
+    first, last = ground.times
+    step = time_step(scene.times, (width(scene.times.say(last), SMALL) + LABEL_GAP) / ground.tick)
     for time in marks(first, last, step):
-        x, words = plan.x(time), scene.times.say(time)
-        frame.append(line(x, plan.top, x, plan.base, stroke=GRID))
-        frame += [text(x, y, words, text_anchor="middle", font_size=SMALL, fill=QUIET) for y in (plan.top - 8, plan.base + 18)]
+        x, words = ground.x(time), scene.times.say(time)
+        frame.append(line(x, ground.top, x, ground.base, stroke=GRID))
+        frame += [text(x, y, words, text_anchor="middle", font_size=SMALL, fill=QUIET) for y in (ground.top - 8, ground.base + 18)]
     return frame
 
 
-def heads(scene: Scene, plan: Plan) -> list[str]:
-    y, look = plan.top - 8, {"font_size": SMALL, "fill": QUIET}
+def heads(scene: Scene, ground: Ground) -> list[str]:
+    y, look = ground.top - 8, {"font_size": SMALL, "fill": QUIET}
     if not scene.rows:
-        return [text(plan.left + GAP, plan.middle(0) + 4, "no reads", fill=QUIET)]
-    if plan.thin and not any(row.marked for row in scene.rows):
+        return [text(ground.left + GAP, ground.middle(0) + 4, "no reads", fill=QUIET)]
+    if ground.thin and not any(row.marked for row in scene.rows):
         return []
     return [
         text(MARGIN, y, "unit", **look),
-        text(plan.lasts, y, "lasts", text_anchor="end", **look),
-        text(plan.draws, y, "draws", text_anchor="end", **look),
+        text(ground.lasts, y, "lasts", text_anchor="end", **look),
+        text(ground.draws, y, "draws", text_anchor="end", **look),
     ]
 
 
-def reads(scene: Scene, plan: Plan) -> list[str]:
+def reads(scene: Scene, ground: Ground) -> list[str]:
     """Every row has a field that cannot be seen, so that its title shows wherever the pointer rests in it."""
-    names = name_places(scene, plan)
+    names = name_places(scene, ground)
     lines = []
     for index, row in enumerate(scene.rows):
-        rest = field(plan, index, 1, fill="none", pointer_events="all")
-        inside = [rest, *bars(row, plan, plan.middle(index)), *(words(scene, row, plan, index, names[index]) if index in names else [])]
+        rest = field(ground, index, 1, fill="none", pointer_events="all")
+        inside = [rest, *bars(row, ground, ground.middle(index)), *(words(scene, row, ground, index, names[index]) if index in names else [])]
         lines.append(f'<g class="read">{titled(said(scene, row))}{"".join(inside)}</g>')
     return lines
 
@@ -117,25 +117,25 @@ def said(scene: Scene, row: Row) -> str:
     ))
 
 
-def bars(row: Row, plan: Plan, middle: float) -> list[str]:
+def bars(row: Row, ground: Ground, middle: float) -> list[str]:
     """The submitted window is higher than the one now, so that both are seen where they are the same."""
-    high = plan.row * 0.72
-    now_high = high if plan.thin else high - 4
+    high = ground.row * 0.72
+    now_high = high if ground.thin else high - 4
     drawn = []
     if row.submitted[0] <= row.submitted[1]:
-        drawn.append(bar(plan, row.submitted, middle, high, SUBMITTED))
+        drawn.append(bar(ground, row.submitted, middle, high, SUBMITTED))
     if too_short(row):
-        return drawn + brackets(plan.x(row.now[0]), plan.x(row.now[1]), middle, high)
-    drawn.append(bar(plan, row.now, middle, now_high, NOW))
+        return drawn + brackets(ground.x(row.now[0]), ground.x(row.now[1]), middle, high)
+    drawn.append(bar(ground, row.now, middle, now_high, NOW))
     stretch = sure(row)
     if stretch:
-        drawn.append(bar(plan, stretch, middle, now_high, SURE if row.draw else IDLE))
+        drawn.append(bar(ground, stretch, middle, now_high, SURE if row.draw else IDLE))
     return drawn
 
 
-def bar(plan: Plan, window: Window, middle: float, high: float, looks: Look) -> str:
-    x, wide = plan.bar(*window, 2)
-    look = looks.short if wide < FRAMED else looks.thin if plan.thin else looks.framed
+def bar(ground: Ground, window: Window, middle: float, high: float, looks: Look) -> str:
+    x, wide = ground.bar(*window, 2)
+    look = looks.short if wide < FRAMED else looks.thin if ground.thin else looks.framed
     return rect(x, middle - high / 2, wide, high, **look)
 
 
@@ -148,47 +148,47 @@ def brackets(start: float, end: float, middle: float, high: float) -> list[str]:
     ]
 
 
-def words(scene: Scene, row: Row, plan: Plan, index: int, place: float) -> list[str]:
+def words(scene: Scene, row: Row, ground: Ground, index: int, place: float) -> list[str]:
     """The name at the left, the length and the draw at the right. A name that had to be moved is led to its row."""
-    size, y, x = plan.name_size, place + plan.name_size * 0.36, plan.left - GAP + 2
+    size, y, x = ground.name_size, place + ground.name_size * 0.36, ground.left - GAP + 2
     look = {"text_anchor": "end", "font_size": size}
     name = cut(row.unit, x - MARGIN, size, row.marked)
-    middle = plan.middle(index)
+    middle = ground.middle(index)
     return [
         text(x, y, name, **look, **({"font_weight": "bold"} if row.marked else {})),
-        *([path("M", x + 2, place, "L", plan.left, middle, stroke=QUIET)] if plan.thin else []),
-        text(plan.lasts, y, cut(scene.times.lasts(row.length), plan.lasts - plan.right - GAP / 2, size), **look),
-        text(plan.draws, y, cut(scene.draws.say(row.draw), plan.draws - plan.lasts - GAP / 2, size), **look),
+        *([path("M", x + 2, place, "L", ground.left, middle, stroke=QUIET)] if ground.thin else []),
+        text(ground.lasts, y, cut(scene.times.lasts(row.length), ground.lasts - ground.right - GAP / 2, size), **look),
+        text(ground.draws, y, cut(scene.draws.say(row.draw), ground.draws - ground.lasts - GAP / 2, size), **look),
     ]
 
 
-def scale(scene: Scene, plan: Plan) -> list[str]:
-    step = draw_step(scene.draws, plan.peak * 20 / LOAD)
-    drawn = [text(plan.left, plan.load_top - 12, "drawn in any case", fill=QUIET)]
-    for level in range(0, plan.peak + 1, step):
-        y, x = plan.level(level), plan.left - GAP + 2
-        drawn.append(line(plan.left, y, plan.right, y, stroke=GRID))
+def scale(scene: Scene, ground: Ground) -> list[str]:
+    step = draw_step(scene.draws, ground.peak * 20 / LOAD)
+    drawn = [text(ground.left, ground.load_top - 12, "drawn in any case", fill=QUIET)]
+    for level in range(0, ground.peak + 1, step):
+        y, x = ground.level(level), ground.left - GAP + 2
+        drawn.append(line(ground.left, y, ground.right, y, stroke=GRID))
         drawn.append(text(x, y + 4, cut(scene.draws.say(level), x - MARGIN, SMALL), text_anchor="end", font_size=SMALL, fill=QUIET))
     return drawn
 
 
-def loads(scene: Scene, plan: Plan, stretches: list[Stretch]) -> list[str]:
+def loads(scene: Scene, ground: Ground, stretches: list[Stretch]) -> list[str]:
     """What exceeds the supply is drawn last, so that it is seen however short it is."""
     drawn = []
     for start, end, steps in sorted(stretches, key=lambda stretch: stretch[2] > scene.supply):
-        (x, wide), top = plan.bar(start, end, 1), plan.level(steps)
+        (x, wide), top = ground.bar(start, end, 1), ground.level(steps)
         about = titled(f"{scene.times.say(start)} to {scene.times.say(end)}: {scene.draws.say(steps)} in any case")
         look = TOO_MUCH if steps > scene.supply else LOADED
-        drawn.append(rect(x, top, wide, plan.base - top, about, shape_rendering="crispEdges", **look))
+        drawn.append(rect(x, top, wide, ground.base - top, about, shape_rendering="crispEdges", **look))
     return drawn
 
 
-def supply(scene: Scene, plan: Plan) -> list[str]:
-    y, x = plan.level(scene.supply), plan.right + GAP
-    below = min(y, plan.base - 12)
+def supply(scene: Scene, ground: Ground) -> list[str]:
+    y, x = ground.level(scene.supply), ground.right + GAP
+    below = min(y, ground.base - 12)
     return [
-        line(plan.left, plan.base, plan.right, plan.base, stroke=QUIET),
-        line(plan.left, y, plan.right + GAP - 4, y, **SUPPLY),
+        line(ground.left, ground.base, ground.right, ground.base, stroke=QUIET),
+        line(ground.left, y, ground.right + GAP - 4, y, **SUPPLY),
         text(x, below - 1, "supply"),
-        text(x, below + 13, cut(scene.draws.say(scene.supply), plan.draws - x, SIZE, True), font_weight="bold"),
+        text(x, below + 13, cut(scene.draws.say(scene.supply), ground.draws - x, SIZE, True), font_weight="bold"),
     ]

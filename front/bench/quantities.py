@@ -12,7 +12,7 @@ from typing import NamedTuple
 CLOCK, TICKS = "HH:MM", "ticks"
 HOUR = 60
 
-# No number of a list has more digits: a longer one is greater than every number that the program takes, and is told as such.
+# A number of more digits is above every limit, and counts as another one that is.
 DIGITS = 12
 
 
@@ -29,8 +29,8 @@ class Times(NamedTuple):
         """The ticks of a time, none where the word is no time."""
         if not self.clock:
             return whole(word)
-        said = re.fullmatch(r"([0-9]{1,6}):([0-5][0-9])", word, re.ASCII)
-        return int(said[1]) * HOUR + int(said[2]) if said else None
+        said = re.fullmatch(r"([0-9]+):([0-5][0-9])", word)
+        return natural(said[1]) * HOUR + int(said[2]) if said else None
 
     def length(self, word: str) -> int | None:
         """With a clock a length is written like a time or as a number of minutes."""
@@ -66,11 +66,11 @@ class Draws(NamedTuple):
         No more decimals are taken than the step has: 1.000 may be a thousand where somebody else has written it. A decimal comma is taken where commas do not part cells.
         """
         number = word[: -len(self.unit)].rstrip() if self.unit and word.endswith(self.unit) else word
-        said = re.fullmatch(r"([0-9]+)(?:[.,]([0-9]+))?" if comma else r"([0-9]+)(?:\.([0-9]+))?", number, re.ASCII)
+        said = re.fullmatch(r"([0-9]+)(?:[.,]([0-9]+))?" if comma else r"([0-9]+)(?:\.([0-9]+))?", number)
         decimals = (said[2] or "") if said else ""
-        if not said or len(decimals) > self.places or len(number) > DIGITS:
+        if not said or len(decimals) > self.places:
             return None
-        scaled = int(said[1] + decimals.ljust(self.places, "0"))
+        scaled = natural(said[1]) * 10**self.places + int(decimals.ljust(self.places, "0") or "0")
         return None if scaled % self.step else scaled // self.step
 
     def say(self, steps: int) -> str:
@@ -83,8 +83,13 @@ class Draws(NamedTuple):
         return f"a whole number of steps of {self.say(1)}"
 
 
+def natural(digits: str) -> int:
+    significant = digits.lstrip("0")
+    return int(significant or "0") if len(significant) <= DIGITS else 10**DIGITS
+
+
 def whole(word: str) -> int | None:
-    return int(word) if re.fullmatch(rf"[0-9]{{1,{DIGITS}}}", word, re.ASCII) else None
+    return natural(word) if re.fullmatch("[0-9]+", word) else None
 
 
 def step_of(word: str) -> Draws | None:

@@ -27,7 +27,7 @@ NAME_ROW = 11.5
 LOAD, ABOVE_LOAD, BELOW_LOAD = 140, 52, 36
 
 
-class Plan(NamedTuple):
+class Ground(NamedTuple):
     """The frame stands from left to right; the rows from top to bottom. The load stands below, up to its own top for the peak."""
 
     times: Window
@@ -86,7 +86,7 @@ def column(widths: Iterable[float], least: float, most: float) -> float:
     return min(most, max([least, *widths]))
 
 
-def planned(scene: Scene, peak: int, top: float) -> Plan:
+def ground_of(scene: Scene, peak: int, top: float) -> Ground:
     """The names take no more than a quarter of the width."""
     rows, say = scene.rows, scene.draws.say
     row = max(THIN_ROW, min(ROW, ALL_ROWS / max(1, len(rows))))
@@ -97,19 +97,19 @@ def planned(scene: Scene, peak: int, top: float) -> Plan:
     draws_end = WIDTH - MARGIN
     lasts_end = draws_end - draws - GAP
     bottom = top + max(ROW, len(rows) * row)
-    return Plan(span(rows), MARGIN + left + GAP, lasts_end - lasts - GAP, lasts_end, draws_end, top, row, bottom, max(1, peak))
+    return Ground(span(rows), MARGIN + left + GAP, lasts_end - lasts - GAP, lasts_end, draws_end, top, row, bottom, max(1, peak))
 
 
-def name_places(scene: Scene, plan: Plan) -> dict[int, float]:
+def name_places(scene: Scene, ground: Ground) -> dict[int, float]:
     """The middle of each name that is shown, by the index of its row. In thin rows these are marked ones, as many as there is room for, moved apart."""
-    if not plan.thin:
-        return {index: plan.middle(index) for index in range(len(scene.rows))}
-    high = plan.name_size + 2
+    if not ground.thin:
+        return {index: ground.middle(index) for index in range(len(scene.rows))}
+    high = ground.name_size + 2
     marked = [index for index, row in enumerate(scene.rows) if row.marked]
-    shown = marked[:: max(1, -(-len(marked) // int((plan.bottom - plan.top) / high)))]
+    shown = marked[:: max(1, -(-len(marked) // int((ground.bottom - ground.top) / high)))]
     places: list[float] = []
     for index in shown:
-        places.append(max([plan.middle(index), *(place + high for place in places[-1:])]))
+        places.append(max([ground.middle(index), *(place + high for place in places[-1:])]))
     for after, place in enumerate(reversed(places)):
-        places[-1 - after] = min(place, plan.bottom - (after + 0.5) * high)
+        places[-1 - after] = min(place, ground.bottom - (after + 0.5) * high)
     return dict(zip(shown, places))

@@ -1,0 +1,156 @@
+"""./bench: a list of reads in; narrowed windows, reasons in sentences and a picture out. USAGE in front/bench/options.py says what can be asked.
+
+The windows that go in are always those of the file, with the starts that are fixed; what is written out is no list, so that no run can take another's windows for the
+submitted ones. Input is read before the program is started, and nothing is written before it has ended well.
+"""
+
+from __future__ import annotations
+
+import os
+import shutil
+import sys
+from typing import NamedTuple
+
+from asking import Unasked, name, started
+from ending import Stop
+from limits import Limits, limits
+from refusals import code
+
+from .case import CHECK, CHECK_ALONE, NARROW, PLAN, Case
+from .letters import letters
+from .logs import difference, log_lines
+from .logtext import Log, log_of_file
+from .model import model_lines
+from .objects import json_lines
+from .options import USAGE, Options, options_of
+from .picture import svg
+from .plans import Plan, fixed, plan_of
+from .projects import project_of, reads_of_project
+from .reads import Reads, reads_of
+from .sentences import Teller
+from .statuses import DISAGREE, REFUSED, SETTLED
+from .told import refused, told
+from .verdict import Desk, Verdict, submitted
+
+# The columns of a picture in letters where no terminal says how many it has.
+COLUMNS = 100
+
+
+class Prepared(NamedTuple):
+    """What is to be asked: the reads as submitted, the starts that are fixed, a plan or a log."""
+
+    kind: str
+    reads: Reads
+    starts: dict[int, int]
+    plan: Plan | None
+    log: Log | None
+
+
+def prepared(options: Options, reads: Reads | None, known: Limits) -> Prepared:
+    log = log_of_file(options.values["check"], known) if "check" in options.values else None
+    if reads is None:
+        return Prepared(CHECK_ALONE, log.reads, {}, None, log)
+    starts = fixed(options.fixes, reads)
+    plan = plan_of(options.values["plan"], reads) if "plan" in options.values else None
+    return Prepared(CHECK if log else PLAN if plan else NARROW, reads, plan.starts if plan else starts, plan, log)
+
+
+def unasked(bad: list[str], reads: Reads) -> tuple[Verdict, list[str]]:
+    windows = submitted(reads)
+    return Verdict("", (), windows, before=windows), bad
+
+
+def log_judged(file: str, log: Log, reads: Reads, desk: Desk) -> tuple[Verdict, list[str]]:
+    """What the checker says of a log, and what makes it bad."""
+    if other := difference(log.reads, reads):
+        return unasked([f"{file}: the log is not of this list: {other}."], reads)
+    verdict = desk.checked(log.records)
+    said = " ".join((verdict.word, *map(str, verdict.numbers)))
+    if verdict.word == "rejected":
+        place, number = verdict.numbers
+        claim = Teller(reads).claim(log.records[place])
+        return verdict, [f"{file}:{log.record_lines[place]}: the log is rejected at its record {place}, {code(number, desk.limits)}", *claim]
+    if verdict.word != "refused" and said != log.end:
+        return verdict, [f"{file}:{log.end_line}: the log's end says '{log.end}', and the checker '{said}'."]
+    return verdict, []
+
+
+def judged(options: Options, ready: Prepared, desk: Desk) -> Case:
+    if ready.log:
+        verdict, bad = log_judged(options.values["check"], ready.log, desk.reads, desk)
+    elif ready.plan and ready.plan.bad:
+        verdict, bad = unasked([f"The plan is bad: {why}." for why in ready.plan.bad], ready.reads)
+    else:
+        verdict, bad = desk.narrowed(), []
+    source = os.path.basename(options.file or options.values["check"])
+    return Case(source, ready.kind, ready.reads, desk.reads, ready.starts, verdict, bad)
+
+
+def spoken(options: Options, case: Case, desk: Desk) -> list[str]:
+    if "json" in options.named:
+        return json_lines(case)
+    if case.bad:
+        return list(case.bad)
+    if case.verdict.word == "refused":
+        return refused("check" if case.kind in (CHECK, CHECK_ALONE) else "narrow", case.verdict.numbers[0], case.asked, desk.limits)
+    lines = told(case, desk, "why" in options.named)
+    if "text-picture" in options.named:
+        columns = shutil.get_terminal_size((COLUMNS, 0)).columns if sys.stdout.isatty() else COLUMNS
+        lines += ["", *letters(case.scene(), columns)]
+    return lines
+
+
+def files_of(options: Options, case: Case) -> dict[str, list[str]]:
+    """What is to be written, where there is something to show."""
+    if case.bad or case.verdict.word == "refused":
+        return {}
+    makers = {"log": lambda: log_lines(case.asked, case.verdict), "picture": lambda: [svg(case.scene()).rstrip("\n")], "mzn": lambda: model_lines(case.asked)}
+    return {options.values[name]: make() for name, make in makers.items() if name in options.values}
+
+
+def guard(options: Options) -> None:
+    """No file that is read is written over, and none is written twice."""
+    inputs = [file for file in (options.file, options.values.get("plan"), options.values.get("check")) if file is not None]
+    outputs = [options.values[name] for name in ("log", "picture", "mzn") if name in options.values]
+    for place, file in enumerate(outputs):
+        for other in inputs + outputs[:place]:
+            if os.path.realpath(file) == os.path.realpath(other):
+                raise Stop(f"{file}: it would be written over.")
+
+
+def write(file: str, lines: list[str]) -> None:
+    try:
+        with open(file, "w", encoding="utf-8", newline="\n") as opened:
+            opened.writelines(line + "\n" for line in lines)
+    except (OSError, ValueError):
+        raise Stop(f"{file}: it cannot be written.") from None
+
+
+def answered(options: Options, known: Limits) -> tuple[list[str], dict[str, list[str]], int]:
+    """The lines, the files, and the status."""
+    reads = reads_of(options.file, known) if options.file is not None and not options.is_project else None
+    ready = prepared(options, reads, known) if reads or options.file is None else None
+    project = project_of(options, known) if options.is_project else None
+    with started() as program:
+        if project:
+            found = reads_of_project(program, project)
+            if isinstance(found, list):
+                return found, {}, REFUSED
+            ready = prepared(options, found, known)
+        desk = Desk(program, ready.reads.fixed(ready.starts), known)
+        case = judged(options, ready, desk)
+        return spoken(options, case, desk), files_of(options, case), case.status
+
+
+def command(words: list[str]) -> tuple[list[str], int]:
+    options = options_of(words)
+    if "help" in options.named:
+        return USAGE.split("\n"), SETTLED
+    guard(options)
+    try:
+        lines, files, status = answered(options, limits())
+    except Unasked as fault:
+        raise Stop(f"{fault} It is {name()}.", DISAGREE) from None
+    for file, text in files.items():
+        write(file, text)
+    return lines, status

@@ -1,0 +1,91 @@
+"""The header of a list: which column is which, by the names that people give them, in any order.
+
+A name may have its unit behind it, as `draw (A)`; that has to be the one in which the column is read. Columns of other names are not used, and that is said.
+"""
+
+from __future__ import annotations
+
+import re
+from typing import NamedTuple
+
+from .cells import Cell, Sheet
+from .notes import Units
+from .places import Fault
+from .quantities import CLOCK, TICKS
+
+# The columns of a list, with what is said of a cell in them.
+COLUMNS = {"unit": "the unit", "earliest": "the earliest start", "latest": "the latest end", "length": "the length", "draw": "the draw"}
+
+NAMES = {
+    "unit": ("unit", "read", "name", "job"),
+    "earliest": ("earliest", "earliest start", "from", "not before", "release", "est"),
+    "latest": ("latest", "latest end", "until", "to", "end by", "deadline", "lct"),
+    "length": ("length", "duration", "lasts", "dur"),
+    "draw": ("draw", "draws", "demand", "current", "dem"),
+}
+COLUMN = {name: column for column, names in NAMES.items() for name in names}
+
+NAME = re.compile(r"([^(\[]*?)\s*(?:[(\[]([^)\]]*)[)\]])?")
+
+
+class Header(NamedTuple):
+    """The column at each place, none where it is not used."""
+
+    columns: list[str | None]
+    unused: list[str]
+    faults: list[Fault]
+
+
+def taken_apart(cell: Cell, columns: dict[str, str]) -> tuple[str | None, str | None]:
+    """The column of that name and the unit behind it."""
+    said = NAME.fullmatch(cell.text)
+    if not said:
+        return None, None
+    return columns.get(" ".join(said[1].lower().split())), said[2]
+
+
+def units_known(column: str, units: Units) -> tuple[str, ...]:
+    """In what a column is read; nothing where that is not told, as what a tick is."""
+    if column == "draw":
+        return (units.draws.unit,) if units.draws.unit else ()
+    if not units.times.clock:
+        return ()
+    return (CLOCK, "min") if column == "length" else (CLOCK,)
+
+
+def unit_faults(sheet: Sheet, found: dict[str, tuple[Cell, str | None]], units: Units) -> list[Fault]:
+    """Units behind names that are not those of the list; where ticks have no name, different ones."""
+    faults, tick = [], None
+    for column, (cell, unit) in found.items():
+        known = units_known(column, units)
+        if unit is None or column == "unit":
+            continue
+        unit = unit.strip()
+        if column != "draw" and not known and unit != TICKS:
+            tick = tick or unit
+            known = (tick,)
+        if known and unit not in known:
+            faults.append(sheet.text.fault(cell.at, f"the column '{cell.text}' is read in {known[0]}"))
+    return faults
+
+
+def header_of(sheet: Sheet, units: Units, columns: dict[str, str] = COLUMN) -> Header:
+    """The first row. A row that could not be taken apart may have been the header, so nothing is said then of another one."""
+    wanted = list(dict.fromkeys(columns.values()))
+    if not sheet.rows:
+        return Header([], [], [] if sheet.faults else [Fault(1, 1, f"there is no header with {', '.join(wanted)}")])
+    places: list[str | None] = []
+    unused, faults, found = [], [], {}
+    for cell in sheet.rows[0]:
+        column, unit = taken_apart(cell, columns)
+        if column in found:
+            faults.append(sheet.text.fault(cell.at, f"the column '{cell.text}' is {column}, which '{found[column][0].text}' is already"))
+        places.append(column)
+        if column is None:
+            unused += [cell.text] if cell.text else []
+        else:
+            found.setdefault(column, (cell, unit))
+    missing = [column for column in wanted if column not in found]
+    if missing:
+        faults.append(sheet.text.fault(sheet.rows[0][0].at, f"the header has no column {', '.join(missing)}"))
+    return Header(places, unused, faults + unit_faults(sheet, found, units))

@@ -1,0 +1,140 @@
+"""A log file taken apart (docs/ANSWERS.md, 'The log file'). Whoever wrote it, a line that is not as it has to be is told with its place, and so are all the others."""
+
+from __future__ import annotations
+
+import re
+from collections.abc import Callable
+from typing import NamedTuple
+
+from limits import Limits
+
+from .logs import NAME, version
+from .places import Fault, Text, stop, text_of
+from .quantities import CLOCK, TICKS, Draws, Times, natural, step_of
+from .reads import Reads, key, name_fault
+from .records import WORD, Record, set_words
+
+READ, RECORD, END = "read", "record", "end"
+
+# The first words of lines, in the order in which lines stand; of reads and records there may be any number.
+ORDER = (NAME, "time", "step", "supply", READ, RECORD, END)
+MANY = (READ, RECORD)
+
+
+class Log(NamedTuple):
+    """What a log file says, and the line of each record and of the end."""
+
+    reads: Reads
+    records: list[Record]
+    end: str
+    record_lines: list[int]
+    end_line: int
+
+
+class Taking:
+    def __init__(self, text: Text, limits: Limits) -> None:
+        self.text, self.limits = text, limits
+        self.faults: list[Fault] = []
+        self.found: dict[str, list] = {word: [] for word in ORDER}
+        self.lines: dict[str, list[int]] = {word: [] for word in ORDER}
+        self.known: dict[str, int] = {}
+        self.line = 0
+
+    def wrong(self, what: str, column: int = 1) -> None:
+        self.faults.append(Fault(self.line, column, what))
+
+    def number(self, word: str) -> int:
+        value = natural(word) if re.fullmatch("[0-9]+", word) else None
+        if value is None or value > self.limits.number:
+            self.wrong(f"'{word}' is no number from 0 to {self.limits.number}")
+        return value or 0
+
+    def numbers(self, rest: str) -> list[int]:
+        return [self.number(word) for word in rest.split(" ")]
+
+    def head(self, rest: str) -> None:
+        if rest != version():
+            self.wrong(f"the log has version '{rest}'; this command reads version {version()}")
+
+    def time(self, rest: str) -> Times:
+        if rest not in (CLOCK, TICKS):
+            self.wrong(f"the time '{rest}' is neither {CLOCK} nor {TICKS}")
+        return Times(rest == CLOCK)
+
+    def step(self, rest: str) -> Draws:
+        step = step_of(rest)
+        if step is None or step.say(1) != rest:
+            self.wrong(f"'{rest}' is no step")
+        return step or Draws()
+
+    def supply(self, rest: str) -> int:
+        return self.number(rest)
+
+    def read(self, rest: str) -> tuple[int, ...]:
+        said = re.fullmatch(r'([0-9]+ [0-9]+ [0-9]+ [0-9]+) "((?:[^"]|"")*)"', rest)
+        if not said:
+            self.wrong("a read has its earliest start, latest end, length, draw and, in quotes, its unit's name")
+            return 0, 0, 0, 0, ""
+        unit = said[2].replace('""', '"')
+        if what := name_fault(unit):
+            self.wrong(what)
+        elif key(unit) in self.known:
+            self.wrong(f"the unit '{unit}' is there already, in line {self.known[key(unit)]}")
+        self.known.setdefault(key(unit), self.line)
+        return *self.numbers(said[1]), unit
+
+    def record(self, rest: str) -> Record:
+        if rest.count(" ") < 2:
+            self.wrong("a record has the moved read, the side, the time and the members")
+            return Record(0, 0, 0, ())
+        job, side, time, *members = self.numbers(rest)
+        if any(member >= following for member, following in zip(members, members[1:])):
+            self.wrong("the members do not rise")
+        if members and max(members) >= WORD * set_words(self.limits):
+            self.wrong(f"no member set holds read {max(members)}")
+        return Record(job, side, time, tuple(members))
+
+    def end(self, rest: str) -> str:
+        if not re.fullmatch(r"holds [0-9]+|clash [0-9]+ [0-9]+", rest):
+            self.wrong("the end is 'holds' with the number of records, or 'clash' with that number and the read that clashes")
+        return rest
+
+    def take(self, line: str) -> None:
+        word, _, rest = line.partition(" ")
+        if word not in ORDER:
+            self.wrong(f"no line of a log begins with '{word}'" if word else "the line begins with no word")
+            return
+        behind = next((later for later in ORDER[ORDER.index(word) + (word in MANY) :] if self.lines[later]), None)
+        if behind:
+            self.wrong(f"a line '{word}' stands behind a line '{behind}'")
+        parts: dict[str, Callable[[str], object]] = {NAME: self.head, READ: self.read, RECORD: self.record, END: self.end}
+        part = parts.get(word) or getattr(self, word)
+        self.lines[word].append(self.line)
+        self.found[word].append(part(rest))
+
+    def taken(self) -> None:
+        """Every line, and what is missing among them."""
+        lines = self.text.letters.split("\n")
+        for self.line, line in enumerate(lines[:-1], 1):
+            self.take(line[:-1] if line.endswith("\r") else line)
+        self.line = len(lines)
+        if lines[-1]:
+            self.wrong("the last line is not ended")
+        for word in ORDER:
+            if word not in MANY and not self.lines[word]:
+                self.wrong(f"the log has no line '{word}'")
+        for word, most in ((READ, self.limits.line_jobs), (RECORD, self.limits.records)):
+            if len(self.lines[word]) > most:
+                self.line = self.lines[word][most]
+                self.wrong(f"the program takes up to {most} lines '{word}'")
+
+
+def log_of_file(file: str, limits: Limits) -> Log:
+    taking = Taking(text_of(file), limits)
+    taking.taken()
+    if taking.faults:
+        stop(file, taking.faults)
+    found = taking.found
+    *lists, units = map(list, zip(*found[READ])) if found[READ] else ([], [], [], [], [])
+    reads = Reads(units, *lists, found["supply"][0], found["time"][0], found["step"][0])
+    return Log(reads, found[RECORD], found[END][0], taking.lines[RECORD], taking.lines[END][0])

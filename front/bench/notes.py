@@ -1,0 +1,95 @@
+"""The lines of a list that say in what its numbers are: `# supply: 5.0 A`, `# time: HH:MM` or `# time: ticks`, `# step: 0.1 A`.
+
+They may stand anywhere, each once. Without a line for the time there are ticks; without one for the step, whole numbers of the supply's unit. Any other line that begins
+with # is a remark, unless it looks like a read: a read that is left out unseen would be the worst of errors.
+"""
+
+from __future__ import annotations
+
+import re
+from typing import NamedTuple
+
+from limits import Limits
+
+from .cells import Cell, Sheet
+from .places import Fault
+from .quantities import CLOCK, TICKS, Draws, Times, step_of
+
+SAID = re.compile(r"[ \t]*(supply|time|step)[ \t]*:[ \t]*", re.IGNORECASE)
+
+# As many cells as a list has columns.
+LIKE_A_READ = 5
+
+
+class Units(NamedTuple):
+    """Where the time or the step is not known, what stands in the rows cannot be judged."""
+
+    supply: int
+    times: Times
+    draws: Draws
+    faults: list[Fault]
+    known: bool
+
+
+class Taking:
+    def __init__(self, sheet: Sheet, limits: Limits) -> None:
+        self.sheet, self.limits = sheet, limits
+        self.faults: list[Fault] = []
+        self.said: dict[str, Cell] = {}
+
+    def wrong(self, cell: Cell, what: str) -> None:
+        self.faults.append(self.sheet.text.fault(cell.at, what))
+
+    def take(self, note: Cell) -> None:
+        mark = "," if self.sheet.comma else ";"
+        text = note.text.rstrip(mark + " \t")
+        said = SAID.match(text)
+        if not said:
+            if len([part for part in text.split(mark) if part.strip()]) >= LIKE_A_READ:
+                self.wrong(note, "this looks like a read, but behind # it is a remark: take the line out, or put the unit's name in quotes")
+            return
+        name, cell = said[1].lower(), Cell(note.at + said.end(), text[said.end() :].strip())
+        if name in self.said:
+            self.wrong(cell, f"a second line '# {name}:'")
+        self.said.setdefault(name, cell)
+
+    def times(self) -> Times:
+        cell = self.said.get("time")
+        if cell and cell.text.lower() not in (CLOCK.lower(), TICKS):
+            self.wrong(cell, f"the time '{cell.text}' is neither {CLOCK} nor {TICKS}")
+        return Times(bool(cell) and cell.text.lower() == CLOCK.lower())
+
+    def draws(self) -> Draws:
+        cell, supply = self.said.get("step"), self.said.get("supply")
+        if cell is None:
+            unit = re.search(r"[^\W\d_]*$", supply.text)[0] if supply else ""
+            return Draws(unit=unit)
+        step = step_of(cell.text)
+        if step is None:
+            self.wrong(cell, f"the step '{cell.text}' is no step such as 1, 0.1 A or 0.25 A")
+        return step or Draws()
+
+    def supply(self, draws: Draws) -> int:
+        cell = self.said.get("supply")
+        if cell is None:
+            self.faults.append(Fault(1, 1, "there is no line '# supply: ..'"))
+            return 0
+        value = draws.draw(cell.text, not self.sheet.comma)
+        if value is None:
+            self.wrong(cell, f"the supply '{cell.text}' is not {draws.form}")
+        elif value > self.limits.number:
+            self.wrong(cell, f"the supply '{cell.text}' is above every limit")
+        return value or 0
+
+
+def units_of(sheet: Sheet, limits: Limits) -> Units:
+    taking = Taking(sheet, limits)
+    for note in sheet.notes:
+        taking.take(note)
+    counts = [len(taking.faults)]
+    times = taking.times()
+    counts.append(len(taking.faults))
+    draws = taking.draws()
+    counts.append(len(taking.faults))
+    supply = taking.supply(draws) if counts[1] == counts[2] else 0
+    return Units(supply, times, draws, taking.faults, counts[0] == counts[2])

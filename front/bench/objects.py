@@ -1,0 +1,37 @@
+"""What the command tells programs (`--json`): one object on one line, with all times in ticks and all draws in steps (docs/ANSWERS.md, 'The object of ./bench')."""
+
+from __future__ import annotations
+
+import json
+
+from .case import CHECK, CHECK_ALONE, PLAN, Case
+from .statuses import SETTLED
+
+
+def answer_of(case: Case) -> dict[str, object]:
+    """The program's answer, with its numbers; `count` is of all records that it made or took. None stands there where nothing was asked."""
+    word, numbers = case.verdict.word, case.verdict.numbers
+    names = {"settled": ("count",), "holds": ("count",), "clash": ("count", "job"), "refused": ("refusal",), "rejected": ("record", "code")}
+    told: dict[str, object] = {"answer": word, **dict(zip(names[word], numbers))} if word else {}
+    judged = {PLAN: "plan", CHECK: "log", CHECK_ALONE: "log"}.get(case.kind)
+    if judged and word != "refused":
+        told[judged] = "good" if case.status == SETTLED or (judged == "log" and not case.bad) else "bad"
+    return told
+
+
+def object_of(case: Case) -> dict[str, object]:
+    reads, verdict = case.reads, case.verdict
+    names = ("unit", "earliest", "latest", "length", "draw")
+    rows = zip(reads.units, *reads.lists, verdict.windows)
+    return {
+        **answer_of(case),
+        "supply": reads.supply,
+        "reads": [{**dict(zip(names, row)), "now": list(row[-1])} for row in rows],
+        "records": [record._asdict() for record in verdict.records],
+        "sentences": list(case.bad or case.sentences()),
+        "together": [reads.units[job] for job in verdict.marked],
+    }
+
+
+def json_lines(case: Case) -> list[str]:
+    return [json.dumps(object_of(case), ensure_ascii=False)]

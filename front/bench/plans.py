@@ -1,0 +1,115 @@
+"""Starts that are given for reads: `--fix UNIT=TIME`, and a plan, which has a start for every read (a header with unit and start, then a row for each read)."""
+
+from __future__ import annotations
+
+from typing import NamedTuple
+
+from ending import Stop
+
+from .cells import Cell, Sheet, sheet_of
+from .headers import NAMES, header_of
+from .notes import Units
+from .places import Fault, stop, text_of
+from .reads import Reads, key
+from .sentences import Teller, quoted
+
+COLUMN = {**{name: "unit" for name in NAMES["unit"]}, **{name: "start" for name in ("start", "starts", "start time", "starts at", "at")}}
+
+
+class Plan(NamedTuple):
+    """The start of each read, and what makes the plan bad before its draws are looked at."""
+
+    starts: dict[int, int]
+    bad: list[str]
+
+
+def jobs_by_name(reads: Reads) -> dict[str, int]:
+    return {key(unit): job for job, unit in enumerate(reads.units)}
+
+
+def outside(reads: Reads, job: int, start: int) -> str | None:
+    """What is said of a start that is not in the read's submitted window."""
+    if reads.earliest[job] <= start and start + reads.lengths[job] <= reads.latest[job]:
+        return None
+    teller, times = Teller(reads), reads.times
+    window = teller.window((reads.earliest[job], reads.latest[job]))
+    return f"{quoted(reads.units[job])} would be read from {teller.window((start, start + reads.lengths[job]))}, outside its submitted window {window}"
+
+
+def fixed(words: list[str], reads: Reads) -> dict[int, int]:
+    """The starts that `--fix` gives."""
+    jobs, starts, wrong = jobs_by_name(reads), {}, []
+    for word in words:
+        unit, sign, time = word.rpartition("=")
+        job, start = jobs.get(key(unit.strip())), reads.times.time(time.strip())
+        if not sign:
+            wrong.append(f"--fix {word}: it has to be UNIT=TIME")
+        elif job is None:
+            wrong.append(f"--fix {word}: the list has no unit {quoted(unit.strip())}")
+        elif start is None:
+            wrong.append(f"--fix {word}: '{time.strip()}' is not {reads.times.time_form}")
+        elif job in starts:
+            wrong.append(f"--fix {word}: {quoted(unit.strip())} is fixed twice")
+        elif said := outside(reads, job, start):
+            wrong.append(f"--fix {word}: {said}")
+        else:
+            starts[job] = start
+    if wrong:
+        raise Stop("\n".join(wrong))
+    return starts
+
+
+class Rows:
+    def __init__(self, sheet: Sheet, columns: list[str | None], reads: Reads) -> None:
+        self.sheet, self.columns, self.reads = sheet, columns, reads
+        self.jobs = jobs_by_name(reads)
+        self.starts: dict[int, int] = {}
+        self.faults: list[Fault] = []
+
+    def wrong(self, cell: Cell, what: str) -> None:
+        self.faults.append(self.sheet.text.fault(cell.at, what))
+
+    def row(self, cells: list[Cell]) -> None:
+        if len(cells) < len(self.columns) or any(cell.text for cell in cells[len(self.columns) :]):
+            self.wrong(cells[0], f"this row has {len(cells)} cells, the header {len(self.columns)}")
+            return
+        found = dict(zip(self.columns, cells))
+        if "unit" not in found or "start" not in found:
+            return
+        unit, time = found["unit"], found["start"]
+        job, start = self.jobs.get(key(unit.text)), self.reads.times.time(time.text)
+        if job is None:
+            self.wrong(unit, f"the list has no unit {quoted(unit.text)}")
+        elif job in self.starts:
+            self.wrong(unit, f"{quoted(unit.text)} has a start already")
+        if start is None:
+            self.wrong(time, f"the start '{time.text}' is not {self.reads.times.time_form}")
+        if job is not None:
+            self.starts[job] = start or 0
+
+
+def broken_pairs(reads: Reads, starts: dict[int, int]) -> list[str]:
+    """Of a project: reads that start before one ends that comes first."""
+    bad = []
+    for first, then in reads.pairs:
+        if starts[first] + reads.lengths[first] > starts[then]:
+            end = reads.times.say(starts[first] + reads.lengths[first])
+            bad.append(f"{quoted(reads.units[then])} starts at {reads.times.say(starts[then])}, before {quoted(reads.units[first])}, which comes first, ends at {end}")
+    return bad
+
+
+def plan_of(file: str, reads: Reads) -> Plan:
+    sheet = sheet_of(text_of(file))
+    header = header_of(sheet, Units(0, reads.times, reads.draws, [], True), COLUMN)
+    rows = Rows(sheet, header.columns, reads)
+    for cells in sheet.rows[1:]:
+        rows.row(cells)
+    faults = [*sheet.faults, *header.faults, *rows.faults]
+    if faults:
+        stop(file, faults)
+    starts = rows.starts
+    missing = [job for job in range(len(reads.units)) if job not in starts]
+    if missing:
+        return Plan(starts, [f"it has no start for {Teller(reads).units(missing)}"])
+    bad = [said for job, start in starts.items() if (said := outside(reads, job, start))]
+    return Plan(starts, bad or broken_pairs(reads, starts))

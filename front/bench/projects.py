@@ -1,0 +1,26 @@
+"""A project of a partner as a list of reads: one resource of it, read by the proved readers. Jobs are named as in the partner's file, which counts from 1."""
+
+from __future__ import annotations
+
+from asking import Program
+from limits import Limits
+from reading import AUTO, Task, read, refused_lines, task_of
+
+from .options import Options
+from .quantities import Draws, Times
+from .reads import Reads
+
+
+def project_of(options: Options, known: Limits) -> Task:
+    return task_of(options.file, options.values["resource"], options.values.get("horizon", AUTO), known, (options.file, "--resource", "--horizon"))
+
+
+def reads_of_project(program: Program, task: Task) -> Reads | list[str]:
+    """The reads, or the lines that say why there are none."""
+    reading = read(program, task)
+    if reading.answer.word == "refused":
+        return refused_lines(program, task, reading)
+    supply, count = reading.answer.numbers
+    earliest, latest, lengths, demands, jobs, successors = reading.answer.lists
+    units = [f"job {place}" for place in range(1, len(earliest) + 1)]
+    return Reads(units, earliest, latest, lengths, demands, supply, Times(), Draws(), list(zip(jobs, successors))[:count])

@@ -1,0 +1,123 @@
+"""A list of reads: what an operator submits, from a sheet of cells.
+
+The windows of a list are those of its file, and nothing in this package writes another window into one.
+"""
+
+from __future__ import annotations
+
+import unicodedata
+from collections.abc import Sequence
+from typing import NamedTuple
+
+from limits import Limits
+
+from .cells import Cell, Sheet, sheet_of
+from .headers import COLUMNS, Header, header_of
+from .notes import Units, units_of
+from .places import Fault, stop, text_of
+from .quantities import Draws, Times
+
+
+class Reads(NamedTuple):
+    """Units, and of each its earliest start, latest end, length and draw, in ticks and steps; pairs of a read and one that follows it; columns that are not used."""
+
+    units: Sequence[str]
+    earliest: Sequence[int]
+    latest: Sequence[int]
+    lengths: Sequence[int]
+    demands: Sequence[int]
+    supply: int
+    times: Times
+    draws: Draws
+    pairs: Sequence[tuple[int, int]] = ()
+    unused: Sequence[str] = ()
+
+    @property
+    def lists(self) -> tuple[Sequence[int], ...]:
+        """As the program takes them."""
+        return self.earliest, self.latest, self.lengths, self.demands
+
+    def fixed(self, starts: dict[int, int]) -> Reads:
+        """The same reads, some of them with their start for a window."""
+        earliest = [starts.get(read, old) for read, old in enumerate(self.earliest)]
+        latest = [starts[read] + self.lengths[read] if read in starts else old for read, old in enumerate(self.latest)]
+        return self._replace(earliest=earliest, latest=latest)
+
+
+def key(unit: str) -> str:
+    """Names that look the same are the same."""
+    return unicodedata.normalize("NFC", unit)
+
+
+def name_fault(unit: str) -> str | None:
+    """What is wrong with the name of a unit. It is written into tables, pictures and logs as it is, so each letter of it has to be one that shows."""
+    if not unit:
+        return "a unit without a name"
+    hidden = next((letter for letter in unit if not letter.isprintable()), None)
+    return f"a unit's name has the letter U+{ord(hidden):04X}, which does not show" if hidden else None
+
+
+class Rows:
+    """The rows behind a header, read one by one."""
+
+    def __init__(self, sheet: Sheet, header: Header, units: Units, limits: Limits) -> None:
+        self.sheet, self.header, self.units, self.limits = sheet, header, units, limits
+        self.faults: list[Fault] = []
+        self.known: dict[str, int] = {}
+        self.found: dict[str, list] = {column: [] for column in COLUMNS}
+
+    def wrong(self, cell: Cell, what: str) -> None:
+        self.faults.append(self.sheet.text.fault(cell.at, what))
+
+    def number(self, column: str, cell: Cell) -> int:
+        """A time, a length or a draw; what is none is told."""
+        times, draws = self.units.times, self.units.draws
+        if not self.units.known:
+            return 0
+        if column == "draw":
+            value, form = draws.draw(cell.text, not self.sheet.comma), draws.form
+        elif column == "length":
+            value, form = times.length(cell.text), times.length_form
+        else:
+            value, form = times.time(cell.text), times.time_form
+        if value is None:
+            self.wrong(cell, f"{COLUMNS[column]} '{cell.text}' is not {form}")
+        elif value > self.limits.number:
+            self.wrong(cell, f"{COLUMNS[column]} '{cell.text}' is above every limit")
+        return value or 0
+
+    def unit(self, cell: Cell) -> str:
+        line, _ = self.sheet.text.place(cell.at)
+        if what := name_fault(cell.text):
+            self.wrong(cell, what)
+        elif key(cell.text) in self.known:
+            self.wrong(cell, f"the unit '{cell.text}' is there already, in line {self.known[key(cell.text)]}")
+        else:
+            self.known[key(cell.text)] = line
+        return cell.text
+
+    def row(self, cells: list[Cell]) -> None:
+        wide = len(self.header.columns)
+        if len(cells) < wide or any(cell.text for cell in cells[wide:]):
+            self.wrong(cells[0], f"this row has {len(cells)} cells, the header {wide}")
+            return
+        for column, cell in zip(self.header.columns, cells):
+            if column is not None:
+                self.found[column].append(self.unit(cell) if column == "unit" else self.number(column, cell))
+
+
+def reads_of(file: str, limits: Limits) -> Reads:
+    """The list in a file. All that is wrong with it is told at once."""
+    sheet = sheet_of(text_of(file))
+    units = units_of(sheet, limits)
+    header = header_of(sheet, units)
+    rows = Rows(sheet, header, units, limits)
+    for cells in sheet.rows[1:]:
+        rows.row(cells)
+    faults = [*sheet.faults, *units.faults, *header.faults, *rows.faults]
+    if faults:
+        stop(file, faults)
+    found = rows.found
+    if len(found["unit"]) > limits.line_jobs:
+        stop(file, [Fault(1, 1, f"there are {len(found['unit'])} reads; the program takes lists of up to {limits.line_jobs}")])
+    return Reads(found["unit"], found["earliest"], found["latest"], found["length"], found["draw"], units.supply, units.times, units.draws, (), header.unused)
