@@ -1,7 +1,8 @@
 """A text of comma-separated values (RFC 4180) taken apart into rows of cells, each with its place.
 
-Lines end with a line feed, with a carriage return before it or without. Cells are parted by commas, or by semicolons where the first row has one outside quotes. A
-cell in quotes may hold separators, line ends and doubled quotes; blanks around a cell do not count. A line that begins with # is a note. Rows without a letter are left out.
+Lines end with a line feed, with a carriage return before it or without. Cells are parted by commas, or by semicolons where the first row has one outside quotes.
+A cell in quotes may hold separators, line ends and doubled quotes; blanks around a cell do not count. A line that begins with # is a note. Rows whose cells are
+all empty are left out.
 """
 
 from __future__ import annotations
@@ -16,6 +17,9 @@ OPENED = re.compile(r'[ \t]*"')
 NOTE = re.compile(r"[ \t]*#([^\n]*)")
 LINE = re.compile(r"[^\n]*")
 END = re.compile(r"\r?\n")
+
+# What cannot stand in a cell without quotes.
+ODD = {"\r": "a carriage return without a line feed", '"': "a quote inside a cell without quotes"}
 
 
 class Cell(NamedTuple):
@@ -82,9 +86,7 @@ class Taking:
                 self.at += 1
                 continue
             if self.at < len(self.letters) and not END.match(self.letters, self.at):
-                letter = self.letters[self.at]
-                what = "a carriage return without a line feed" if letter == "\r" else "a quote inside a cell without quotes" if letter == '"' else "this stands behind a closing quote"
-                self.wrong(self.at, what)
+                self.wrong(self.at, ODD.get(self.letters[self.at], "this stands behind a closing quote"))
                 break
             return cells
         return []

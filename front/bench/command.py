@@ -1,7 +1,7 @@
 """./bench: a list of reads in; narrowed windows, reasons in sentences and a picture out. USAGE in front/bench/options.py says what can be asked.
 
-The windows that go in are always those of the file, with the starts that are fixed; what is written out is no list, so that no run can take another's windows for the
-submitted ones. Input is read before the program is started, and nothing is written before it has ended well.
+The windows that go in are always those of the file, with the starts that are fixed; what is written out is no list, so that no run can take another's windows for
+the submitted ones. Input is read before the program is started, and nothing is written before it has ended well.
 """
 
 from __future__ import annotations
@@ -104,7 +104,11 @@ def files_of(options: Options, case: Case) -> dict[str, list[str]]:
     """What is to be written, where there is something to show."""
     if case.bad or case.verdict.word == "refused":
         return {}
-    makers = {"log": lambda: log_lines(case.asked, case.verdict), "picture": lambda: [svg(case.scene()).rstrip("\n")], "mzn": lambda: model_lines(case.asked)}
+    makers = {
+        "log": lambda: log_lines(case.asked, case.verdict),
+        "picture": lambda: [svg(case.scene()).rstrip("\n")],
+        "mzn": lambda: model_lines(case.asked),
+    }
     return {options.values[name]: make() for name, make in makers.items() if name in options.values}
 
 

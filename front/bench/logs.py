@@ -1,4 +1,5 @@
-"""The log file: supply, reads with their names, records and the end, in a text that can be kept, mailed and checked without the list (docs/ANSWERS.md, 'The log file').
+"""The log file (docs/ANSWERS.md, 'The log file'): supply, reads with their names, records and the end, in a text that can be kept, mailed and checked without the
+list.
 
     tarqumbet-log 1
     time HH:MM
@@ -56,7 +57,11 @@ def log_lines(reads: Reads, verdict: Verdict) -> list[str]:
 
 def difference(log: Reads, reads: Reads) -> str | None:
     """The first thing in which a log's reads are not those of the list; none where there is no such thing."""
-    heads = (("time", log.times.form, reads.times.form), ("step", log.draws.say(1), reads.draws.say(1)), ("supply", log.draws.say(log.supply), reads.draws.say(reads.supply)))
+    heads = (
+        ("time", log.times.form, reads.times.form),
+        ("step", log.draws.say(1), reads.draws.say(1)),
+        ("supply", log.draws.say(log.supply), reads.draws.say(reads.supply)),
+    )
     for what, logged, listed in heads:
         if logged != listed:
             return f"the log's {what} is {logged}, the list's {listed}"

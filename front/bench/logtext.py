@@ -1,4 +1,4 @@
-"""A log file taken apart (docs/ANSWERS.md, 'The log file'). Whoever wrote it, a line that is not as it has to be is told with its place, and so are all the others."""
+"""A log file taken apart (docs/ANSWERS.md, 'The log file'). Every line that is not as it has to be is told with its place."""
 
 from __future__ import annotations
 

@@ -1,7 +1,7 @@
 """The lines of a list that say in what its numbers are: `# supply: 5.0 A`, `# time: HH:MM` or `# time: ticks`, `# step: 0.1 A`.
 
-They may stand anywhere, each once. Without a line for the time there are ticks; without one for the step, whole numbers of the supply's unit. Any other line that begins
-with # is a remark, unless it looks like a read: a read that is left out unseen would be the worst of errors.
+They may stand anywhere, each once. Without a line for the time there are ticks; without one for the step, whole numbers of the supply's unit. Any other line that
+begins with # is a remark, unless it looks like a read: a read that is left out unseen would be the worst of errors.
 """
 
 from __future__ import annotations

@@ -1,4 +1,4 @@
-"""What the command tells programs (`--json`): one object on one line, with all times in ticks and all draws in steps (docs/ANSWERS.md, 'The object of ./bench')."""
+"""What the command tells programs (`--json`): one object on one line, with all times in ticks and all draws in steps (docs/BENCH.md, 'For programs')."""
 
 from __future__ import annotations
 

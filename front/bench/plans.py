@@ -93,8 +93,8 @@ def broken_pairs(reads: Reads, starts: dict[int, int]) -> list[str]:
     bad = []
     for first, then in reads.pairs:
         if starts[first] + reads.lengths[first] > starts[then]:
-            end = reads.times.say(starts[first] + reads.lengths[first])
-            bad.append(f"{quoted(reads.units[then])} starts at {reads.times.say(starts[then])}, before {quoted(reads.units[first])}, which comes first, ends at {end}")
+            early, end = reads.times.say(starts[then]), reads.times.say(starts[first] + reads.lengths[first])
+            bad.append(f"{quoted(reads.units[then])} starts at {early}, before {quoted(reads.units[first])}, which comes first, ends at {end}")
     return bad
 
 

@@ -63,7 +63,8 @@ class Draws(NamedTuple):
     def draw(self, word: str, comma: bool = False) -> int | None:
         """The steps of a draw, with its unit or without; none where the word is no draw or the step cannot hold it.
 
-        No more decimals are taken than the step has: 1.000 may be a thousand where somebody else has written it. A decimal comma is taken where commas do not part cells.
+        No more decimals are taken than the step has: 1.000 may be a thousand where somebody else has written it. A decimal comma is taken where commas do not
+        part cells.
         """
         number = word[: -len(self.unit)].rstrip() if self.unit and word.endswith(self.unit) else word
         said = re.fullmatch(r"([0-9]+)(?:[.,]([0-9]+))?" if comma else r"([0-9]+)(?:\.([0-9]+))?", number)

@@ -19,7 +19,8 @@ from .quantities import Draws, Times
 
 
 class Reads(NamedTuple):
-    """Units, and of each its earliest start, latest end, length and draw, in ticks and steps; pairs of a read and one that follows it; columns that are not used."""
+    """Units, and of each its earliest start, latest end, length and draw, in ticks and steps; of a project pairs of a read and one that follows it; the columns of a
+    list that are not used."""
 
     units: Sequence[str]
     earliest: Sequence[int]
@@ -120,4 +121,4 @@ def reads_of(file: str, limits: Limits) -> Reads:
     found = rows.found
     if len(found["unit"]) > limits.line_jobs:
         stop(file, [Fault(1, 1, f"there are {len(found['unit'])} reads; the program takes lists of up to {limits.line_jobs}")])
-    return Reads(found["unit"], found["earliest"], found["latest"], found["length"], found["draw"], units.supply, units.times, units.draws, (), header.unused)
+    return Reads(*(found[column] for column in COLUMNS), units.supply, units.times, units.draws, unused=header.unused)

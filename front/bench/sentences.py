@@ -1,7 +1,7 @@
 """Records and answers as sentences, in the words of the list: its units' names, its times and its draws.
 
-A tick is a stretch of time: a read is read in the minute of 08:49, and starts or ends at an instant, 08:50. A sentence says what its records say and no more. Several
-records of one read, side and member set are one sentence: the same is said of each of their times.
+A tick is a stretch of time: a unit is read in the minute of 08:49, and its read starts or ends at an instant, 08:50. A sentence says what its records say and no
+more. Several records of one read, side and member set are one sentence: the same is said of each of their times.
 """
 
 from __future__ import annotations
@@ -88,7 +88,8 @@ class Teller:
     def too_short(self, job: int) -> str:
         """A clash without a record."""
         reads = self.reads
-        said = f"{self.units([job])} lasts {self.times.lasts(reads.lengths[job])}, and its window from {self.window((reads.earliest[job], reads.latest[job]))} is shorter, so no start is left for it."
+        window = self.window((reads.earliest[job], reads.latest[job]))
+        said = f"{self.units([job])} lasts {self.times.lasts(reads.lengths[job])}, and its window from {window} is shorter, so no start is left for it."
         if self.times.clock and reads.latest[job] < reads.earliest[job]:
             said += " (Behind midnight the hours go on: 25:00 is one o'clock on the next day.)"
         return said
@@ -97,7 +98,8 @@ class Teller:
         others = "with the starts that are fixed, whatever becomes of the others" if fixed else "whatever becomes of the others"
         if len(marked) == 1:
             return f"{self.units(marked)} cannot be read in its submitted window on this supply, {others}."
-        return f"{self.units(marked)} cannot be read together in their submitted windows on this supply, {others}: one of them has to get another window, or another day."
+        apart = f"{self.units(marked)} cannot be read together in their submitted windows on this supply, {others}"
+        return f"{apart}: one of them has to get another window, or another day."
 
     def overdrawn(self, record: Record) -> str:
         """A plan's clash: all starts are fixed, so the moved read is read at that time too."""

@@ -8,6 +8,7 @@ from limits import Limits
 from refusals import refusal
 
 from .case import CHECK, CHECK_ALONE, NARROW, PLAN, Case
+from .headers import COLUMNS
 from .reads import Reads
 from .sentences import Teller, listed, quoted
 from .table import NARROWED, PLANNED, table
@@ -33,18 +34,18 @@ def with_starts(case: Case) -> str:
 
 def settled(case: Case) -> str:
     moved = sum(now != then for now, then in zip(case.verdict.windows, submitted(case.asked)))
-    told = f"{moved} of {plural(len(case.reads.units), 'window')} narrowed, {plural(len(case.verdict.records), 'record')}"
-    taken = "all taken by the checker from the submitted windows"
+    told = f"{moved} of {plural(len(case.reads.units), 'window')} narrowed, by {plural(len(case.verdict.records), 'record')} that the checker took from the submitted windows"
+    told = told if moved else "no window can be narrowed"
     if case.starts:
-        return f"Settled with {with_starts(case)}: {told}, {taken}. This says what is left, not that there is a schedule."
-    return f"Settled: {told}, {taken}. Every schedule lies in the windows now; that there is one is not said."
+        return f"Settled with {with_starts(case)}: {told}. This says what is left, not that there is a schedule."
+    return f"Settled: {told}. Every schedule lies in the windows now; that there is one is not said."
 
 
 def clash(case: Case) -> str:
     reads = case.reads
     supply = reads.draws.say(reads.supply)
     made, needed = case.verdict.numbers[0], len(case.verdict.records)
-    taken = f"The checker took all {plural(made, 'record')} from the submitted windows" if made else "No record is needed, and the checker says the same"
+    taken = f"The checker took {'the record' if made == 1 else f'all {made} records'} from the submitted windows" if made else "The checker says the same"
     taken += f", and the {needed} that the clash needs by themselves." if needed < made else "."
     if case.starts:
         return f"Clash: no schedule on {supply} starts {with_starts(case)}. {taken}"
@@ -100,11 +101,14 @@ def told(case: Case, desk: Desk, why: bool) -> list[str]:
 
 def above(reads: Reads, limits: Limits) -> list[str]:
     """The numbers that are above their limits."""
-    kinds = (("the earliest start", limits.time, reads.times.say), ("the latest end", limits.time, reads.times.say), ("the length", limits.time, reads.times.lasts), ("the draw", limits.demand, reads.draws.say))
+    times, draws = reads.times, reads.draws
+    says = {"earliest": times.say, "latest": times.say, "length": times.lasts, "draw": draws.say}
     found = []
     if reads.supply > limits.demand:
-        found.append(f"The supply {reads.draws.say(reads.supply)} is above {reads.draws.say(limits.demand)}.")
-    for (what, most, say), numbers in zip(kinds, reads.lists):
+        found.append(f"The supply {draws.say(reads.supply)} is above {draws.say(limits.demand)}.")
+    for (column, say), numbers in zip(says.items(), reads.lists):
+        most = limits.demand if column == "draw" else limits.time
+        what = COLUMNS[column]
         found += [f"{quoted(reads.units[job])}: {what} {say(number)} is above {say(most)}." for job, number in enumerate(numbers) if number > most]
     return found
 

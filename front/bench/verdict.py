@@ -1,7 +1,7 @@
 """What narrowing, or a log by another hand, comes to on a list of reads: asked of the program, and told only where the checker says the same.
 
-Every log goes to the checker from the submitted windows. Where its word, its numbers or its windows are not those that they have to be, the program contradicts itself;
-that is said, with its name, and nothing else.
+Every log goes to the checker from the submitted windows. Where its word, its numbers or its windows are not those that they have to be, the program contradicts
+itself; that is said, with its name, and nothing else.
 """
 
 from __future__ import annotations
@@ -22,8 +22,8 @@ from .statuses import DISAGREE
 
 
 class Verdict(NamedTuple):
-    """The answer's word and its numbers; the windows that it leaves; the records that are told, in a clash those alone that it needs; the reads that cannot be read
-    together; and the windows before the closing record of a clash, in other answers those that it leaves."""
+    """The answer's word and its numbers; the windows that it leaves; the records that are told, in a clash those alone that it needs; the reads that cannot be
+    read together; and the windows before the closing record of a clash, in other answers those that it leaves."""
 
     word: str
     numbers: Sequence[int]
