@@ -45,7 +45,8 @@ def clash(case: Case) -> str:
     reads = case.reads
     supply = reads.draws.say(reads.supply)
     made, needed = case.verdict.numbers[0], len(case.verdict.records)
-    taken = f"The checker took {'the record' if made == 1 else f'all {made} records'} from the submitted windows" if made else "The checker says the same"
+    taken = f"The checker took {'the record' if made == 1 else f'all {made} records'}{'' if case.starts else ' from the submitted windows'}"
+    taken = taken if made else "The checker says the same"
     taken += f", and the {needed} that the clash needs by themselves." if needed < made else "."
     if case.starts:
         return f"Clash: no schedule on {supply} starts {with_starts(case)}. {taken}"
