@@ -21,11 +21,11 @@ from .letters import letters
 from .logs import difference, log_lines
 from .logtext import Log, log_of_file
 from .model import model_lines
-from .objects import json_lines
+from .objects import json_lines, refused_project
 from .options import USAGE, Options, options_of
 from .picture import svg
 from .plans import Plan, fixed, plan_of
-from .projects import project_of, reads_of_project
+from .projects import Refused, project_of, reads_of_project
 from .reads import Reads, reads_of
 from .sentences import Teller
 from .statuses import DISAGREE, REFUSED, SETTLED
@@ -87,12 +87,12 @@ def judged(options: Options, ready: Prepared, desk: Desk) -> Case:
 
 
 def spoken(options: Options, case: Case, desk: Desk) -> list[str]:
+    call = "check" if case.kind in (CHECK, CHECK_ALONE) else "narrow"
+    short = list(case.bad) or (refused(call, case.verdict.numbers[0], case.asked, desk.limits) if case.verdict.word == "refused" else [])
     if "json" in options.named:
-        return json_lines(case)
-    if case.bad:
-        return list(case.bad)
-    if case.verdict.word == "refused":
-        return refused("check" if case.kind in (CHECK, CHECK_ALONE) else "narrow", case.verdict.numbers[0], case.asked, desk.limits)
+        return json_lines(case, short or list(case.sentences()))
+    if short:
+        return short
     lines = told(case, desk, "why" in options.named)
     if "text-picture" in options.named:
         columns = shutil.get_terminal_size((COLUMNS, 0)).columns if sys.stdout.isatty() else COLUMNS
@@ -138,8 +138,8 @@ def answered(options: Options, known: Limits) -> tuple[list[str], dict[str, list
     with started() as program:
         if project:
             found = reads_of_project(program, project)
-            if isinstance(found, list):
-                return found, {}, REFUSED
+            if isinstance(found, Refused):
+                return refused_project(*found) if "json" in options.named else list(found.lines), {}, REFUSED
             ready = prepared(options, found, known)
         desk = Desk(program, ready.reads.fixed(ready.starts), known)
         case = judged(options, ready, desk)

@@ -3,6 +3,7 @@
 from __future__ import annotations
 
 import json
+from collections.abc import Sequence
 
 from .case import CHECK, CHECK_ALONE, PLAN, Case
 from .statuses import SETTLED
@@ -19,7 +20,7 @@ def answer_of(case: Case) -> dict[str, object]:
     return told
 
 
-def object_of(case: Case) -> dict[str, object]:
+def object_of(case: Case, sentences: Sequence[str]) -> dict[str, object]:
     reads, verdict = case.reads, case.verdict
     names = ("unit", "earliest", "latest", "length", "draw")
     rows = zip(reads.units, *reads.lists, verdict.windows)
@@ -28,10 +29,19 @@ def object_of(case: Case) -> dict[str, object]:
         "supply": reads.supply,
         "reads": [{**dict(zip(names, row)), "now": list(row[-1])} for row in rows],
         "records": [record._asdict() for record in verdict.records],
-        "sentences": list(case.bad or case.sentences()),
+        "sentences": list(sentences),
         "together": [reads.units[job] for job in verdict.marked],
     }
 
 
-def json_lines(case: Case) -> list[str]:
-    return [json.dumps(object_of(case), ensure_ascii=False)]
+def lines_of(told: dict[str, object]) -> list[str]:
+    return [json.dumps(told, ensure_ascii=False)]
+
+
+def json_lines(case: Case, sentences: Sequence[str]) -> list[str]:
+    return lines_of(object_of(case, sentences))
+
+
+def refused_project(refusal: int, sentences: Sequence[str]) -> list[str]:
+    """Where a reader has refused a project there are no reads."""
+    return lines_of({"answer": "refused", "refusal": refusal, "sentences": list(sentences)})

@@ -2,6 +2,8 @@
 
 from __future__ import annotations
 
+from typing import NamedTuple
+
 from asking import Program
 from limits import Limits
 from reading import AUTO, Task, read, refused_lines, task_of
@@ -15,11 +17,17 @@ def project_of(options: Options, known: Limits) -> Task:
     return task_of(options.file, options.values["resource"], options.values.get("horizon", AUTO), known, (options.file, "--resource", "--horizon"))
 
 
-def reads_of_project(program: Program, task: Task) -> Reads | list[str]:
-    """The reads, or the lines that say why there are none."""
+class Refused(NamedTuple):
+    """The reader's refusal, and the lines that say it."""
+
+    number: int
+    lines: list[str]
+
+
+def reads_of_project(program: Program, task: Task) -> Reads | Refused:
     reading = read(program, task)
     if reading.answer.word == "refused":
-        return refused_lines(program, task, reading)
+        return Refused(reading.answer.numbers[0], refused_lines(program, task, reading))
     supply, count = reading.answer.numbers
     earliest, latest, lengths, demands, jobs, successors = reading.answer.lists
     units = [f"job {place}" for place in range(1, len(earliest) + 1)]

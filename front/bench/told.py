@@ -47,10 +47,11 @@ def clash(case: Case) -> str:
     made, needed = case.verdict.numbers[0], len(case.verdict.records)
     taken = f"The checker took {'the record' if made == 1 else f'all {made} records'}{'' if case.starts else ' from the submitted windows'}"
     taken = taken if made else "The checker says the same"
-    taken += f", and the {needed} that the clash needs by themselves." if needed < made else "."
+    if needed < made:
+        taken += f", and {'the one that the clash needs by itself' if needed == 1 else f'the {needed} that the clash needs by themselves'}"
     if case.starts:
-        return f"Clash: no schedule on {supply} starts {with_starts(case)}. {taken}"
-    return f"Clash: {'this read has' if len(reads.units) == 1 else f'these {len(reads.units)} reads have'} no schedule on {supply}. {taken}"
+        return f"Clash: no schedule on {supply} starts {with_starts(case)}. {taken}."
+    return f"Clash: {'this read has' if len(reads.units) == 1 else f'these {len(reads.units)} reads have'} no schedule on {supply}. {taken}."
 
 
 def checked(case: Case) -> str:
