@@ -35,7 +35,7 @@ def with_starts(case: Case) -> str:
 def settled(case: Case) -> str:
     moved = sum(now != then for now, then in zip(case.verdict.windows, submitted(case.asked)))
     told = f"{moved} of {plural(len(case.reads.units), 'window')} narrowed, by {plural(len(case.verdict.records), 'record')} that the checker took from the submitted windows"
-    told = told if moved else "no window can be narrowed"
+    told = told if moved else "no window is narrowed"
     if case.starts:
         return f"Settled with {with_starts(case)}: {told}. This says what is left, not that there is a schedule."
     return f"Settled: {told}. Every schedule lies in the windows now; that there is one is not said."
