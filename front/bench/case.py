@@ -2,7 +2,7 @@
 
 from __future__ import annotations
 
-from collections.abc import Iterator, Sequence
+from collections.abc import Sequence
 from typing import NamedTuple
 
 from .reads import Reads
@@ -46,25 +46,23 @@ class Case(NamedTuple):
     def runs(self) -> list[Run]:
         return list(runs(self.verdict.records))
 
-    def sentences(self) -> Iterator[str]:
-        """One for each run of records, the last of a clash with why nothing is left."""
-        teller, verdict = Teller(self.asked), self.verdict
-        found = self.runs
-        if self.kind == PLAN and self.is_clash and verdict.records:
-            yield teller.overdrawn(verdict.records[-1])
-            return
-        for place, run in enumerate(found, 1):
-            said = teller.run(run)
-            if self.is_clash and place == len(found):
-                closing = run.records[-1]
-                said += f" {teller.closing(closing, verdict.before[closing.job])}"
-            yield said
-        if self.is_clash and not found:
-            yield teller.too_short(verdict.numbers[1])
+    def sentence(self, run: Run) -> str:
+        """Of a run of records; the last of a clash says why no start is left, and that of a plan, in which all starts are fixed, who overdraws the supply."""
+        teller, last = Teller(self.asked), run.records[-1]
+        if not self.is_clash or run.first + len(run.records) < len(self.verdict.records):
+            return teller.run(run)
+        return teller.overdrawn(last) if self.kind == PLAN else f"{teller.run(run)} {teller.closing(last, self.verdict.before[last.job])}"
+
+    def sentences(self) -> list[str]:
+        """One for each run; a clash without a record has one too."""
+        if self.is_clash and not self.verdict.records:
+            return [Teller(self.asked).too_short(self.verdict.numbers[1])]
+        return [self.sentence(run) for run in self.runs]
 
     def scene(self) -> Scene:
         reads, verdict = self.reads, self.verdict
         rows = zip(reads.units, submitted(reads), verdict.before, reads.lengths, reads.demands)
         marked = set(verdict.marked)
-        title = f"{self.name}: {verdict.word}, {len(reads.units)} reads, supply {reads.draws.say(reads.supply)}"
+        word = f"plan {'bad' if self.is_clash else 'good'}" if self.kind == PLAN else verdict.word
+        title = f"{self.name}: {word}, {len(reads.units)} reads, supply {reads.draws.say(reads.supply)}"
         return Scene(title, reads.times, reads.draws, reads.supply, tuple(Row(*row, job in marked) for job, row in enumerate(rows)))

@@ -90,7 +90,7 @@ def spoken(options: Options, case: Case, desk: Desk) -> list[str]:
     call = "check" if case.kind in (CHECK, CHECK_ALONE) else "narrow"
     short = list(case.bad) or (refused(call, case.verdict.numbers[0], case.asked, desk.limits) if case.verdict.word == "refused" else [])
     if "json" in options.named:
-        return json_lines(case, short or list(case.sentences()))
+        return json_lines(case, short or case.sentences())
     if short:
         return short
     lines = told(case, desk, "why" in options.named)
@@ -132,9 +132,8 @@ def write(file: str, lines: list[str]) -> None:
 
 def answered(options: Options, known: Limits) -> tuple[list[str], dict[str, list[str]], int]:
     """The lines, the files, and the status."""
-    reads = reads_of(options.file, known) if options.file is not None and not options.is_project else None
-    ready = prepared(options, reads, known) if reads or options.file is None else None
     project = project_of(options, known) if options.is_project else None
+    ready = None if project else prepared(options, reads_of(options.file, known) if options.file is not None else None, known)
     with started() as program:
         if project:
             found = reads_of_project(program, project)

@@ -34,6 +34,7 @@ PROJECT = re.compile(r"\.(sm|rcp)$", re.IGNORECASE)
 APART = (
     ("plan", "fix"),
     ("plan", "check"),
+    ("plan", "log"),
     ("check", "log"),
     ("json", "why"),
     ("json", "text-picture"),

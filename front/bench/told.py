@@ -79,12 +79,14 @@ def summary(case: Case) -> str:
 
 
 def reasons(case: Case, desk: Desk, why: bool) -> Iterator[str]:
-    runs = case.runs
-    windows = desk.after(case.verdict.records, [run.first for run in runs]) if why else iter(())
-    for place, said in enumerate(case.sentences()):
-        yield f"{place + 1}. {said}"
-        if why and place < len(runs):
-            yield from (f"     {line}" for line in Teller(case.asked).rests_on(runs[place], next(windows)))
+    """The sentences, numbered, and where that is asked for under each the windows that it rests on."""
+    runs, said = case.runs, case.sentences()
+    if not why or not runs:
+        yield from (f"{place}. {sentence}" for place, sentence in enumerate(said, 1))
+        return
+    for place, windows in enumerate(desk.after(case.verdict.records, [run.first for run in runs])):
+        yield f"{place + 1}. {said[place]}"
+        yield from (f"     {line}" for line in Teller(case.asked).rests_on(runs[place], windows))
 
 
 def told(case: Case, desk: Desk, why: bool) -> list[str]:

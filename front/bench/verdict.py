@@ -123,7 +123,7 @@ class Desk:
         shorter = log_of(records, self.limits)
         windows = submitted(self.reads)
         self.agrees("the log needs fewer records", self.check(len(records), shorter), "clash", [len(records), job], windows)
-        before = next(self.after(records, [len(records) - 1])) if records else windows
+        [before] = self.after(records, [len(records) - 1]) if records else [windows]
         return verdict._replace(records=records, marked=sorted(marked), before=before)
 
     def after(self, records: Sequence[Record], counts: Iterable[int]) -> Iterator[list[Window]]:
@@ -131,7 +131,7 @@ class Desk:
         counts = list(counts)
         reads, log, size = self.reads, log_of(records, self.limits), self.limits.record
         lines = (calls.judging("check", reads.supply, reads.lists, count, log[: count * size]) for count in counts)
-        for count, said in zip(counts, self.program.each(lines)):
+        for said, count in zip(self.program.each(lines), counts):
             answer = calls.understood("check", said, [len(reads.units)] * 2)
             if spoken(answer) != f"holds {count}":
                 raise contradicts(f"check takes the log, but of its first {count} records says '{spoken(answer)}'")
