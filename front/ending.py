@@ -38,14 +38,19 @@ def tell(text: str) -> None:
         pass
 
 
+def shown(text: str) -> str:
+    """Letters that do not show, such as those that steer a terminal, as their numbers."""
+    return "".join(letter if letter.isprintable() or letter == "\n" else letter.encode("unicode_escape").decode("ascii") for letter in text)
+
+
 def complain(sentence: str) -> None:
-    tell(sentence + "\n")
+    tell(shown(sentence) + "\n")
 
 
 def put(lines: list[str]) -> bool:
     """Whether the lines could be written. A reader that has gone away, such as head, needs no sentence."""
     try:
-        write(1, "".join(line + "\n" for line in lines))
+        write(1, shown("".join(line + "\n" for line in lines)))
         return True
     except BrokenPipeError:
         return False
@@ -63,4 +68,4 @@ def run(command: Callable[[list[str]], tuple[list[str], int]]) -> None:
     except Stop as stop:
         complain(str(stop))
         sys.exit(stop.status)
-    sys.exit(status if put(lines) else REFUSED)
+    sys.exit(status if put(lines) else STOPPED)

@@ -148,9 +148,9 @@ def signs(scene: Scene, root: ElementTree.Element, text: str) -> None:
     rows, over = scene.rows, overdrawn(load(scene.rows), scene.supply)
     there = {
         "submitted window": bool(rows),
-        "narrowed window": not all(map(too_short, rows)),
+        "narrowed window": any(sure(row) != row.now for row in rows if not too_short(row)),
         "being read in any case": any(sure(row) and row.draw for row in rows),
-        "the same, draws nothing": any(sure(row) and not row.draw for row in rows),
+        "being read in any case, draws nothing": any(sure(row) and not row.draw for row in rows),
         "window too short": any(map(too_short, rows)),
         "cannot be read together": any(row.marked for row in rows),
         "supply overdrawn in any case": bool(over),

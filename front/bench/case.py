@@ -7,8 +7,8 @@ from typing import NamedTuple
 
 from .reads import Reads
 from .records import Run, runs
-from .scene import Row, Scene, Window
-from .sentences import Teller
+from .scene import NARROWED, PLANNED, Row, Scene, Window, load, overdrawn
+from .sentences import Teller, plural
 from .statuses import CLASH, REFUSED, SETTLED
 from .verdict import Verdict, submitted
 
@@ -64,5 +64,11 @@ class Case(NamedTuple):
         rows = zip(reads.units, submitted(reads), verdict.before, reads.lengths, reads.demands)
         marked = set(verdict.marked)
         word = f"plan {'bad' if self.is_clash else 'good'}" if self.kind == PLAN else verdict.word
-        title = f"{self.name}: {word}, {len(reads.units)} reads, supply {reads.draws.say(reads.supply)}"
-        return Scene(title, reads.times, reads.draws, reads.supply, tuple(Row(*row, job in marked) for job, row in enumerate(rows)))
+        starts = f"{plural(len(self.starts), 'start')} fixed, " if self.starts and self.kind != PLAN else ""
+        title = f"{self.name}: {word}, {starts}{plural(len(reads.units), 'read')}, supply {reads.draws.say(reads.supply)}"
+        words = PLANNED if self.kind == PLAN else NARROWED
+        return Scene(title, reads.times, reads.draws, reads.supply, tuple(Row(*row, job in marked) for job, row in enumerate(rows)), words)
+
+    def overdrawn(self) -> list[Window]:
+        """Of a plan, from when until when more is drawn than the supply gives."""
+        return overdrawn(load(self.scene().rows), self.reads.supply)

@@ -1,8 +1,8 @@
 """A text of comma-separated values (RFC 4180) taken apart into rows of cells, each with its place.
 
-Lines end with a line feed, with a carriage return before it or without. Cells are parted by commas, or by semicolons where the first row has one outside quotes.
-A cell in quotes may hold separators, line ends and doubled quotes; blanks around a cell do not count. A line that begins with # is a note. Rows whose cells are
-all empty are left out.
+Lines end with a line feed, with a carriage return before it or without. Cells are parted by commas, or by semicolons where the first row has one outside quotes, or
+as a first line `sep=;` says. A cell in quotes may hold separators, line ends and doubled quotes; blanks around a cell do not count. A line that begins with # is a
+note, and so is a row of one cell that does, in quotes or not. Rows whose cells are all empty are left out.
 """
 
 from __future__ import annotations
@@ -10,16 +10,18 @@ from __future__ import annotations
 import re
 from typing import NamedTuple
 
-from .places import Fault, Text
+from .places import Fault, Text, stop
 
 QUOTED = re.compile(r'[ \t]*"([^"]*(?:""[^"]*)*)"[ \t]*')
 OPENED = re.compile(r'[ \t]*"')
 NOTE = re.compile(r"[ \t]*#([^\n]*)")
+SEPARATOR = re.compile(r"sep=([,;])\r?\n")
+ALONE = re.compile(r"\r(?!\n)")
 LINE = re.compile(r"[^\n]*")
 END = re.compile(r"\r?\n")
 
-# What cannot stand in a cell without quotes.
-ODD = {"\r": "a carriage return without a line feed", '"': "a quote inside a cell without quotes"}
+# What is wrong with what stands behind a cell.
+INSIDE, BEHIND = "a quote inside a cell without quotes", "this stands behind a closing quote"
 
 
 class Cell(NamedTuple):
@@ -38,7 +40,9 @@ class Sheet(NamedTuple):
 
 
 def separator(letters: str) -> str:
-    """By the first line that is neither a note nor empty."""
+    """By what the first line says, or by the first line that is neither a note nor empty."""
+    if said := SEPARATOR.match(letters):
+        return said[1]
     for line in letters.split("\n"):
         if line.strip() and not line.lstrip().startswith("#"):
             return ";" if ";" in re.sub(r'"[^"]*"?', "", line) else ","
@@ -53,7 +57,8 @@ class Taking:
         self.letters = text.letters
         self.separator = separator(self.letters)
         self.plain = re.compile(rf'[^{self.separator}\r\n"]*')
-        self.at = 0
+        said = SEPARATOR.match(self.letters)
+        self.at = said.end() if said else 0
         self.faults: list[Fault] = []
 
     def wrong(self, at: int, what: str) -> None:
@@ -86,7 +91,7 @@ class Taking:
                 self.at += 1
                 continue
             if self.at < len(self.letters) and not END.match(self.letters, self.at):
-                self.wrong(self.at, ODD.get(self.letters[self.at], "this stands behind a closing quote"))
+                self.wrong(self.at, INSIDE if self.letters[self.at] == '"' else BEHIND)
                 break
             return cells
         return []
@@ -99,11 +104,18 @@ class Taking:
                 self.at = note.end()
             else:
                 row = self.row()
-                rows += [row] if any(cell.text for cell in row) else []
+                first, *rest = row or [Cell(self.at, "")]
+                if first.text.startswith("#") and not any(cell.text for cell in rest):
+                    notes.append(Cell(first.at + 1, first.text[1:]))
+                elif first.text or any(cell.text for cell in rest):
+                    rows.append(row)
             end = END.match(self.letters, self.at)
             self.at = end.end() if end else self.at
         return Sheet(self.text, notes, rows, self.faults, self.separator == ",")
 
 
-def sheet_of(text: Text) -> Sheet:
+def whole_sheet(file: str, text: Text) -> Sheet:
+    """Where a carriage return stands alone, lines may be parted in another way than here, and nothing else is looked at."""
+    if alone := ALONE.search(text.letters):
+        stop(file, [text.fault(alone.start(), "a carriage return without a line feed; lines have to end with a line feed")])
     return Taking(text).sheet()

@@ -18,7 +18,7 @@ from refusals import code
 
 from .case import CHECK, CHECK_ALONE, NARROW, PLAN, Case
 from .letters import letters
-from .logs import difference, log_lines
+from .logs import difference, log_lines, other_starts
 from .logtext import Log, log_of_file
 from .model import model_lines
 from .objects import json_lines, refused_project
@@ -30,10 +30,13 @@ from .reads import Reads, reads_of
 from .sentences import Teller
 from .statuses import DISAGREE, REFUSED, SETTLED
 from .told import refused, told
-from .verdict import Desk, Verdict, submitted
+from .verdict import Desk, Verdict, contradicts, submitted
 
 # The columns of a picture in letters where no terminal says how many it has.
 COLUMNS = 100
+
+# The options whose files are written.
+WRITTEN = ("log", "picture", "mzn")
 
 
 class Prepared(NamedTuple):
@@ -49,7 +52,7 @@ class Prepared(NamedTuple):
 def prepared(options: Options, reads: Reads | None, known: Limits) -> Prepared:
     log = log_of_file(options.values["check"], known) if "check" in options.values else None
     if reads is None:
-        return Prepared(CHECK_ALONE, log.reads, {}, None, log)
+        return Prepared(CHECK_ALONE, log.reads, log.starts, None, log)
     starts = fixed(options.fixes, reads)
     plan = plan_of(options.values["plan"], reads) if "plan" in options.values else None
     return Prepared(CHECK if log else PLAN if plan else NARROW, reads, plan.starts if plan else starts, plan, log)
@@ -60,15 +63,16 @@ def unasked(bad: list[str], reads: Reads) -> tuple[Verdict, list[str]]:
     return Verdict("", (), windows, before=windows), bad
 
 
-def log_judged(file: str, log: Log, reads: Reads, desk: Desk) -> tuple[Verdict, list[str]]:
+def log_judged(file: str, ready: Prepared, desk: Desk) -> tuple[Verdict, list[str]]:
     """What the checker says of a log, and what makes it bad."""
-    if other := difference(log.reads, reads):
+    log, reads = ready.log, ready.reads
+    if other := difference(log.reads, reads) or other_starts(log.starts, ready.starts, reads):
         return unasked([f"{file}: the log is not of this list: {other}."], reads)
     verdict = desk.checked(log.records)
     said = " ".join((verdict.word, *map(str, verdict.numbers)))
     if verdict.word == "rejected":
         place, number = verdict.numbers
-        claim = Teller(reads).claim(log.records[place])
+        claim = Teller(desk.reads).claim(log.records[place])
         return verdict, [f"{file}:{log.record_lines[place]}: the log is rejected at its record {place}, {code(number, desk.limits)}", *claim]
     if verdict.word != "refused" and said != log.end:
         return verdict, [f"{file}:{log.end_line}: the log's end says '{log.end}', and the checker '{said}'."]
@@ -77,13 +81,16 @@ def log_judged(file: str, log: Log, reads: Reads, desk: Desk) -> tuple[Verdict, 
 
 def judged(options: Options, ready: Prepared, desk: Desk) -> Case:
     if ready.log:
-        verdict, bad = log_judged(options.values["check"], ready.log, desk.reads, desk)
+        verdict, bad = log_judged(options.values["check"], ready, desk)
     elif ready.plan and ready.plan.bad:
         verdict, bad = unasked([f"The plan is bad: {why}." for why in ready.plan.bad], ready.reads)
     else:
         verdict, bad = desk.narrowed(), []
     source = os.path.basename(options.file or options.values["check"])
-    return Case(source, ready.kind, ready.reads, desk.reads, ready.starts, verdict, bad)
+    case = Case(source, ready.kind, ready.reads, desk.reads, ready.starts, verdict, bad)
+    if case.kind == PLAN and not bad and case.verdict.word != "refused" and case.is_clash != bool(case.overdrawn()):
+        raise contradicts(f"of the plan it says '{verdict.word}', and a plain count the other")
+    return case
 
 
 def spoken(options: Options, case: Case, desk: Desk) -> list[str]:
@@ -92,7 +99,7 @@ def spoken(options: Options, case: Case, desk: Desk) -> list[str]:
     if "json" in options.named:
         return json_lines(case, short or case.sentences())
     if short:
-        return short
+        return [*short, *(f"{options.values[name]} is not written." for name in WRITTEN if name in options.values)]
     lines = told(case, desk, "why" in options.named)
     if "text-picture" in options.named:
         columns = shutil.get_terminal_size((COLUMNS, 0)).columns if sys.stdout.isatty() else COLUMNS
@@ -105,7 +112,7 @@ def files_of(options: Options, case: Case) -> dict[str, list[str]]:
     if case.bad or case.verdict.word == "refused":
         return {}
     makers = {
-        "log": lambda: log_lines(case.asked, case.verdict),
+        "log": lambda: log_lines(case.reads, case.starts, case.verdict),
         "picture": lambda: [svg(case.scene()).rstrip("\n")],
         "mzn": lambda: model_lines(case.asked),
     }
@@ -115,7 +122,7 @@ def files_of(options: Options, case: Case) -> dict[str, list[str]]:
 def guard(options: Options) -> None:
     """No file that is read is written over, and none is written twice."""
     inputs = [file for file in (options.file, options.values.get("plan"), options.values.get("check")) if file is not None]
-    outputs = [options.values[name] for name in ("log", "picture", "mzn") if name in options.values]
+    outputs = [options.values[name] for name in WRITTEN if name in options.values]
     for place, file in enumerate(outputs):
         for other in inputs + outputs[:place]:
             if os.path.realpath(file) == os.path.realpath(other):

@@ -59,15 +59,17 @@ def width(words: str, size: float, bold: bool = False) -> float:
 
 
 def shortened(words: str, room: float, wide: Callable[[str], float], sign: str) -> str:
-    """The words, or as many of their characters as leave room for a sign that there are more."""
-    less = room - sum(map(wide, sign))
-    taken, kept = 0.0, 0
-    for at, character in enumerate(words, 1):
-        taken += wide(character)
-        if taken > room:
-            return words[:kept].rstrip() + sign
-        kept = at if taken <= less else kept
-    return words
+    """The words, or as many of their first and last characters as leave room for a sign that some are left out: serial numbers differ in the last ones."""
+    if sum(map(wide, words)) <= room:
+        return words
+    first, last, left = 0, len(words), room - sum(map(wide, sign))
+    while first < last:
+        character = words[first] if first <= len(words) - last else words[last - 1]
+        left -= wide(character)
+        if left < 0:
+            break
+        first, last = (first + 1, last) if first <= len(words) - last else (first, last - 1)
+    return words[:first].rstrip() + sign + words[last:].lstrip()
 
 
 def cut(words: str, room: float, size: float, bold: bool = False) -> str:

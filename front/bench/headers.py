@@ -11,7 +11,7 @@ from typing import NamedTuple
 from .cells import Cell, Sheet
 from .notes import Units
 from .places import Fault
-from .quantities import CLOCK, TICKS
+from .quantities import CLOCK, MINUTES, TICKS
 
 # The columns of a list, with what is said of a cell in them.
 COLUMNS = {"unit": "the unit", "earliest": "the earliest start", "latest": "the latest end", "length": "the length", "draw": "the draw"}
@@ -29,9 +29,10 @@ NAME = re.compile(r"([^(\[]*?)\s*(?:[(\[]([^)\]]*)[)\]])?")
 
 
 class Header(NamedTuple):
-    """The column at each place, none where it is not used."""
+    """The column at each place, none where it is not used, and the unit behind its name; the names of those that are not used."""
 
     columns: list[str | None]
+    units: dict[str, str | None]
     unused: list[str]
     faults: list[Fault]
 
@@ -50,7 +51,7 @@ def units_known(column: str, units: Units) -> tuple[str, ...]:
         return (units.draws.unit,) if units.draws.unit else ()
     if not units.times.clock:
         return ()
-    return (CLOCK, "min") if column == "length" else (CLOCK,)
+    return (CLOCK, MINUTES) if column == "length" else (CLOCK,)
 
 
 def unit_faults(sheet: Sheet, found: dict[str, tuple[Cell, str | None]], units: Units) -> list[Fault]:
@@ -70,10 +71,13 @@ def unit_faults(sheet: Sheet, found: dict[str, tuple[Cell, str | None]], units: 
 
 
 def header_of(sheet: Sheet, units: Units, columns: dict[str, str] = COLUMN) -> Header:
-    """The first row. A row that could not be taken apart may have been the header, so nothing is said then of another one."""
+    """The first row. Where one before it could not be taken apart, that may have been the header, and nothing is said of another."""
     wanted = list(dict.fromkeys(columns.values()))
+    before = sheet.text.place(sheet.rows[0][0].at) if sheet.rows else (0, 0)
+    if any((fault.line, fault.column) < before or not sheet.rows for fault in sheet.faults):
+        return Header([], {}, [], [])
     if not sheet.rows:
-        return Header([], [], [] if sheet.faults else [Fault(1, 1, f"there is no header with {', '.join(wanted)}")])
+        return Header([], {}, [], [Fault(1, 1, f"there is no header with {', '.join(wanted)}")])
     places: list[str | None] = []
     unused, faults, found = [], [], {}
     for cell in sheet.rows[0]:
@@ -87,5 +91,6 @@ def header_of(sheet: Sheet, units: Units, columns: dict[str, str] = COLUMN) -> H
             found.setdefault(column, (cell, unit))
     missing = [column for column in wanted if column not in found]
     if missing:
-        faults.append(sheet.text.fault(sheet.rows[0][0].at, f"the header has no column {', '.join(missing)}"))
-    return Header(places, unused, faults + unit_faults(sheet, found, units))
+        tabs = "; tabs part no cells here, but commas or semicolons" if any("\t" in cell.text for cell in sheet.rows[0]) else ""
+        faults.append(sheet.text.fault(sheet.rows[0][0].at, f"the header has no column {', '.join(missing)}{tabs}"))
+    return Header(places, {column: unit for column, (_, unit) in found.items()}, unused, faults + unit_faults(sheet, found, units))

@@ -3,8 +3,8 @@
 from __future__ import annotations
 
 from .drawing import line, path, rect, text, width
-from .looks import CLASH, IDLE, MARKED, NOW, OVER, SHORT, SUBMITTED, SURE
 from .ground import MARGIN, SIZE, WIDTH
+from .looks import CLASH, IDLE, MARKED, NOW, OVER, SHORT, SUBMITTED, SURE
 from .scene import Scene, sure, too_short
 
 FIRST, LINE = 54, 20
@@ -26,12 +26,12 @@ def signs(scene: Scene, over: bool) -> list[tuple[str, str]]:
         (sign, words)
         for there, sign, words in (
             (rows, block(**SUBMITTED.framed), "submitted window"),
-            (ends, block(**NOW.framed), "narrowed window"),
-            (any(row.draw for row in stretches), block(**SURE.framed), "being read in any case"),
-            (any(not row.draw for row in stretches), block(**IDLE.framed), "the same, draws nothing"),
+            (any(sure(row) != row.now for row in ends), block(**NOW.framed), scene.words.now),
+            (any(row.draw for row in stretches), block(**SURE.framed), scene.words.sure),
+            (any(not row.draw for row in stretches), block(**IDLE.framed), f"{scene.words.sure}, draws nothing"),
             (len(ends) < len(rows), bracket, "window too short"),
-            (any(row.marked for row in rows), block(fill=MARKED, stroke="#b58a2b"), "cannot be read together"),
-            (over, crowded, "supply overdrawn in any case"),
+            (any(row.marked for row in rows), block(fill=MARKED, stroke="#b58a2b"), scene.words.marked),
+            (over, crowded, scene.words.over),
         )
         if there
     ]

@@ -128,9 +128,9 @@ def load_rows(scene: Scene, page: Page) -> list[tuple[str, str]]:
 def scale_rows(scene: Scene, page: Page, columns: int) -> tuple[str, str]:
     """Marks at letters that begin with the time that stands below."""
     last = page.first + page.letters * page.ticks
-    step = 1
+    step = time_step(scene.times, page.ticks * (len(scene.times.say(last)) + 1))
     while step % page.ticks:
-        step = time_step(scene.times, max(step + 1, page.ticks * (len(scene.times.say(last)) + 1)))
+        step = time_step(scene.times, step + 1)
     line, words = list("-" * page.letters), ""
     for time in (page.first, *marks(page.first + 1, last - 1, step)):
         letter, said = (time - page.first) // page.ticks, scene.times.say(time)
@@ -145,13 +145,13 @@ def legend(scene: Scene, page: Page, signs: set[str]) -> list[str]:
     ticks = scene.times.lasts(page.ticks) + ("" if scene.times.clock else " tick" if page.ticks == 1 else " ticks")
     known = (
         (".", "submitted"),
-        ("=", "narrowed"),
-        ("#", "in any case"),
+        ("=", scene.words.now),
+        ("#", scene.words.sure),
         (":", "less than so much"),
-        ("!", "supply overdrawn"),
+        ("!", scene.words.over),
         ("+", "window of one instant"),
         ("x", "window too short"),
-        ("*", "cannot be read together"),
+        ("*", scene.words.marked),
     )
     partly = [] if page.ticks == 1 else ["a sign: in part of it at least"]
     return [f"one letter: {ticks}", *partly, *(f"{sign} {words}" for sign, words in known if sign in signs)]
@@ -169,7 +169,7 @@ def flowed(items: list[str], columns: int) -> list[str]:
 def letters(scene: Scene, columns: int) -> list[str]:
     """The lines, none of them wider than so many columns, which are at least 40."""
     columns = max(columns, LEAST_COLUMNS)
-    heading = fitted(f"drawn in any case, supply {scene.draws.say(scene.supply)}", columns - 2).rstrip()
+    heading = fitted(f"{scene.words.drawn}, supply {scene.draws.say(scene.supply)}", columns - 2).rstrip()
     if not scene.rows:
         return ["  no reads", f"  {heading}"]
     page = paged(scene, columns)

@@ -6,10 +6,12 @@ list.
     step 0.1 A
     supply 50
     read 480 560 50 18 "Bosch Motronic ML4.1, 1987"
+    fix 0 490
     record 2 0 519 0 1
     end holds 1
 
-Here it is written, and held beside a list; front/bench/logtext.py reads it. The windows in it are the submitted ones, so that it is no list to go on from.
+Here it is written, and held beside a list; front/bench/logtext.py reads it. The windows in it are the submitted ones, so that it is no list to go on from; reads whose
+start was fixed beside them are named.
 """
 
 from __future__ import annotations
@@ -19,11 +21,9 @@ import re
 from ending import Stop
 from limits import TOP
 
-from .reads import Reads
+from .reads import LOG, Reads, key
 from .sentences import quoted
 from .verdict import Verdict
-
-NAME = "tarqumbet-log"
 
 
 def version() -> str:
@@ -45,10 +45,11 @@ def row(word: str, *rest: object) -> str:
     return " ".join((word, *map(str, rest)))
 
 
-def log_lines(reads: Reads, verdict: Verdict) -> list[str]:
+def log_lines(reads: Reads, starts: dict[int, int], verdict: Verdict) -> list[str]:
     """Its end has the checker's words, since the checker is what a log is for: that nothing more can be narrowed is not said in it."""
-    lines = [row(NAME, version()), row("time", reads.times.form), row("step", reads.draws.say(1)), row("supply", reads.supply)]
+    lines = [row(LOG, version()), row("time", reads.times.form), row("step", reads.draws.say(1)), row("supply", reads.supply)]
     lines += [row("read", *numbers, in_quotes(unit)) for *numbers, unit in zip(*reads.lists, reads.units)]
+    lines += [row("fix", job, start) for job, start in sorted(starts.items())]
     lines += [row("record", job, side, time, *members) for job, side, time, members in verdict.records]
     if verdict.word == "clash":
         return [*lines, row("end", "clash", len(verdict.records), verdict.numbers[1])]
@@ -56,7 +57,7 @@ def log_lines(reads: Reads, verdict: Verdict) -> list[str]:
 
 
 def difference(log: Reads, reads: Reads) -> str | None:
-    """The first thing in which a log's reads are not those of the list; none where there is no such thing."""
+    """The first thing in which a log's reads are not those of the list; none where there is no such thing. Names that look the same are the same."""
     heads = (
         ("time", log.times.form, reads.times.form),
         ("step", log.draws.say(1), reads.draws.say(1)),
@@ -66,7 +67,7 @@ def difference(log: Reads, reads: Reads) -> str | None:
         if logged != listed:
             return f"the log's {what} is {logged}, the list's {listed}"
     for place, (logged, listed) in enumerate(zip(log.units, reads.units), 1):
-        if logged != listed:
+        if key(logged) != key(listed):
             return f"read {place} of the log is {quoted(logged)}, of the list {quoted(listed)}"
     if len(log.units) != len(reads.units):
         return f"the log has {len(log.units)} reads, the list {len(reads.units)}"
@@ -76,4 +77,13 @@ def difference(log: Reads, reads: Reads) -> str | None:
         for (form, spoken), logged, listed in zip(forms, log.lists, reads.lists):
             if logged[job] != listed[job]:
                 return f"in the log {quoted(unit)} {form.format(spoken(logged[job]))}, in the list it {form.format(spoken(listed[job]))}"
+    return None
+
+
+def other_starts(logged: dict[int, int], asked: dict[int, int], reads: Reads) -> str | None:
+    """The first read whose start is fixed in the log and not by the command, or otherwise."""
+    for job, unit in enumerate(reads.units):
+        if logged.get(job) != asked.get(job):
+            said = ["has no fixed start" if start is None else f"starts at {reads.times.say(start)}" for start in (logged.get(job), asked.get(job))]
+            return f"in the log {quoted(unit)} {said[0]}, and here it {said[1]}"
     return None

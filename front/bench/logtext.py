@@ -8,23 +8,24 @@ from typing import NamedTuple
 
 from limits import Limits
 
-from .logs import NAME, version
+from .logs import version
 from .places import Fault, Text, stop, text_of
 from .quantities import CLOCK, TICKS, Draws, Times, natural, step_of
-from .reads import Reads, key, name_fault
+from .reads import LOG, Reads, key, name_fault
 from .records import WORD, Record, set_words
 
-READ, RECORD, END = "read", "record", "end"
+READ, FIX, RECORD, END = "read", "fix", "record", "end"
 
-# The first words of lines, in the order in which lines stand; of reads and records there may be any number.
-ORDER = (NAME, "time", "step", "supply", READ, RECORD, END)
-MANY = (READ, RECORD)
+# The first words of lines, in the order in which lines stand; of some there may be any number.
+ORDER = (LOG, "time", "step", "supply", READ, FIX, RECORD, END)
+MANY = (READ, FIX, RECORD)
 
 
 class Log(NamedTuple):
     """What a log file says, and the line of each record and of the end."""
 
     reads: Reads
+    starts: dict[int, int]
     records: list[Record]
     end: str
     record_lines: list[int]
@@ -83,6 +84,20 @@ class Taking:
         self.known.setdefault(key(unit), self.line)
         return *self.numbers(said[1]), unit
 
+    def fix(self, rest: str) -> tuple[int, int]:
+        """A read and its start, which lies in its window."""
+        numbers = self.numbers(rest)
+        if len(numbers) != 2 or numbers[0] >= len(self.found[READ]):
+            self.wrong("a fixed start has a read of the log and its start")
+            return 0, 0
+        job, start = numbers
+        earliest, latest, length = self.found[READ][job][:3]
+        if not earliest <= start <= latest - length:
+            self.wrong(f"the start {start} of read {job} is not in its window")
+        if any(job == other for other, _ in self.found[FIX]):
+            self.wrong(f"read {job} has a fixed start already")
+        return job, start
+
     def record(self, rest: str) -> Record:
         if rest.count(" ") < 2:
             self.wrong("a record has the moved read, the side, the time and the members")
@@ -107,10 +122,11 @@ class Taking:
         behind = next((later for later in ORDER[ORDER.index(word) + (word in MANY) :] if self.lines[later]), None)
         if behind:
             self.wrong(f"a line '{word}' stands behind a line '{behind}'")
-        parts: dict[str, Callable[[str], object]] = {NAME: self.head, READ: self.read, RECORD: self.record, END: self.end}
-        part = parts.get(word) or getattr(self, word)
+        parts: dict[str, Callable[[str], object]] = dict(
+            zip(ORDER, (self.head, self.time, self.step, self.supply, self.read, self.fix, self.record, self.end))
+        )
         self.lines[word].append(self.line)
-        self.found[word].append(part(rest))
+        self.found[word].append(parts[word](rest))
 
     def taken(self) -> None:
         """Every line, and what is missing among them."""
@@ -130,11 +146,14 @@ class Taking:
 
 
 def log_of_file(file: str, limits: Limits) -> Log:
-    taking = Taking(text_of(file), limits)
+    text = text_of(file)
+    if not text.letters.startswith(f"{LOG} "):
+        stop(file, [Fault(1, 1, f"this is no log: its first line has to be '{LOG} {version()}'")])
+    taking = Taking(text, limits)
     taking.taken()
     if taking.faults:
         stop(file, taking.faults)
     found = taking.found
     *lists, units = map(list, zip(*found[READ])) if found[READ] else ([], [], [], [], [])
     reads = Reads(units, *lists, found["supply"][0], found["time"][0], found["step"][0])
-    return Log(reads, found[RECORD], found[END][0], taking.lines[RECORD], taking.lines[END][0])
+    return Log(reads, dict(found[FIX]), found[RECORD], found[END][0], taking.lines[RECORD], taking.lines[END][0])

@@ -16,7 +16,7 @@ def model_lines(reads: Reads) -> list[str]:
     earliest, latest, lengths, demands = map(numbers, reads.lists)
     pairs = [f"constraint s[{first + 1}] + p[{first + 1}] <= s[{then + 1}];" for first, then in reads.pairs]
     return [
-        "% The submitted reads of a list, written by ./bench: earliest starts, latest ends, lengths, draws.",
+        "% The submitted reads of a list, those whose start is fixed with just that window, written by ./bench: earliest starts, latest ends, lengths, draws.",
         'include "cumulative.mzn";',
         f"int: n = {len(reads.units)};",
         f"int: supply = {reads.supply};",

@@ -17,8 +17,8 @@ from .quantities import CLOCK, TICKS, Draws, Times, step_of
 
 SAID = re.compile(r"[ \t]*(supply|time|step)[ \t]*:[ \t]*", re.IGNORECASE)
 
-# As many cells as a list has columns.
-LIKE_A_READ = 5
+# A note is like a read where it has as many cells as a list has columns, or some of them and among these two numbers.
+ALL_CELLS, SOME_CELLS, NUMBERS = 5, 3, 2
 
 
 class Units(NamedTuple):
@@ -29,6 +29,11 @@ class Units(NamedTuple):
     draws: Draws
     faults: list[Fault]
     known: bool
+
+
+def is_like_a_read(parts: list[str]) -> bool:
+    filled = [part.strip() for part in parts if part.strip()]
+    return len(filled) >= ALL_CELLS or (len(filled) >= SOME_CELLS and sum(part[0].isdigit() for part in filled[1:]) >= NUMBERS)
 
 
 class Taking:
@@ -45,10 +50,11 @@ class Taking:
         text = note.text.rstrip(mark + " \t")
         said = SAID.match(text)
         if not said:
-            if len([part for part in text.split(mark) if part.strip()]) >= LIKE_A_READ:
+            if is_like_a_read(text.split(mark)):
                 self.wrong(note, "this looks like a read, but behind # it is a remark: take the line out, or put the unit's name in quotes")
             return
-        name, cell = said[1].lower(), Cell(note.at + said.end(), text[said.end() :].strip())
+        value = text[said.end() :].lstrip(mark + " \t")
+        name, cell = said[1].lower(), Cell(note.at + len(text) - len(value), value)
         if name in self.said:
             self.wrong(cell, f"a second line '# {name}:'")
         self.said.setdefault(name, cell)
@@ -64,7 +70,7 @@ class Taking:
         if cell is None:
             unit = re.search(r"[^\W\d_]*$", supply.text)[0] if supply else ""
             return Draws(unit=unit)
-        step = step_of(cell.text)
+        step = step_of(cell.text if self.sheet.comma else cell.text.replace(",", "."))
         if step is None:
             self.wrong(cell, f"the step '{cell.text}' is no step such as 1, 0.1 A or 0.25 A")
         return step or Draws()

@@ -86,8 +86,8 @@ def options_of(words: list[str]) -> Options:
         elif name in PLAIN and not sign:
             named.add(name)
         elif name in VALUED:
-            value = value if sign else next(rest, None)
-            if value is None:
+            value = value if sign else next(rest, "--")
+            if not sign and value.startswith("--"):
                 raise wrong(f"--{name} wants a word behind it.")
             if name in values:
                 raise wrong(f"--{name} is there twice.")

@@ -112,8 +112,8 @@ def said(scene: Scene, row: Row) -> str:
         f"submitted: {from_to(row.submitted)}",
         f"now: {from_to(row.now)}" + (", too short" if too_short(row) else ""),
         f"lasts {times.lasts(row.length)}, draws {scene.draws.say(row.draw)}",
-        *([f"being read in any case: {from_to(stretch)}"] if stretch else []),
-        *(["cannot be read together with the other marked units"] if row.marked else []),
+        *([f"{scene.words.sure}: {from_to(stretch)}"] if stretch else []),
+        *([f"marked: {scene.words.marked}"] if row.marked else []),
     ))
 
 
@@ -164,7 +164,7 @@ def words(scene: Scene, row: Row, ground: Ground, index: int, place: float) -> l
 
 def scale(scene: Scene, ground: Ground) -> list[str]:
     step = draw_step(scene.draws, ground.peak * 20 / LOAD)
-    drawn = [text(ground.left, ground.load_top - 12, "drawn in any case", fill=QUIET)]
+    drawn = [text(ground.left, ground.load_top - 12, scene.words.drawn, fill=QUIET)]
     for level in range(0, ground.peak + 1, step):
         y, x = ground.level(level), ground.left - GAP + 2
         drawn.append(line(ground.left, y, ground.right, y, stroke=GRID))
@@ -177,7 +177,7 @@ def loads(scene: Scene, ground: Ground, stretches: list[Stretch]) -> list[str]:
     drawn = []
     for start, end, steps in sorted(stretches, key=lambda stretch: stretch[2] > scene.supply):
         (x, wide), top = ground.bar(start, end, 1), ground.level(steps)
-        about = titled(f"{scene.times.say(start)} to {scene.times.say(end)}: {scene.draws.say(steps)} in any case")
+        about = titled(f"{scene.times.say(start)} to {scene.times.say(end)}: {scene.draws.say(steps)} {scene.words.drawn}")
         look = TOO_MUCH if steps > scene.supply else LOADED
         drawn.append(rect(x, top, wide, ground.base - top, about, shape_rendering="crispEdges", **look))
     return drawn

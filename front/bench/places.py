@@ -51,4 +51,4 @@ def text_of(file: str) -> Text:
         return Text(found.decode("utf-8"))
     except UnicodeDecodeError as wrong:
         before = Text(found[: wrong.start].decode("utf-8"))
-        stop(file, [before.fault(wrong.start, f"the byte {found[wrong.start]:#04x} is no UTF-8")])
+        stop(file, [before.fault(len(before.letters), f"the byte {found[wrong.start]:#04x} is no UTF-8; the file has to be saved as UTF-8")])

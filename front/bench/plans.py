@@ -6,11 +6,12 @@ from typing import NamedTuple
 
 from ending import Stop
 
-from .cells import Cell, Sheet, sheet_of
+from .cells import Cell, Sheet, whole_sheet
 from .headers import NAMES, header_of
-from .notes import Units
+from .notes import SAID, Units
 from .places import Fault, stop, text_of
-from .reads import Reads, key
+from .quantities import Times
+from .reads import Reads, key, row_fault
 from .sentences import Teller, quoted
 
 COLUMN = {**{name: "unit" for name in NAMES["unit"]}, **{name: "start" for name in ("start", "starts", "start time", "starts at", "at")}}
@@ -70,8 +71,8 @@ class Rows:
         self.faults.append(self.sheet.text.fault(cell.at, what))
 
     def row(self, cells: list[Cell]) -> None:
-        if len(cells) < len(self.columns) or any(cell.text for cell in cells[len(self.columns) :]):
-            self.wrong(cells[0], f"this row has {len(cells)} cells, the header {len(self.columns)}")
+        if what := row_fault(cells, self.sheet.rows[0]):
+            self.wrong(cells[0], what)
             return
         found = dict(zip(self.columns, cells))
         if "unit" not in found or "start" not in found:
@@ -98,13 +99,20 @@ def broken_pairs(reads: Reads, starts: dict[int, int]) -> list[str]:
     return bad
 
 
+def time_faults(sheet: Sheet, times: Times) -> list[Fault]:
+    """A plan may say in what its times are; they have to be the list's."""
+    said = [(note, found) for note in sheet.notes if (found := SAID.match(note.text)) and found[1].lower() == "time"]
+    other = [note for note, found in said if note.text[found.end() :].strip(" \t,;").lower() != times.form.lower()]
+    return [sheet.text.fault(note.at, f"the list's times are {times.form}") for note in other]
+
+
 def plan_of(file: str, reads: Reads) -> Plan:
-    sheet = sheet_of(text_of(file))
+    sheet = whole_sheet(file, text_of(file))
     header = header_of(sheet, Units(0, reads.times, reads.draws, [], True), COLUMN)
     rows = Rows(sheet, header.columns, reads)
-    for cells in sheet.rows[1:]:
+    for cells in sheet.rows[1:] if header.columns else []:
         rows.row(cells)
-    faults = [*sheet.faults, *header.faults, *rows.faults]
+    faults = [*sheet.faults, *header.faults, *rows.faults, *time_faults(sheet, reads.times)]
     if faults:
         stop(file, faults)
     starts = rows.starts

@@ -9,7 +9,7 @@ from __future__ import annotations
 import re
 from typing import NamedTuple
 
-CLOCK, TICKS = "HH:MM", "ticks"
+CLOCK, MINUTES, TICKS = "HH:MM", "min", "ticks"
 HOUR = 60
 
 # A number of more digits is above every limit, and counts as another one that is.
@@ -26,31 +26,31 @@ class Times(NamedTuple):
         return CLOCK if self.clock else TICKS
 
     def time(self, word: str) -> int | None:
-        """The ticks of a time, none where the word is no time."""
+        """The ticks of a time, none where the word is no time. A number of ticks begins with no other zero: 0800 is somebody's eight o'clock."""
         if not self.clock:
-            return whole(word)
+            return None if word.startswith("0") and word != "0" else whole(word)
         said = re.fullmatch(r"([0-9]+):([0-5][0-9])", word)
         return natural(said[1]) * HOUR + int(said[2]) if said else None
 
-    def length(self, word: str) -> int | None:
-        """With a clock a length is written like a time or as a number of minutes."""
+    def length(self, word: str, unit: str | None = None) -> int | None:
+        """With a clock a length is written like a time or as a number of minutes; where its column says in what it is, like that alone."""
         if not self.clock or ":" in word:
-            return self.time(word)
-        return whole(word[:-3].rstrip() if word.endswith("min") else word)
+            return None if unit == MINUTES else self.time(word)
+        return None if unit == CLOCK else whole(word[: -len(MINUTES)].rstrip() if word.endswith(MINUTES) else word)
 
     def say(self, time: int) -> str:
         return f"{time // HOUR:02d}:{time % HOUR:02d}" if self.clock else str(time)
 
     def lasts(self, length: int) -> str:
-        return f"{length} min" if self.clock else str(length)
+        return f"{length} {MINUTES}" if self.clock else str(length)
 
     @property
     def time_form(self) -> str:
         return "a time HH:MM" if self.clock else "a whole number of ticks"
 
-    @property
-    def length_form(self) -> str:
-        return "a length HH:MM or a whole number of minutes" if self.clock else self.time_form
+    def length_form(self, unit: str | None = None) -> str:
+        forms = {CLOCK: "a length HH:MM", MINUTES: "a whole number of minutes"}
+        return forms.get(unit, " or ".join(forms.values())) if self.clock else self.time_form
 
 
 class Draws(NamedTuple):
@@ -81,7 +81,7 @@ class Draws(NamedTuple):
 
     @property
     def form(self) -> str:
-        return f"a whole number of steps of {self.say(1)}"
+        return f"a whole number of steps of {self.say(1)}" + ("" if self.unit else ", without a unit")
 
 
 def natural(digits: str) -> int:

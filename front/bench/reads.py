@@ -5,17 +5,22 @@ The windows of a list are those of its file, and nothing in this package writes 
 
 from __future__ import annotations
 
+import re
 import unicodedata
 from collections.abc import Sequence
 from typing import NamedTuple
 
+from ending import Stop
 from limits import Limits
 
-from .cells import Cell, Sheet, sheet_of
+from .cells import Cell, Sheet, whole_sheet
 from .headers import COLUMNS, Header, header_of
 from .notes import Units, units_of
 from .places import Fault, stop, text_of
 from .quantities import Draws, Times
+
+# The first word of a log file.
+LOG = "tarqumbet-log"
 
 
 class Reads(NamedTuple):
@@ -58,6 +63,15 @@ def name_fault(unit: str) -> str | None:
     return f"a unit's name has the letter U+{ord(hidden):04X}, which does not show" if hidden else None
 
 
+def row_fault(cells: list[Cell], header: list[Cell]) -> str | None:
+    """What is wrong with the cells of a row, before they are read. A cell that stands under no name is one too many: it may be what a decimal comma has parted."""
+    if len(cells) < len(header):
+        return f"this row has {len(cells)} cells, the header {len(header)}"
+    names = [*header, *[Cell(0, "")] * (len(cells) - len(header))]
+    extra = next((cell.text for cell, name in zip(cells, names) if cell.text and not name.text), None)
+    return None if extra is None else f"the cell '{extra}' of this row stands under no name of the header"
+
+
 class Rows:
     """The rows behind a header, read one by one."""
 
@@ -78,7 +92,8 @@ class Rows:
         if column == "draw":
             value, form = draws.draw(cell.text, not self.sheet.comma), draws.form
         elif column == "length":
-            value, form = times.length(cell.text), times.length_form
+            unit = self.header.units[column]
+            value, form = times.length(cell.text, unit), times.length_form(unit)
         else:
             value, form = times.time(cell.text), times.time_form
         if value is None:
@@ -98,22 +113,33 @@ class Rows:
         return cell.text
 
     def row(self, cells: list[Cell]) -> None:
-        wide = len(self.header.columns)
-        if len(cells) < wide or any(cell.text for cell in cells[wide:]):
-            self.wrong(cells[0], f"this row has {len(cells)} cells, the header {wide}")
+        if what := row_fault(cells, self.sheet.rows[0]):
+            self.wrong(cells[0], what)
             return
-        for column, cell in zip(self.header.columns, cells):
+        for column, cell, beside in zip(self.header.columns, cells, [*cells[1:], None]):
             if column is not None:
                 self.found[column].append(self.unit(cell) if column == "unit" else self.number(column, cell))
+            if column == "draw" and beside and self.may_be_parted(cell, beside):
+                self.wrong(cell, f"'{cell.text}' and '{beside.text}' beside it may be {cell.text},{beside.text} with a decimal comma; write the draw with a dot")
+
+    def may_be_parted(self, draw: Cell, beside: Cell) -> bool:
+        """Whether a cell that is not used has what may be the decimals of the draw before it."""
+        if not self.sheet.comma or not re.fullmatch("[0-9]+", draw.text) or not re.fullmatch("[0-9]+", beside.text):
+            return False
+        place = self.header.columns.index("draw") + 1
+        return self.header.columns[place : place + 1] == [None] and len(beside.text) <= self.units.draws.places
 
 
 def reads_of(file: str, limits: Limits) -> Reads:
     """The list in a file. All that is wrong with it is told at once."""
-    sheet = sheet_of(text_of(file))
+    text = text_of(file)
+    if text.letters.startswith(f"{LOG} "):
+        raise Stop(f"{file} is a log and no list; ./bench --check {file} checks it.")
+    sheet = whole_sheet(file, text)
     units = units_of(sheet, limits)
     header = header_of(sheet, units)
     rows = Rows(sheet, header, units, limits)
-    for cells in sheet.rows[1:]:
+    for cells in sheet.rows[1:] if header.columns else []:
         rows.row(cells)
     faults = [*sheet.faults, *units.faults, *header.faults, *rows.faults]
     if faults:

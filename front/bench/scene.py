@@ -25,14 +25,29 @@ class Row(NamedTuple):
     marked: bool
 
 
+class Words(NamedTuple):
+    """What is said of a row's window now, of its sure part, of marked units, of the supply where it is exceeded, and of what is drawn in the sure parts."""
+
+    now: str
+    sure: str
+    marked: str
+    over: str
+    drawn: str
+
+
+NARROWED = Words("narrowed window", "being read in any case", "cannot be read together", "supply overdrawn in any case", "drawn in any case")
+PLANNED = Words("planned instant", "being read", "overdraw the supply together", "supply overdrawn", "drawn")
+
+
 class Scene(NamedTuple):
-    """Marked are the units of a clash that cannot be read together."""
+    """Marked are the units of a clash that cannot be read together, or those of a plan that overdraw the supply."""
 
     title: str
     times: Times
     draws: Draws
     supply: int
     rows: tuple[Row, ...]
+    words: Words = NARROWED
 
 
 def too_short(row: Row) -> bool:

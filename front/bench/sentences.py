@@ -20,6 +20,10 @@ def listed(words: Sequence[str]) -> str:
     return words[0] if len(words) == 1 else f"{', '.join(words[:-1])} and {words[-1]}"
 
 
+def plural(number: int, what: str) -> str:
+    return f"{number} {what}" if number == 1 else f"{number} {what}s"
+
+
 def quoted(unit: str) -> str:
     """Names may hold commas, so that nobody could tell where one ends."""
     return f"“{unit}”"
@@ -40,16 +44,16 @@ class Teller:
 
     def moments(self, records: Sequence[Record]) -> str:
         """When the records speak of, as the start of a sentence."""
-        times = [record.time for record in records]
+        times = sorted(record.time for record in records)
         one, many, each = ("In the minute of", "In the minutes of", "In each minute from") if self.times.clock else ("At time", "At times", "At each time from")
         say = self.times.say
         if len(times) == 1:
             return f"{one} {say(times[0])}"
         if len(times) <= FEW:
-            return f"{many} {listed([say(time) for time in sorted(times)])}"
+            return f"{many} {listed([say(time) for time in times])}"
         number = f"({len(times)} records)"
-        if max(times) - min(times) == len(times) - 1:
-            return f"{each} {say(min(times))} to {say(max(times))} {number}"
+        if times[-1] - times[0] == len(times) - 1:
+            return f"{each} {say(times[0])} to {say(times[-1])} {number}"
         return f"{many} {say(times[0])}, {say(times[1])} and so on to {say(times[-1])} {number}"
 
     def crowd(self, records: Sequence[Record]) -> str:
@@ -94,12 +98,16 @@ class Teller:
             said += " (Behind midnight the hours go on: 25:00 is one o'clock on the next day.)"
         return said
 
-    def together(self, marked: Sequence[int], fixed: bool) -> str:
-        others = "with the starts that are fixed, whatever becomes of the others" if fixed else "whatever becomes of the others"
+    def together(self, marked: Sequence[int], starts: str) -> str:
+        """The units of a clash. Where starts are fixed, which are named, the clash may be theirs."""
+        windows = "together in their submitted windows" if len(marked) > 1 else "in its submitted window"
+        said = f"{self.units(marked)} cannot be read {windows} on this supply"
+        said += f" with {starts}" if starts else ""
+        said += ", whatever becomes of the others" if len(marked) < len(self.reads.units) else ""
         if len(marked) == 1:
-            return f"{self.units(marked)} cannot be read in its submitted window on this supply, {others}."
-        apart = f"{self.units(marked)} cannot be read together in their submitted windows on this supply, {others}"
-        return f"{apart}: one of them has to get another window, or another day."
+            return f"{said}."
+        another = "another start, another window" if starts else "another window"
+        return f"{said}: one of them has to get {another}, or another day."
 
     def overdrawn(self, record: Record) -> str:
         """A plan's clash: all starts are fixed, so the moved read is read at that time too."""
@@ -108,13 +116,16 @@ class Teller:
         together = "" if len(jobs) == 1 else " together"
         return f"{when} {self.units(jobs)} {do} {self.total(jobs)}{together}, and the supply gives {self.draws.say(self.reads.supply)}."
 
-    def rests_on(self, run: Run, windows: Sequence[Window]) -> list[str]:
-        """The windows that a sentence rests on, as they are before its first record: its members', which stay as they are in all of them, and the moved read's."""
+    def rests_on(self, run: Run, windows: Sequence[Window], planned: bool) -> list[str]:
+        """The windows that a sentence rests on, as they are before its first record: its members', which stay as they are in all of them, and the moved read's, of
+        which one bound counts, and in a plan both."""
         record, say = run.records[0], self.times.say
         lines = []
         for job in (*record.members, record.job):
             (start, end), length = windows[job], self.reads.lengths[job]
-            facts = [f"starts by {say(end - length)}"] if job != record.job or record.side == 1 else []
-            facts += [f"is not through before {say(start + length)}"] if job != record.job or record.side == 0 else []
-            lines.append(f"{self.units([job])} has the window {self.window((start, end))} then and lasts {self.times.lasts(length)}: it {' and '.join(facts)}.")
+            both = planned or job != record.job
+            facts = [f"starts by {say(end - length)}"] if both or record.side == 1 else []
+            facts += [f"is not through before {say(start + length)}"] if both or record.side == 0 else []
+            window = f"has the window {self.window((start, end))} at this point and lasts {self.times.lasts(length)}"
+            lines.append(f"{self.units([job])} {window}: it {' and '.join(facts)}.")
         return lines

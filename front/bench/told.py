@@ -10,20 +10,19 @@ from refusals import refusal
 from .case import CHECK, CHECK_ALONE, NARROW, PLAN, Case
 from .headers import COLUMNS
 from .reads import Reads
-from .sentences import Teller, listed, quoted
+from .sentences import Teller, listed, plural, quoted
 from .table import NARROWED, PLANNED, table
 from .verdict import Desk, submitted
 
-# Where times are coarser, fewer records are needed; rounded in this way, what is read by the coarser list fits the finer one.
-COARSER = (
-    "Take a coarser step of time, such as minutes in place of seconds: fewer records are needed then. Round earliest starts up, latest ends down and lengths up, "
-    "so that no window gets wider and no read shorter."
-)
+# What can be done about a refusal (docs/ANSWERS.md, 'Refusals'). Where times are coarser, fewer records are needed; rounded in this way, a plan of the coarser list
+# is one of the finer.
+ROUNDED = "Round so that no window gets wider, no read shorter, no draw less and the supply no greater: earliest starts up, latest ends down, lengths and draws up."
+ADVICE = {
+    2: "Where reads fall into parts whose windows do not overlap, make a list of each part.",
+    3: f"Take a coarser step of time or of draws. {ROUNDED}",
+    5: f"Take a coarser step of time, such as minutes in place of seconds: fewer records are needed then. {ROUNDED}",
+}
 CHAINS = "The project's precedences count here by their longest chains alone; starts have to respect each of them besides."
-
-
-def plural(number: int, what: str) -> str:
-    return f"{number} {what}" if number == 1 else f"{number} {what}s"
 
 
 def with_starts(case: Case) -> str:
@@ -33,11 +32,14 @@ def with_starts(case: Case) -> str:
 
 
 def settled(case: Case) -> str:
+    if not case.reads.units:
+        return "Settled: there are no reads."
     moved = sum(now != then for now, then in zip(case.verdict.windows, submitted(case.asked)))
-    told = f"{moved} of {plural(len(case.reads.units), 'window')} narrowed, by {plural(len(case.verdict.records), 'record')} that the checker took from the submitted windows"
+    told = f"{moved} of {plural(len(case.reads.units), 'window')} narrowed, by {plural(len(case.verdict.records), 'record')} that the checker took"
     told = told if moved else "no window is narrowed"
     if case.starts:
         return f"Settled with {with_starts(case)}: {told}. This says what is left, not that there is a schedule."
+    told += " from the submitted windows" if moved else ""
     return f"Settled: {told}. Every schedule lies in the windows now; that there is one is not said."
 
 
@@ -57,10 +59,13 @@ def clash(case: Case) -> str:
 def checked(case: Case) -> str:
     """Of a log that the checker takes."""
     where = "against the windows that the log itself states" if case.kind == CHECK_ALONE else "against the submitted windows of the list"
+    starts = with_starts(case)
+    holds = f"The log holds, checked {where}{f' with {starts}' if starts else ''}"
     number = plural(case.verdict.numbers[0], "record")
     if case.is_clash:
-        return f"The log holds, checked {where}: {number}, and they end in a clash, so there is no schedule."
-    return f"The log holds, checked {where}: {number}. Every schedule lies in the windows now; that there is one, or that nothing more can be narrowed, is not said."
+        return f"{holds}: {number} and a clash, so {f'no schedule starts {starts}' if starts else 'there is no schedule'}."
+    every = f"Every schedule that starts {starts}" if starts else "Every schedule"
+    return f"{holds}: {number}. {every} lies in the windows now; that there is one, or that nothing more can be narrowed, is not said."
 
 
 def planned(case: Case) -> str:
@@ -86,20 +91,22 @@ def reasons(case: Case, desk: Desk, why: bool) -> Iterator[str]:
         return
     for place, windows in enumerate(desk.after(case.verdict.records, [run.first for run in runs])):
         yield f"{place + 1}. {said[place]}"
-        yield from (f"     {line}" for line in Teller(case.asked).rests_on(runs[place], windows))
+        yield from (f"     {line}" for line in Teller(case.asked).rests_on(runs[place], windows, case.kind == PLAN))
 
 
 def told(case: Case, desk: Desk, why: bool) -> list[str]:
     """The whole text."""
     lines = [summary(case)]
     lines += [CHAINS] if case.reads.pairs and case.kind == NARROW else []
-    lines += [f"Not used: the columns {listed([quoted(name) for name in case.reads.unused])}."] if case.reads.unused else []
+    lines += [f"Not used: the column{'s' if len(case.reads.unused) > 1 else ''} {listed([quoted(name) for name in case.reads.unused])}."] if case.reads.unused else []
     head = PLANNED if case.kind == PLAN else NARROWED
     lines += ["", *table(case.reads, case.windows, case.verdict.marked, head)] if case.reads.units else []
     said = list(reasons(case, desk, why))
     lines += ["", *said] if said else []
     if case.is_clash and case.kind != PLAN:
-        lines += ["", Teller(case.reads).together(case.verdict.marked, bool(case.starts))]
+        lines += ["", Teller(case.reads).together(case.verdict.marked, with_starts(case))]
+    if case.is_clash and case.kind == PLAN:
+        lines += ["", f"The supply is overdrawn {listed([f'from {Teller(case.reads).window(stretch)}' for stretch in case.overdrawn()])}, by the command's own count."]
     return lines
 
 
@@ -118,5 +125,5 @@ def above(reads: Reads, limits: Limits) -> list[str]:
 
 
 def refused(call: str, number: int, reads: Reads, limits: Limits) -> list[str]:
-    advice = {3: above(reads, limits), 5: [COARSER]}.get(number, [])
-    return [refusal(call, number, limits), *advice]
+    places = above(reads, limits) if number == 3 else []
+    return [refusal(call, number, limits), *places, *([ADVICE[number]] if number in ADVICE else [])]
