@@ -6,3 +6,6 @@ pub mod Only
 pub mod Rows
 pub mod Meaning
 pub mod Same
+pub mod Agree
+pub mod LeftOut
+pub mod Needed

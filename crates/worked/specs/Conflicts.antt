@@ -57,6 +57,14 @@ aside = job 1 3 1 1 ∷ job 0 3 2 1 ∷ job 0 1 1 1 ∷ job 2 3 1 1 ∷ []
 abbrev pub asideLog : List ℕ
 asideLog = noted 0 0 1 1 2 ++ noted 1 0 0 1 4 ++ noted 0 0 2 1 8
 
+-- the same, but job 2 has time 1 as well, from which 1 keeps it
+abbrev pub pushedAside : List Job
+pushedAside = job 1 3 1 1 ∷ job 0 3 2 1 ∷ job 0 2 1 1 ∷ job 2 3 1 1 ∷ []
+
+-- by hand: 1 moves 2, then as before. Jobs 0, 1 and 3 are marked in the end, but the record that moves 1 holds only behind the one that moves 2
+abbrev pub pushedAsideLog : List ℕ
+pushedAsideLog = noted 2 1 1 1 2 ++ asideLog
+
 -- two jobs that want one time, with so many between them that ask for nothing
 abbrev pub farApart : ℕ → List Job
 farApart between = job 0 1 1 1 ∷ (replicate between (job 0 9 1 0) ++ (job 0 1 1 1 ∷ []))
