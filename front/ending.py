@@ -8,6 +8,7 @@ from __future__ import annotations
 import os
 import signal
 import sys
+import traceback
 from collections.abc import Callable
 
 GOOD, REFUSED, STOPPED = 0, 1, 2
@@ -68,4 +69,8 @@ def run(command: Callable[[list[str]], tuple[list[str], int]]) -> None:
     except Stop as stop:
         complain(str(stop))
         sys.exit(stop.status)
+    except Exception as wrong:
+        place = traceback.extract_tb(wrong.__traceback__)[-1]
+        complain(f"The command itself has a fault, at line {place.lineno} of {os.path.basename(place.filename)}: {type(wrong).__name__}, {wrong}")
+        sys.exit(STOPPED)
     sys.exit(status if put(lines) else STOPPED)

@@ -12,7 +12,7 @@ from typing import NamedTuple
 
 from .places import Fault, Text, stop
 
-QUOTED = re.compile(r'[ \t]*"([^"]*(?:""[^"]*)*)"[ \t]*')
+QUOTED = re.compile(r'[ \t]*"([^"]*(?:""[^"]*)*)"(?!")[ \t]*')
 OPENED = re.compile(r'[ \t]*"')
 NOTE = re.compile(r"[ \t]*#([^\n]*)")
 SEPARATOR = re.compile(r"sep=([,;])\r?\n")
@@ -49,7 +49,7 @@ def separator(letters: str) -> str:
     return ","
 
 
-class Taking:
+class Walk:
     """The walk through a text, a row at a time."""
 
     def __init__(self, text: Text) -> None:
@@ -118,4 +118,4 @@ def whole_sheet(file: str, text: Text) -> Sheet:
     """Where a carriage return stands alone, lines may be parted in another way than here, and nothing else is looked at."""
     if alone := ALONE.search(text.letters):
         stop(file, [text.fault(alone.start(), "a carriage return without a line feed; lines have to end with a line feed")])
-    return Taking(text).sheet()
+    return Walk(text).sheet()

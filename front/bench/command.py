@@ -1,14 +1,12 @@
 """./bench: a list of reads in; narrowed windows, reasons in sentences and a picture out. USAGE in front/bench/options.py says what can be asked.
 
 The windows that go in are always those of the file, with the starts that are fixed; what is written out is no list, so that no run can take another's windows for
-the submitted ones. Input is read before the program is started, and nothing is written before it has ended well.
+the submitted ones. Input is read before the program is started, but for what belongs to a project, and nothing is written before it has ended well.
 """
 
 from __future__ import annotations
 
 import os
-import shutil
-import sys
 from typing import NamedTuple
 
 from asking import Unasked, name, started
@@ -29,8 +27,8 @@ from .projects import Refused, project_of, reads_of_project
 from .reads import Reads, reads_of
 from .sentences import Teller
 from .statuses import DISAGREE, REFUSED, SETTLED
-from .told import refused, told
-from .verdict import Desk, Verdict, contradicts, submitted
+from .told import against, refused, told
+from .verdict import Desk, Verdict, contradicts, submitted, words_of
 
 # The columns of a picture in letters where no terminal says how many it has.
 COLUMNS = 100
@@ -58,7 +56,7 @@ def prepared(options: Options, reads: Reads | None, known: Limits) -> Prepared:
     return Prepared(CHECK if log else PLAN if plan else NARROW, reads, plan.starts if plan else starts, plan, log)
 
 
-def unasked(bad: list[str], reads: Reads) -> tuple[Verdict, list[str]]:
+def not_asked(bad: list[str], reads: Reads) -> tuple[Verdict, list[str]]:
     windows = submitted(reads)
     return Verdict("", (), windows, before=windows), bad
 
@@ -67,15 +65,16 @@ def log_judged(file: str, ready: Prepared, desk: Desk) -> tuple[Verdict, list[st
     """What the checker says of a log, and what makes it bad."""
     log, reads = ready.log, ready.reads
     if other := difference(log.reads, reads) or other_starts(log.starts, ready.starts, reads):
-        return unasked([f"{file}: the log is not of this list: {other}."], reads)
+        return not_asked([f"{file}: the log is not of this list: {other}."], reads)
     verdict = desk.checked(log.records)
-    said = " ".join((verdict.word, *map(str, verdict.numbers)))
+    said = words_of(verdict.word, verdict.numbers)
+    where = against(ready.kind)
     if verdict.word == "rejected":
         place, number = verdict.numbers
         claim = Teller(desk.reads).claim(log.records[place])
-        return verdict, [f"{file}:{log.record_lines[place]}: the log is rejected at its record {place}, {code(number, desk.limits)}", *claim]
+        return verdict, [f"{file}:{log.record_lines[place]}: the log is rejected, checked {where}: at its record {place} {code(number, desk.limits)}", *claim]
     if verdict.word != "refused" and said != log.end:
-        return verdict, [f"{file}:{log.end_line}: the log's end says '{log.end}', and the checker '{said}'."]
+        return verdict, [f"{file}:{log.end_line}: the log is bad, checked {where}: its end says '{log.end}', and the checker '{said}'."]
     return verdict, []
 
 
@@ -83,7 +82,7 @@ def judged(options: Options, ready: Prepared, desk: Desk) -> Case:
     if ready.log:
         verdict, bad = log_judged(options.values["check"], ready, desk)
     elif ready.plan and ready.plan.bad:
-        verdict, bad = unasked([f"The plan is bad: {why}." for why in ready.plan.bad], ready.reads)
+        verdict, bad = not_asked([f"The plan is bad: {why}." for why in ready.plan.bad], ready.reads)
     else:
         verdict, bad = desk.narrowed(), []
     source = os.path.basename(options.file or options.values["check"])
@@ -102,8 +101,7 @@ def spoken(options: Options, case: Case, desk: Desk) -> list[str]:
         return [*short, *(f"{options.values[name]} is not written." for name in WRITTEN if name in options.values)]
     lines = told(case, desk, "why" in options.named)
     if "text-picture" in options.named:
-        columns = shutil.get_terminal_size((COLUMNS, 0)).columns if sys.stdout.isatty() else COLUMNS
-        lines += ["", *letters(case.scene(), columns)]
+        lines += ["", *letters(case.scene(), os.get_terminal_size(1).columns if os.isatty(1) else COLUMNS)]
     return lines
 
 
@@ -125,8 +123,8 @@ def guard(options: Options) -> None:
     outputs = [options.values[name] for name in WRITTEN if name in options.values]
     for place, file in enumerate(outputs):
         for other in inputs + outputs[:place]:
-            if os.path.realpath(file) == os.path.realpath(other):
-                raise Stop(f"{file}: it would be written over.")
+            if os.path.realpath(file) == os.path.realpath(other) or (os.path.exists(file) and os.path.exists(other) and os.path.samefile(file, other)):
+                raise Stop(f"{file} would be written over.")
 
 
 def write(file: str, lines: list[str]) -> None:
@@ -134,7 +132,7 @@ def write(file: str, lines: list[str]) -> None:
         with open(file, "w", encoding="utf-8", newline="\n") as opened:
             opened.writelines(line + "\n" for line in lines)
     except (OSError, ValueError):
-        raise Stop(f"{file}: it cannot be written.") from None
+        raise Stop(f"{file} cannot be written.") from None
 
 
 def answered(options: Options, known: Limits) -> tuple[list[str], dict[str, list[str]], int]:

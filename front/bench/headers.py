@@ -9,23 +9,10 @@ import re
 from typing import NamedTuple
 
 from .cells import Cell, Sheet
+from .columns import COLUMN
 from .notes import Units
 from .places import Fault
 from .quantities import CLOCK, MINUTES, TICKS
-
-# The columns of a list, with what is said of a cell in them.
-COLUMNS = {"unit": "the unit", "earliest": "the earliest start", "latest": "the latest end", "length": "the length", "draw": "the draw"}
-
-NAMES = {
-    "unit": ("unit", "read", "name", "job"),
-    "earliest": ("earliest", "earliest start", "from", "not before", "release", "est"),
-    "latest": ("latest", "latest end", "until", "to", "end by", "deadline", "lct"),
-    "length": ("length", "duration", "lasts", "dur"),
-    "draw": ("draw", "draws", "demand", "current", "dem"),
-}
-COLUMN = {name: column for column, names in NAMES.items() for name in names}
-
-NAME = re.compile(r"([^(\[]*?)\s*(?:[(\[]([^)\]]*)[)\]])?")
 
 
 class Header(NamedTuple):
@@ -39,10 +26,10 @@ class Header(NamedTuple):
 
 def taken_apart(cell: Cell, columns: dict[str, str]) -> tuple[str | None, str | None]:
     """The column of that name and the unit behind it."""
-    said = NAME.fullmatch(cell.text)
-    if not said:
+    name, bracket, behind = re.sub(r"[\[\]]", lambda sign: {"[": "(", "]": ")"}[sign[0]], cell.text).partition("(")
+    if bracket and not behind.endswith(")"):
         return None, None
-    return columns.get(" ".join(said[1].lower().split())), said[2]
+    return columns.get(" ".join(name.lower().split())), behind[:-1].strip() if bracket else None
 
 
 def units_known(column: str, units: Units) -> tuple[str, ...]:
@@ -61,11 +48,10 @@ def unit_faults(sheet: Sheet, found: dict[str, tuple[Cell, str | None]], units: 
         known = units_known(column, units)
         if unit is None or column == "unit":
             continue
-        unit = unit.strip()
         if column != "draw" and not known and unit != TICKS:
             tick = tick or unit
             known = (tick,)
-        if known and unit not in known:
+        if known and unit not in known and not (column != "draw" and unit.upper() == CLOCK and CLOCK in known):
             faults.append(sheet.text.fault(cell.at, f"the column '{cell.text}' is read in {known[0]}"))
     return faults
 

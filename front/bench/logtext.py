@@ -11,7 +11,7 @@ from limits import Limits
 from .logs import version
 from .places import Fault, Text, stop, text_of
 from .quantities import CLOCK, TICKS, Draws, Times, natural, step_of
-from .reads import LOG, Reads, key, name_fault
+from .reads import LOG, Names, Reads
 from .records import WORD, Record, set_words
 
 READ, FIX, RECORD, END = "read", "fix", "record", "end"
@@ -32,17 +32,20 @@ class Log(NamedTuple):
     end_line: int
 
 
-class Taking:
+class Walk:
+    """The lines of a log, one by one."""
+
     def __init__(self, text: Text, limits: Limits) -> None:
         self.text, self.limits = text, limits
         self.faults: list[Fault] = []
         self.found: dict[str, list] = {word: [] for word in ORDER}
         self.lines: dict[str, list[int]] = {word: [] for word in ORDER}
-        self.known: dict[str, int] = {}
+        self.names = Names()
         self.line = 0
 
-    def wrong(self, what: str, column: int = 1) -> None:
-        self.faults.append(Fault(self.line, column, what))
+    def wrong(self, what: str) -> None:
+        """A line of a log is short: it is told by its first column."""
+        self.faults.append(Fault(self.line, 1, what))
 
     def number(self, word: str) -> int:
         value = natural(word) if re.fullmatch("[0-9]+", word) else None
@@ -77,11 +80,8 @@ class Taking:
             self.wrong("a read has its earliest start, latest end, length, draw and, in quotes, its unit's name")
             return 0, 0, 0, 0, ""
         unit = said[2].replace('""', '"')
-        if what := name_fault(unit):
+        if what := self.names.fault(unit, self.line):
             self.wrong(what)
-        elif key(unit) in self.known:
-            self.wrong(f"the unit '{unit}' is there already, in line {self.known[key(unit)]}")
-        self.known.setdefault(key(unit), self.line)
         return *self.numbers(said[1]), unit
 
     def fix(self, rest: str) -> tuple[int, int]:
@@ -130,11 +130,10 @@ class Taking:
 
     def taken(self) -> None:
         """Every line, and what is missing among them."""
-        lines = self.text.letters.split("\n")
-        for self.line, line in enumerate(lines[:-1], 1):
+        *lines, rest = self.text.letters.split("\n")
+        for self.line, line in enumerate(lines + [rest] if rest else lines, 1):
             self.take(line[:-1] if line.endswith("\r") else line)
-        self.line = len(lines)
-        if lines[-1]:
+        if rest:
             self.wrong("the last line is not ended")
         for word in ORDER:
             if word not in MANY and not self.lines[word]:
@@ -149,11 +148,11 @@ def log_of_file(file: str, limits: Limits) -> Log:
     text = text_of(file)
     if not text.letters.startswith(f"{LOG} "):
         stop(file, [Fault(1, 1, f"this is no log: its first line has to be '{LOG} {version()}'")])
-    taking = Taking(text, limits)
-    taking.taken()
-    if taking.faults:
-        stop(file, taking.faults)
-    found = taking.found
+    walk = Walk(text, limits)
+    walk.taken()
+    if walk.faults:
+        stop(file, walk.faults)
+    found = walk.found
     *lists, units = map(list, zip(*found[READ])) if found[READ] else ([], [], [], [], [])
     reads = Reads(units, *lists, found["supply"][0], found["time"][0], found["step"][0])
-    return Log(reads, dict(found[FIX]), found[RECORD], found[END][0], taking.lines[RECORD], taking.lines[END][0])
+    return Log(reads, dict(found[FIX]), found[RECORD], found[END][0], walk.lines[RECORD], walk.lines[END][0])

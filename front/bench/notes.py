@@ -7,18 +7,20 @@ begins with # is a remark, unless it looks like a read: a read that is left out 
 from __future__ import annotations
 
 import re
+from itertools import takewhile
 from typing import NamedTuple
 
 from limits import Limits
 
 from .cells import Cell, Sheet
+from .columns import COLUMNS
 from .places import Fault
 from .quantities import CLOCK, TICKS, Draws, Times, step_of
 
 SAID = re.compile(r"[ \t]*(supply|time|step)[ \t]*:[ \t]*", re.IGNORECASE)
 
 # A note is like a read where it has as many cells as a list has columns, or some of them and among these two numbers.
-ALL_CELLS, SOME_CELLS, NUMBERS = 5, 3, 2
+SOME_CELLS, NUMBERS = 3, 2
 
 
 class Units(NamedTuple):
@@ -33,10 +35,12 @@ class Units(NamedTuple):
 
 def is_like_a_read(parts: list[str]) -> bool:
     filled = [part.strip() for part in parts if part.strip()]
-    return len(filled) >= ALL_CELLS or (len(filled) >= SOME_CELLS and sum(part[0].isdigit() for part in filled[1:]) >= NUMBERS)
+    return len(filled) >= len(COLUMNS) or (len(filled) >= SOME_CELLS and sum(part[0].isdigit() for part in filled[1:]) >= NUMBERS)
 
 
-class Taking:
+class Notes:
+    """The notes of a sheet, taken one by one."""
+
     def __init__(self, sheet: Sheet, limits: Limits) -> None:
         self.sheet, self.limits = sheet, limits
         self.faults: list[Fault] = []
@@ -59,21 +63,23 @@ class Taking:
             self.wrong(cell, f"a second line '# {name}:'")
         self.said.setdefault(name, cell)
 
-    def times(self) -> Times:
+    def times(self) -> Times | None:
         cell = self.said.get("time")
-        if cell and cell.text.lower() not in (CLOCK.lower(), TICKS):
+        form = cell.text.lower() if cell else TICKS
+        if form not in (CLOCK.lower(), TICKS):
             self.wrong(cell, f"the time '{cell.text}' is neither {CLOCK} nor {TICKS}")
-        return Times(bool(cell) and cell.text.lower() == CLOCK.lower())
+            return None
+        return Times(form != TICKS)
 
-    def draws(self) -> Draws:
+    def draws(self) -> Draws | None:
         cell, supply = self.said.get("step"), self.said.get("supply")
         if cell is None:
-            unit = re.search(r"[^\W\d_]*$", supply.text)[0] if supply else ""
-            return Draws(unit=unit)
+            letters = takewhile(str.isalpha, reversed(supply.text)) if supply else ()
+            return Draws(unit="".join(letters)[::-1])
         step = step_of(cell.text if self.sheet.comma else cell.text.replace(",", "."))
         if step is None:
             self.wrong(cell, f"the step '{cell.text}' is no step such as 1, 0.1 A or 0.25 A")
-        return step or Draws()
+        return step
 
     def supply(self, draws: Draws) -> int:
         cell = self.said.get("supply")
@@ -89,13 +95,9 @@ class Taking:
 
 
 def units_of(sheet: Sheet, limits: Limits) -> Units:
-    taking = Taking(sheet, limits)
+    notes = Notes(sheet, limits)
     for note in sheet.notes:
-        taking.take(note)
-    counts = [len(taking.faults)]
-    times = taking.times()
-    counts.append(len(taking.faults))
-    draws = taking.draws()
-    counts.append(len(taking.faults))
-    supply = taking.supply(draws) if counts[1] == counts[2] else 0
-    return Units(supply, times, draws, taking.faults, counts[0] == counts[2])
+        notes.take(note)
+    times, draws = notes.times(), notes.draws()
+    supply = 0 if draws is None else notes.supply(draws)
+    return Units(supply, times or Times(), draws or Draws(), notes.faults, None not in (times, draws))

@@ -17,6 +17,8 @@ def answer_of(case: Case) -> dict[str, object]:
     judged = {PLAN: "plan", CHECK: "log", CHECK_ALONE: "log"}.get(case.kind)
     if judged and word != "refused":
         told[judged] = "good" if case.status == SETTLED or (judged == "log" and not case.bad) else "bad"
+    if judged == "log":
+        told["against"] = "log" if case.kind == CHECK_ALONE else "list"
     return told
 
 
@@ -27,6 +29,8 @@ def object_of(case: Case, sentences: Sequence[str]) -> dict[str, object]:
     return {
         **answer_of(case),
         "supply": reads.supply,
+        **({"horizon": reads.horizon} if reads.horizon is not None else {}),
+        **({"fixed": {reads.units[job]: start for job, start in sorted(case.starts.items())}} if case.starts else {}),
         "reads": [{**dict(zip(names, row)), "now": list(row[-1])} for row in rows],
         "records": [record._asdict() for record in verdict.records],
         "sentences": list(sentences),

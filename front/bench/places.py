@@ -5,13 +5,16 @@ from __future__ import annotations
 from bisect import bisect_right
 from typing import NamedTuple, NoReturn
 
-from ending import Stop
+from ending import Stop, shown
 from files import bytes_of
 
 MARK = b"\xef\xbb\xbf"
 
 # A list of reads, a plan or a log has fewer bytes; what has more is something else.
 MOST_BYTES = 16 * 1024 * 1024
+
+# The most letters of a sentence about a file.
+LONGEST = 400
 
 
 class Fault(NamedTuple):
@@ -22,8 +25,14 @@ class Fault(NamedTuple):
     what: str
 
 
+def plain(text: str) -> str:
+    """What somebody has written, on one line and not too long: the middle of a long text is left out."""
+    text = shown(text).replace("\n", "\\n")
+    return text if len(text) <= LONGEST else f"{text[: LONGEST // 2]} .. {text[-LONGEST // 2 :]}"
+
+
 def stop(file: str, faults: list[Fault]) -> NoReturn:
-    raise Stop("\n".join(f"{file}:{line}:{column}: {what}" for line, column, what in sorted(faults)))
+    raise Stop("\n".join(f"{file}:{line}:{column}: {plain(what)}" for line, column, what in sorted(faults)))
 
 
 class Text:

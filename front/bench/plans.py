@@ -7,14 +7,13 @@ from typing import NamedTuple
 from ending import Stop
 
 from .cells import Cell, Sheet, whole_sheet
-from .headers import NAMES, header_of
+from .columns import PLANNED
+from .headers import header_of
 from .notes import SAID, Units
 from .places import Fault, stop, text_of
 from .quantities import Times
 from .reads import Reads, key, row_fault
 from .sentences import Teller, quoted
-
-COLUMN = {**{name: "unit" for name in NAMES["unit"]}, **{name: "start" for name in ("start", "starts", "start time", "starts at", "at")}}
 
 
 class Plan(NamedTuple):
@@ -32,7 +31,7 @@ def outside(reads: Reads, job: int, start: int) -> str | None:
     """What is said of a start that is not in the read's submitted window."""
     if reads.earliest[job] <= start and start + reads.lengths[job] <= reads.latest[job]:
         return None
-    teller, times = Teller(reads), reads.times
+    teller = Teller(reads)
     window = teller.window((reads.earliest[job], reads.latest[job]))
     return f"{quoted(reads.units[job])} would be read from {teller.window((start, start + reads.lengths[job]))}, outside its submitted window {window}"
 
@@ -60,7 +59,9 @@ def fixed(words: list[str], reads: Reads) -> dict[int, int]:
     return starts
 
 
-class Rows:
+class PlanRows:
+    """The rows of a plan, read one by one."""
+
     def __init__(self, sheet: Sheet, columns: list[str | None], reads: Reads) -> None:
         self.sheet, self.columns, self.reads = sheet, columns, reads
         self.jobs = jobs_by_name(reads)
@@ -108,8 +109,8 @@ def time_faults(sheet: Sheet, times: Times) -> list[Fault]:
 
 def plan_of(file: str, reads: Reads) -> Plan:
     sheet = whole_sheet(file, text_of(file))
-    header = header_of(sheet, Units(0, reads.times, reads.draws, [], True), COLUMN)
-    rows = Rows(sheet, header.columns, reads)
+    header = header_of(sheet, Units(0, reads.times, reads.draws, [], True), PLANNED)
+    rows = PlanRows(sheet, header.columns, reads)
     for cells in sheet.rows[1:] if header.columns else []:
         rows.row(cells)
     faults = [*sheet.faults, *header.faults, *rows.faults, *time_faults(sheet, reads.times)]

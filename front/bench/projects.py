@@ -4,7 +4,7 @@ from __future__ import annotations
 
 from typing import NamedTuple
 
-from asking import Program
+from asking import Program, no_answer
 from limits import Limits
 from reading import AUTO, Task, read, refused_lines, task_of
 
@@ -31,4 +31,7 @@ def reads_of_project(program: Program, task: Task) -> Reads | Refused:
     supply, count = reading.answer.numbers
     earliest, latest, lengths, demands, jobs, successors = reading.answer.lists
     units = [f"job {place}" for place in range(1, len(earliest) + 1)]
-    return Reads(units, earliest, latest, lengths, demands, supply, Times(), Draws(), list(zip(jobs, successors))[:count])
+    pairs = list(zip(jobs, successors))[:count]
+    if len(pairs) < count or any(job >= len(units) for pair in pairs for job in pair):
+        raise no_answer()
+    return Reads(units, earliest, latest, lengths, demands, supply, Times(), Draws(), pairs, reading.horizon)

@@ -12,8 +12,9 @@ from typing import NamedTuple
 CLOCK, MINUTES, TICKS = "HH:MM", "min", "ticks"
 HOUR = 60
 
-# A number of more digits is above every limit, and counts as another one that is.
+# A number of more digits is above every limit, and counts as this one.
 DIGITS = 12
+ABOVE_ALL = 10**DIGITS
 
 
 class Times(NamedTuple):
@@ -71,6 +72,8 @@ class Draws(NamedTuple):
         decimals = (said[2] or "") if said else ""
         if not said or len(decimals) > self.places:
             return None
+        if natural(said[1]) == ABOVE_ALL:
+            return ABOVE_ALL
         scaled = natural(said[1]) * 10**self.places + int(decimals.ljust(self.places, "0") or "0")
         return None if scaled % self.step else scaled // self.step
 
@@ -86,7 +89,7 @@ class Draws(NamedTuple):
 
 def natural(digits: str) -> int:
     significant = digits.lstrip("0")
-    return int(significant or "0") if len(significant) <= DIGITS else 10**DIGITS
+    return int(significant or "0") if len(significant) <= DIGITS else ABOVE_ALL
 
 
 def whole(word: str) -> int | None:
@@ -95,7 +98,7 @@ def whole(word: str) -> int | None:
 
 def step_of(word: str) -> Draws | None:
     """The step that is written so, as `0.1 A`; none where that is no step."""
-    said = re.fullmatch(r"([0-9]{1,6})(?:\.([0-9]{1,6}))?(?:\s*([^\W\d_]+))?", word)
+    said = re.fullmatch(r"([0-9]{1,6})(?:\.([0-9]{1,6}))?(?:\s*([^\W\d_]{1,8}))?", word)
     if not said:
         return None
     decimals = said[2] or ""

@@ -14,18 +14,20 @@ from ending import Stop
 from limits import Limits
 
 from .cells import Cell, Sheet, whole_sheet
-from .headers import COLUMNS, Header, header_of
+from .columns import COLUMNS
+from .headers import Header, header_of
 from .notes import Units, units_of
 from .places import Fault, stop, text_of
 from .quantities import Draws, Times
 
-# The first word of a log file.
+# The first word of a log file, and the most letters of a unit's name.
 LOG = "tarqumbet-log"
+LONGEST = 200
 
 
 class Reads(NamedTuple):
-    """Units, and of each its earliest start, latest end, length and draw, in ticks and steps; of a project pairs of a read and one that follows it; the columns of a
-    list that are not used."""
+    """Units, and of each its earliest start, latest end, length and draw, in ticks and steps; of a project pairs of a read and one that follows it, and its
+    horizon; the columns of a list that are not used."""
 
     units: Sequence[str]
     earliest: Sequence[int]
@@ -36,6 +38,7 @@ class Reads(NamedTuple):
     times: Times
     draws: Draws
     pairs: Sequence[tuple[int, int]] = ()
+    horizon: int | None = None
     unused: Sequence[str] = ()
 
     @property
@@ -55,12 +58,23 @@ def key(unit: str) -> str:
     return unicodedata.normalize("NFC", unit)
 
 
-def name_fault(unit: str) -> str | None:
-    """What is wrong with the name of a unit. It is written into tables, pictures and logs as it is, so each letter of it has to be one that shows."""
-    if not unit:
-        return "a unit without a name"
-    hidden = next((letter for letter in unit if not letter.isprintable()), None)
-    return f"a unit's name has the letter U+{ord(hidden):04X}, which does not show" if hidden else None
+class Names:
+    """The names of units, each with its line. They are written into tables, pictures and logs as they are, so each letter has to be one that shows."""
+
+    def __init__(self) -> None:
+        self.lines: dict[str, int] = {}
+
+    def fault(self, unit: str, line: int) -> str | None:
+        """What is wrong with the next name."""
+        hidden = next((letter for letter in unit if not letter.isprintable()), None)
+        if not unit or unit != unit.strip():
+            return "a unit's name begins or ends with a blank" if unit.strip() else "a unit without a name"
+        if hidden:
+            return f"a unit's name has the letter U+{ord(hidden):04X}, which does not show"
+        if len(unit) > LONGEST:
+            return f"a unit's name has more than {LONGEST} letters"
+        before = self.lines.setdefault(key(unit), line)
+        return None if before == line else f"the unit '{unit}' is there already, in line {before}"
 
 
 def row_fault(cells: list[Cell], header: list[Cell]) -> str | None:
@@ -72,13 +86,13 @@ def row_fault(cells: list[Cell], header: list[Cell]) -> str | None:
     return None if extra is None else f"the cell '{extra}' of this row stands under no name of the header"
 
 
-class Rows:
+class ReadRows:
     """The rows behind a header, read one by one."""
 
     def __init__(self, sheet: Sheet, header: Header, units: Units, limits: Limits) -> None:
         self.sheet, self.header, self.units, self.limits = sheet, header, units, limits
         self.faults: list[Fault] = []
-        self.known: dict[str, int] = {}
+        self.names = Names()
         self.found: dict[str, list] = {column: [] for column in COLUMNS}
 
     def wrong(self, cell: Cell, what: str) -> None:
@@ -103,13 +117,8 @@ class Rows:
         return value or 0
 
     def unit(self, cell: Cell) -> str:
-        line, _ = self.sheet.text.place(cell.at)
-        if what := name_fault(cell.text):
+        if what := self.names.fault(cell.text, self.sheet.text.place(cell.at)[0]):
             self.wrong(cell, what)
-        elif key(cell.text) in self.known:
-            self.wrong(cell, f"the unit '{cell.text}' is there already, in line {self.known[key(cell.text)]}")
-        else:
-            self.known[key(cell.text)] = line
         return cell.text
 
     def row(self, cells: list[Cell]) -> None:
@@ -138,7 +147,7 @@ def reads_of(file: str, limits: Limits) -> Reads:
     sheet = whole_sheet(file, text)
     units = units_of(sheet, limits)
     header = header_of(sheet, units)
-    rows = Rows(sheet, header, units, limits)
+    rows = ReadRows(sheet, header, units, limits)
     for cells in sheet.rows[1:] if header.columns else []:
         rows.row(cells)
     faults = [*sheet.faults, *units.faults, *header.faults, *rows.faults]

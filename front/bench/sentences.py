@@ -25,8 +25,8 @@ def plural(number: int, what: str) -> str:
 
 
 def quoted(unit: str) -> str:
-    """Names may hold commas, so that nobody could tell where one ends."""
-    return f"“{unit}”"
+    """Names may hold commas, so that nobody could tell where one ends; they may hold these quotes too."""
+    return f'"{unit}"' if "“" in unit or "”" in unit else f"“{unit}”"
 
 
 class Teller:
@@ -107,7 +107,7 @@ class Teller:
         if len(marked) == 1:
             return f"{said}."
         another = "another start, another window" if starts else "another window"
-        return f"{said}: one of them has to get {another}, or another day."
+        return f"{said}: one of them has to get {another}, or {'all of them a later horizon' if self.reads.horizon is not None else 'another day'}."
 
     def overdrawn(self, record: Record) -> str:
         """A plan's clash: all starts are fixed, so the moved read is read at that time too."""

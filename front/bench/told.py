@@ -8,7 +8,8 @@ from limits import Limits
 from refusals import refusal
 
 from .case import CHECK, CHECK_ALONE, NARROW, PLAN, Case
-from .headers import COLUMNS
+from .columns import COLUMNS
+from .places import plain
 from .reads import Reads
 from .sentences import Teller, listed, plural, quoted
 from .table import NARROWED, PLANNED, table
@@ -16,13 +17,16 @@ from .verdict import Desk, submitted
 
 # What can be done about a refusal (docs/ANSWERS.md, 'Refusals'). Where times are coarser, fewer records are needed; rounded in this way, a plan of the coarser list
 # is one of the finer.
-ROUNDED = "Round so that no window gets wider, no read shorter, no draw less and the supply no greater: earliest starts up, latest ends down, lengths and draws up."
+ROUNDED = (
+    "Round so that no window gets wider, no read shorter, no draw less and the supply no greater: earliest starts up, latest ends down, lengths and draws up. "
+    "A clash of the coarser list does not say that the finer one has no schedule."
+)
 ADVICE = {
     2: "Where reads fall into parts whose windows do not overlap, make a list of each part.",
     3: f"Take a coarser step of time or of draws. {ROUNDED}",
     5: f"Take a coarser step of time, such as minutes in place of seconds: fewer records are needed then. {ROUNDED}",
 }
-CHAINS = "The project's precedences count here by their longest chains alone; starts have to respect each of them besides."
+CHAINS = "The horizon is {}. The project's precedences count here by their longest chains alone; starts have to respect each of them besides."
 
 
 def with_starts(case: Case) -> str:
@@ -45,7 +49,7 @@ def settled(case: Case) -> str:
 
 def clash(case: Case) -> str:
     reads = case.reads
-    supply = reads.draws.say(reads.supply)
+    supply = reads.draws.say(reads.supply) + (f" by the horizon {reads.horizon}" if reads.horizon is not None else "")
     made, needed = case.verdict.numbers[0], len(case.verdict.records)
     taken = f"The checker took {'the record' if made == 1 else f'all {made} records'}{'' if case.starts else ' from the submitted windows'}"
     taken = taken if made else "The checker says the same"
@@ -56,11 +60,14 @@ def clash(case: Case) -> str:
     return f"Clash: {'this read has' if len(reads.units) == 1 else f'these {len(reads.units)} reads have'} no schedule on {supply}. {taken}."
 
 
+def against(kind: str) -> str:
+    return "against the windows that the log itself states" if kind == CHECK_ALONE else "against the submitted windows of the list"
+
+
 def checked(case: Case) -> str:
     """Of a log that the checker takes."""
-    where = "against the windows that the log itself states" if case.kind == CHECK_ALONE else "against the submitted windows of the list"
     starts = with_starts(case)
-    holds = f"The log holds, checked {where}{f' with {starts}' if starts else ''}"
+    holds = f"The log holds, checked {against(case.kind)}{f' with {starts}' if starts else ''}"
     number = plural(case.verdict.numbers[0], "record")
     if case.is_clash:
         return f"{holds}: {number} and a clash, so {f'no schedule starts {starts}' if starts else 'there is no schedule'}."
@@ -89,7 +96,7 @@ def reasons(case: Case, desk: Desk, why: bool) -> Iterator[str]:
     if not why or not runs:
         yield from (f"{place}. {sentence}" for place, sentence in enumerate(said, 1))
         return
-    for place, windows in enumerate(desk.after(case.verdict.records, [run.first for run in runs])):
+    for place, windows in enumerate(desk.reached(case.verdict.records, [run.first for run in runs])):
         yield f"{place + 1}. {said[place]}"
         yield from (f"     {line}" for line in Teller(case.asked).rests_on(runs[place], windows, case.kind == PLAN))
 
@@ -97,8 +104,8 @@ def reasons(case: Case, desk: Desk, why: bool) -> Iterator[str]:
 def told(case: Case, desk: Desk, why: bool) -> list[str]:
     """The whole text."""
     lines = [summary(case)]
-    lines += [CHAINS] if case.reads.pairs and case.kind == NARROW else []
-    lines += [f"Not used: the column{'s' if len(case.reads.unused) > 1 else ''} {listed([quoted(name) for name in case.reads.unused])}."] if case.reads.unused else []
+    lines += [CHAINS.format(case.reads.horizon)] if case.reads.horizon is not None and case.kind != PLAN else []
+    lines += [f"Not used: the column{'s' if len(case.reads.unused) > 1 else ''} {listed([quoted(plain(name)) for name in case.reads.unused])}."] if case.reads.unused else []
     head = PLANNED if case.kind == PLAN else NARROWED
     lines += ["", *table(case.reads, case.windows, case.verdict.marked, head)] if case.reads.units else []
     said = list(reasons(case, desk, why))

@@ -15,6 +15,7 @@ from ending import Stop
 from limits import Limits
 from refusals import CODES
 
+from .counts import after, is_narrowable, refusal_of
 from .reads import Reads
 from .records import Record, jobs_of, log_of, needed, records_of, set_words
 from .scene import Window
@@ -33,8 +34,13 @@ class Verdict(NamedTuple):
     before: Sequence[Window] = ()
 
 
+def words_of(word: str, numbers: Sequence[int]) -> str:
+    """An answer without its lists, as the program says it."""
+    return " ".join((word, *map(str, numbers)))
+
+
 def spoken(answer: calls.Answer) -> str:
-    return " ".join((answer.word, *map(str, answer.numbers)))
+    return words_of(answer.word, answer.numbers)
 
 
 def contradicts(how: str) -> Stop:
@@ -62,43 +68,47 @@ class Desk:
     def check(self, count: int, log: Sequence[int]) -> calls.Answer:
         return self.judged("check", count, log, [len(self.reads.units)] * 2)
 
-    def narrow(self) -> tuple[calls.Answer, bool]:
-        """With room for as many records as there may be at most, or as many as a line holds; and whether that is always enough (docs/ANSWERS.md, refusal 5)."""
+    def most(self) -> int:
+        """As many records as there may be at most (docs/ANSWERS.md, refusal 5)."""
         reads = self.reads
-        most = 1 + sum(max(0, end - start - length) for start, end, length in zip(reads.earliest, reads.latest, reads.lengths))
-        words = min(most, self.limits.records) * self.limits.record
-        said = self.program.answer(calls.narrowing(reads.supply, reads.lists, words))
-        return calls.understood("narrow", said, [len(reads.units)] * 2 + [words]), most <= self.limits.records
+        return 1 + sum(max(0, end - start - length) for start, end, length in zip(reads.earliest, reads.latest, reads.lengths))
 
-    def refused(self, answer: calls.Answer, enough: bool) -> Verdict:
-        """Refusals of the list itself are the checker's too; there is no other but that of a log that is too short."""
+    def narrow(self) -> calls.Answer:
+        """With room for so many, or for as many as a line holds."""
+        reads, words = self.reads, min(self.most(), self.limits.records) * self.limits.record
+        said = self.program.answer(calls.narrowing(reads.supply, reads.lists, words))
+        return calls.understood("narrow", said, [len(reads.units)] * 2 + [words])
+
+    def refused(self, call: str, answer: calls.Answer) -> Verdict:
+        """Refusals of the list itself are the checker's too; beside them there is that of a log that is too short."""
         [number] = answer.numbers
-        if number != 5:
-            checked = self.check(0, [])
-            if spoken(checked) != spoken(answer):
-                raise contradicts(f"narrow says '{spoken(answer)}', check '{spoken(checked)}'")
-        elif enough:
-            raise contradicts("narrow says 'refused 5' where the log has room for every record that there can be")
+        if number != 5 and number != refusal_of(self.reads, self.limits):
+            raise contradicts(f"{call} says '{spoken(answer)}' of a list that gives no ground for it")
+        if call == "narrow" and number != 5 and spoken(checked := self.check(0, [])) != spoken(answer):
+            raise contradicts(f"narrow says '{spoken(answer)}', check '{spoken(checked)}'")
+        if number == 5 and self.most() <= self.limits.records:
+            raise contradicts(f"{call} says 'refused 5' where the log has room for every record that there can be")
         return Verdict("refused", answer.numbers, submitted(self.reads))
 
     def agrees(self, told: str, checked: calls.Answer, word: str, numbers: Sequence[int], windows: Sequence[Window]) -> None:
-        wanted = " ".join((word, *map(str, numbers)))
+        wanted = words_of(word, numbers)
         if spoken(checked) != wanted:
             raise contradicts(f"{told}, but check says '{spoken(checked)}' where it has to say '{wanted}'")
         if windows_of(checked) != list(windows):
             raise contradicts(f"{told}, but check leaves other windows")
 
     def narrowed(self) -> Verdict:
-        answer, enough = self.narrow()
+        answer = self.narrow()
         if answer.word == "refused":
-            return self.refused(answer, enough)
-        count = answer.numbers[0]
+            return self.refused("narrow", answer)
+        count, told = answer.numbers[0], f"narrow says '{spoken(answer)}'"
+        if count * self.limits.record > len(answer.lists[2]):
+            raise contradicts(f"{told}, and the log has no room for that")
         log = answer.lists[2][: count * self.limits.record]
-        told = f"narrow says '{spoken(answer)}'"
         windows = windows_of(answer)
         self.agrees(told, self.check(count, log), "holds" if answer.word == "settled" else "clash", answer.numbers, windows)
-        if answer.word == "clash" and windows != submitted(self.reads):
-            raise contradicts(f"{told}, but the windows are not the submitted ones")
+        if answer.word == "settled" and is_narrowable(self.reads, windows):
+            raise contradicts(f"{told}, and more can be narrowed")
         return self.told(Verdict(answer.word, answer.numbers, windows, self.records(log, count), (), windows), log)
 
     def records(self, log: Sequence[int], count: int) -> list[Record]:
@@ -110,7 +120,10 @@ class Desk:
         return records
 
     def told(self, verdict: Verdict, log: Sequence[int]) -> Verdict:
-        """A clash is told by its marked reads and the records that it needs, which have to be a log by themselves."""
+        """A clash is told by its marked reads and the records that it needs, which have to be a log by themselves; it leaves the windows as they were."""
+        wanted = submitted(self.reads) if verdict.word == "clash" else after(submitted(self.reads), verdict.records)
+        if list(verdict.windows) != wanted:
+            raise contradicts(f"it says '{words_of(verdict.word, verdict.numbers)}' and leaves windows that the records do not")
         if verdict.word != "clash":
             return verdict
         count, job = verdict.numbers
@@ -123,18 +136,18 @@ class Desk:
         shorter = log_of(records, self.limits)
         windows = submitted(self.reads)
         self.agrees("the log needs fewer records", self.check(len(records), shorter), "clash", [len(records), job], windows)
-        [before] = self.after(records, [len(records) - 1]) if records else [windows]
+        [before] = self.reached(records, [len(records) - 1]) if records else [windows]
         return verdict._replace(records=records, marked=sorted(marked), before=before)
 
-    def after(self, records: Sequence[Record], counts: Iterable[int]) -> Iterator[list[Window]]:
+    def reached(self, records: Sequence[Record], counts: Iterable[int]) -> Iterator[list[Window]]:
         """The windows that the checker reaches by the first so many records, for each such number; by none of them a window is closed."""
         counts = list(counts)
         reads, log, size = self.reads, log_of(records, self.limits), self.limits.record
         lines = (calls.judging("check", reads.supply, reads.lists, count, log[: count * size]) for count in counts)
         for said, count in zip(self.program.each(lines), counts):
             answer = calls.understood("check", said, [len(reads.units)] * 2)
-            if spoken(answer) != f"holds {count}":
-                raise contradicts(f"check takes the log, but of its first {count} records says '{spoken(answer)}'")
+            if spoken(answer) != f"holds {count}" or windows_of(answer) != after(submitted(reads), records[:count]):
+                raise contradicts(f"check takes the log, but of its first {count} records says '{spoken(answer)}', or leaves windows that they do not")
             yield windows_of(answer)
 
     def checked(self, records: Sequence[Record]) -> Verdict:
@@ -142,12 +155,10 @@ class Desk:
         log = log_of(records, self.limits)
         answer = self.check(len(records), log)
         windows = windows_of(answer)
-        if answer.word != "holds" and windows != submitted(self.reads):
-            raise contradicts(f"check says '{spoken(answer)}', but the windows are not the submitted ones")
-        if answer.word == "rejected" and not (answer.numbers[0] < len(records) and answer.numbers[1] in CODES):
-            raise contradicts(f"check says '{spoken(answer)}' of {len(records)} records")
-        if answer.word in ("rejected", "refused"):
+        if answer.word == "refused":
+            return self.refused("check", answer)
+        if answer.word == "rejected" and answer.numbers[0] < len(records) and answer.numbers[1] in CODES and windows == submitted(self.reads):
             return Verdict(answer.word, answer.numbers, windows)
-        if answer.numbers[0] != len(records):
+        if answer.word == "rejected" or answer.numbers[0] != len(records):
             raise contradicts(f"check says '{spoken(answer)}' of {len(records)} records")
         return self.told(Verdict(answer.word, answer.numbers, windows, self.records(log, len(records)), (), windows), log)
