@@ -1,0 +1,165 @@
+"""What ./bench says of logs, by its own hand and by others, alone and beside a list (docs/BENCH.md, 'Logs'; docs/ANSWERS.md, 'The log file'). PROBE is the program
+that is asked. Says what went wrong and ends with status 1, or says nothing.
+"""
+
+from __future__ import annotations
+
+import re
+import sys
+from pathlib import Path
+
+from benching import TOP, Said, bench, check, finished, listing, put, run
+
+ANSWERS = (TOP / "docs/ANSWERS.md").read_text("utf-8")
+CODES = dict(re.findall(r"^\| (2\d) \| ([^|]*\.) \| ", ANSWERS.split("## Codes")[1], re.MULTILINE))
+ALONE = "against the windows that the log itself states"
+BESIDE = "against the submitted windows of the list"
+LIES = "Every schedule lies in the windows now; that there is one, or that nothing more can be narrowed, is not said."
+ENDS = "and they end in a clash, so there is no schedule."
+A3 = "“a” is being read in any case and draws 3 of 5. “b” draws 3, so it is not read then;"
+
+# Two reads on a supply of 5 that cannot be read together, and two of which nothing is said.
+ROWS = ["a 0 10 10 3", "b 0 10 2 3", "c 0 20 2 5", "d 0 9 0 5"]
+
+
+def log(*records: str, end: str = "", rows: list[str] = ROWS, head: str = "time ticks\nstep 1\nsupply 5") -> str:
+    """The text of a log; it ends with `holds` where nothing else is said."""
+    reads = ["read {1} {2} {3} {4} \"{0}\"".format(*row.split()) for row in rows]
+    return "\n".join(("tarqumbet-log 1", head, *reads, *(f"record {record}" for record in records), f"end {end or f'holds {len(records)}'}", ""))
+
+
+def taken(what: str, text: str, status: int, *sentences: str, first: str) -> None:
+    """The log is taken alone and beside its list, with these sentences."""
+    for where, words in ((ALONE, []), (BESIDE, [put("list.csv", listing(*ROWS))])):
+        found = run(*words, "--check", put("log", text))
+        check((what, where), (found.lines[:1], [line for line in found.lines if line[:1].isdigit()], found.status, found.error), (
+            [first.format(where)], [f"{place}. {said}" for place, said in enumerate(sentences, 1)], status, ""))
+        told = run(*words, "--check", "log", "--json")
+        check((what, where, "for programs"), (told.object.get("log"), told.object.get("sentences"), told.status), ("good", list(sentences), status))
+
+
+def good() -> None:
+    taken("no records", log(), 0, first=f"The log holds, checked {{}}: 0 records. {LIES}")
+    taken("a record", log("1 0 1 0"), 0, f"At time 1 {A3} nor can it be through before, so it starts at 2 or later.", first=f"The log holds, checked {{}}: 1 record. {LIES}")
+    taken("one side, then the other, then back", log("1 0 0 0", "1 0 2 0", "1 1 8 0", "1 0 4 0"), 0,
+          f"At times 0 and 2 {A3} nor can it be through before the first of these times, or fit between them, so it starts at 3 or later.",
+          f"At time 8 {A3} nor can it start later, so it ends by 8.",
+          f"At time 4 {A3} nor can it be through before, so it starts at 5 or later.", first=f"The log holds, checked {{}}: 4 records. {LIES}")
+    taken("a clash on side 1", log("1 1 8 0", "1 1 6 0", "1 1 4 0", "1 1 3 0", "1 1 1 0", end="clash 5 1"), 1,
+          f"At times 1, 3 and so on to 8 (5 records) {A3} nor can it start after the last of these times, or fit between them, so it ends by 1. "
+          "It lasts 2 and cannot start before 0, so no start is left for it.", first=f"The log holds, checked {{}}: 5 records, {ENDS}")
+    taken("a clash of both sides", log("1 0 1 0", "1 0 3 0", "1 1 8 0", "1 1 6 0", "1 1 5 0", end="clash 5 1"), 1,
+          f"At times 1 and 3 {A3} nor can it be through before the first of these times, or fit between them, so it starts at 4 or later.",
+          f"At times 5, 6 and 8 {A3} nor can it start after the last of these times, or fit between them, so it ends by 5. It lasts 2 and cannot start before 4, so no start is left for it.",
+          first=f"The log holds, checked {{}}: 5 records, {ENDS}")
+    apart = ("2 0 1 0", "1 1 8 0", "2 0 2 0", "1 1 6 0", "1 1 4 0", "2 0 3 0", "1 1 2 0", "1 1 1 0")
+    taken("what is not needed, told as one", log(*apart, end="clash 8 1"), 1,
+          f"At times 1, 2 and so on to 8 (5 records) {A3} nor can it start after the last of these times, or fit between them, so it ends by 1. "
+          "It lasts 2 and cannot start before 0, so no start is left for it.", first=f"The log holds, checked {{}}: 8 records, {ENDS}")
+    told = run("--check", put("log", log(*apart, end="clash 8 1")), "--json").object
+    check("the records that are needed", (told["count"], [record["time"] for record in told["records"]], told["together"]), (8, [8, 6, 4, 2, 1], ["a", "b"]))
+
+
+def alone() -> None:
+    """The whole text, and the object, of a log by itself."""
+    text = log("1 0 1 0", rows=['a 0 10 10 30', 'b 0 90 2 30'], head="time HH:MM\nstep 0.1 A\nsupply 50").replace('"b"', '"b ""2"", é"').replace("\n", "\r\n")
+    check("text", run("--check", put("log", text)), Said([
+        f"The log holds, checked {ALONE}: 1 record. {LIES}", "", "unit        submitted          now   lasts  draws  leeway", "a         00:00-00:10            =  10 min  3.0 A   0 min",
+        'b "2", é  00:00-01:30  00:02-01:30   2 min  3.0 A  86 min', "",
+        "1. In the minute of 00:01 “a” is being read in any case and draws 3.0 A of 5.0 A. “b \"2\", é” draws 3.0 A, so it is not read then; nor can it be through before, so it starts at 00:02 or later."], 0, ""))
+    check("object", run("--check", "log", "--json").object, {
+        "answer": "holds", "count": 1, "log": "good", "supply": 50, "reads": [{"unit": "a", "earliest": 0, "latest": 10, "length": 10, "draw": 30, "now": [0, 10]},
+                                                                            {"unit": 'b "2", é', "earliest": 0, "latest": 90, "length": 2, "draw": 30, "now": [2, 90]}],
+        "records": [{"job": 1, "side": 0, "time": 1, "members": [0]}],
+        "sentences": ["In the minute of 00:01 “a” is being read in any case and draws 3.0 A of 5.0 A. “b \"2\", é” draws 3.0 A, so it is not read then; nor can it be through before, so it starts at 00:02 or later."],
+        "together": []})
+    short = run("--check", put("log", log(end="clash 0 0", rows=["a 0 4 9 1"])))
+    check("a window that is too short", (short.lines[0], short.lines[-3], short.status), (f"The log holds, checked {ALONE}: 0 records, {ENDS}", "1. “a” lasts 9, and its window from 0 to 4 is shorter, so no start is left for it.", 1))
+    refused = run("--check", put("log", log(head="time ticks\nstep 1\nsupply 10001")))
+    check("a log that is refused", (refused.lines[0], refused.lines[1], refused.status), ("refused 3: A number is above its limit.", "The supply 10001 is above 10000.", 3))
+    check("for programs", [run("--check", "log", "--json").object.get(key) for key in ("answer", "refusal", "log")], ["refused", 3, None])
+
+
+# Records of a log, the place of the bad one and its code.
+REJECTED = [
+    (["4 0 1 0"], 0, 21), (["1 2 1 0"], 0, 21), (["1 0 1000001 0"], 0, 21), (["3 0 1 0"], 0, 22), (["1 0 1 0 3"], 0, 22), (["1 0 1 0 255"], 0, 22), (["1 0 1 1"], 0, 22), (["1 0 1"], 0, 24),
+    (["1 0 2 0"], 0, 25), (["1 1 7 0"], 0, 25), (["1 0 1 0", "1 0 4 0"], 1, 25), (["1 0 1 0", "1 0 1 0"], 1, 26), (["2 0 1 0 1"], 0, 25), (["1 0 1 0", "1 0 3 0", "1 1 9 0", "1 1 8 0", "1 1 6 0", "1 1 5 0", "1 0 5 0"], 6, 20),
+]
+
+
+def bad() -> None:
+    check("the codes of docs/ANSWERS.md", sorted(CODES), [str(number) for number in range(20, 28)])
+    for records, place, code in REJECTED:
+        found = run("--check", put("log", log(*records)))
+        wanted = f"log:{place + 9}: the log is rejected at its record {place}, code {code}: {CODES[str(code)]}"
+        check(records, found, Said([wanted], 1, ""))
+        told = run("--check", "log", "--json").object
+        check((records, "for programs"), [told.get(key) for key in ("answer", "record", "code", "log", "sentences", "records", "together")], ["rejected", place, code, "bad", [wanted], [], []])
+        check((records, "windows"), [read["now"] for read in told["reads"]], [[0, 10], [0, 10], [0, 20], [0, 9]])
+    spare = log("1 0 1 0 2", rows=["a 0 10 10 3", "b 0 10 2 3", "c 0 10 10 1"])
+    check("a spare member", run("--check", put("log", spare)).lines, [f"log:8: the log is rejected at its record 0, code 27: {CODES['27']}"])
+    ends = {"holds 1": "holds 0", "holds 00": "holds 0", "clash 0 1": "holds 0", "clash 1 2": "clash 1 1", "holds 1 ": "clash 1 1"}
+    for end, said in ends.items():
+        records = ["1 1 1 0"] if said.startswith("clash") else []
+        rows = ["a 0 10 10 3", "b 0 2 2 3", *ROWS[2:]]
+        found = run("--check", put("log", log(*records, end=end.strip(), rows=rows)))
+        check(("the end", end), found, Said([f"log:{9 + len(records)}: the log's end says '{end.strip()}', and the checker '{said}'."], 1, ""))
+        check(("the end", end, "for programs"), run("--check", "log", "--json").object.get("log"), "bad")
+
+
+def beside() -> None:
+    """A log that is not of the list: the first difference is said, and nothing is asked."""
+    clock = listing("a 00:00 00:10 10 3", "b 00:00 00:10 2 3", notes="# time: HH:MM")
+    here = "log: the log is not of this list: "
+    good = log("1 0 1 0", rows=ROWS[:2])
+    for text, difference in (
+        (clock, "the log's time is ticks, the list's HH:MM"),
+        (listing(*ROWS[:2], supply="5 A"), "the log's step is 1, the list's 1 A"),
+        (listing(*ROWS[:2], supply="6"), "the log's supply is 5, the list's 6"),
+        (listing(*ROWS[1::-1]), "read 1 of the log is “a”, of the list “b”"),
+        (listing(*ROWS), "the log has 2 reads, the list 4"),
+        (listing(ROWS[0]), "the log has 2 reads, the list 1"),
+        (listing("a 1 10 10 3", ROWS[1]), "in the log “a” starts at 0 or later, in the list it starts at 1 or later"),
+        (listing("a 0 11 10 3", ROWS[1]), "in the log “a” ends by 10, in the list it ends by 11"),
+        (listing("a 0 10 9 3", ROWS[1]), "in the log “a” lasts 10, in the list it lasts 9"),
+        (listing(ROWS[0], "b 0 10 2 4"), "in the log “b” draws 3, in the list it draws 4"),
+    ):
+        found = bench(text, "--check", put("log", good))
+        check(difference, found, Said([f"{here}{difference}."], 1, ""))
+        told = bench(text, "--check", "log", "--json").object
+        check((difference, "for programs"), [told.get(key) for key in ("answer", "log", "sentences", "records")], [None, "bad", [f"{here}{difference}."], []])
+    accents = listing("e\u0301 0 10 10 3", ROWS[1]), log("1 0 1 0", rows=["\u00e9 0 10 10 3", ROWS[1]])
+    check("an accent that is coded otherwise", bench(accents[0], "--check", put("log", accents[1])).status, 0)
+
+
+def written() -> None:
+    """What --log writes, and what is said where it is checked; starts that are fixed belong to what is said."""
+    text = listing('"a,_1" 0 10 10 1.5A', "b 0 90 2 1.5A", supply="2.5A", notes="# step: 0.5 A").replace("_", '""')
+    bench(text, "--log", "own.log")
+    check("a log", Path("own.log").read_text("utf-8"), 'tarqumbet-log 1\ntime ticks\nstep 0.5 A\nsupply 5\nread 0 10 10 3 "a,""1"\nread 0 90 2 3 "b"\n'
+          + "".join(f"record 1 0 {time} 0\n" for time in (1, 3, 5, 7, 9)) + "end holds 5\n")
+    clash = listing("x 0 4 4 3", "y 0 20 2 3", "a 30 34 4 3", "b 30 60 4 3")
+    words = ("--fix", "b=30")
+    bench(clash, *words, "--log", "own.log")
+    check("a log with starts that are fixed", Path("own.log").read_text("utf-8").splitlines()[7:], ['read 30 34 4 3 "b"', "record 2 0 33 3", "end clash 1 2"])
+    alone, found, other = run("--check", "own.log"), bench(clash, *words, "--check", "own.log"), bench(clash, "--check", "own.log")
+    check("checked alone", (alone.lines[0], alone.status), (f"The log holds, checked {ALONE}: 1 record, and it ends in a clash, so there is no schedule.", 1))
+    check("without the starts", other, Said(["own.log: the log is not of this list: in the log “b” ends by 34, in the list it ends by 60."], 1, ""))
+    check("no schedule with these starts is not no schedule", (found.status, "“b” at 30" in found.lines[0]), (1, True))
+    held = bench(clash, "--fix", "b=40", "--log", "own.log"), bench(clash, "--fix", "b=40", "--check", "own.log")
+    check("windows with these starts are not those of every schedule", (held[1].status, "“b” at 40" in held[1].lines[0]), (0, True))
+    bench(clash, "--plan", put("plan.csv", "unit,start\nx,0\ny,4\na,30\nb,34\n"), "--log", "own.log")
+    check("a plan's log", run("--check", "own.log").lines[0], f"The log holds, checked {ALONE}: 0 records. {LIES}")
+
+
+def main() -> int:
+    good()
+    alone()
+    bad()
+    beside()
+    written()
+    return finished()
+
+
+if __name__ == "__main__":
+    sys.exit(main())
