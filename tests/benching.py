@@ -1,5 +1,5 @@
 """What the tests of ./bench share: its command called in process from a folder that is made for it, what it says, programs in place of the one that is asked, and
-lines that are put to a program directly. PROBE is the command that answers in place of `./run probe`; nothing is proved.
+lines that are put to a program directly, and a plain replay of log files. PROBE is the command that answers in place of `./run probe`; nothing is proved.
 """
 
 from __future__ import annotations
@@ -11,6 +11,7 @@ import subprocess
 import sys
 import tempfile
 import traceback
+import unicodedata
 from collections.abc import Iterator, Sequence
 from contextlib import contextmanager
 from pathlib import Path
@@ -178,3 +179,41 @@ def records(log: Sequence[int], count: int) -> list[dict]:
     """As --json gives them."""
     parts = [log[RECORD * place : RECORD * (place + 1)] for place in range(count)]
     return [{"job": part[0], "side": part[1], "time": part[2], "members": bits(part[4:])} for part in parts]
+
+
+class Bad(Exception):
+    """A log that is not as it has to be."""
+
+
+def need(fact: bool) -> None:
+    if not fact:
+        raise Bad
+
+
+def replay(text: str) -> tuple[tuple, str, list[list[int]]]:
+    """A log file by docs/ANSWERS.md, taken apart and replayed: what it is of, its end, and the windows that it leaves, in a clash the submitted ones."""
+    lines = text.replace("\r\n", "\n").split("\n")[:-1]
+    need(lines[0] == "tarqumbet-log 1" and [line.split(" ")[0] for line in lines[1:4]] == ["time", "step", "supply"])
+    reads = [(*map(int, line.split(" ")[1:5]), unicodedata.normalize("NFC", line.split(" ", 5)[5][1:-1].replace('""', '"'))) for line in lines if line.startswith("read ")]
+    steps = [tuple(map(int, line.split(" ")[1:])) for line in lines if line.startswith("record ")]
+    supply = int(lines[3].split(" ")[1])
+    need(all(max(start, end, length) <= 1000000 and draw <= 10000 for start, end, length, draw, _ in reads) and supply <= 10000 and len(reads) <= 256)
+    windows, end = [list(read[:2]) for read in reads], f"holds {len(steps)}"
+    short = [job for job, (start, end_, length, _, _) in enumerate(reads) if start + length > end_]
+    if short:
+        need(not steps)
+        end = f"clash 0 {short[0]}"
+    for place, (job, side, time, *members) in enumerate(steps):
+        need(end.startswith("holds") and job < len(reads) and side < 2 and time <= 1000000 and all(member < len(reads) and member != job for member in members))
+        need(all(reads[one][2] and reads[one][3] for one in (job, *members)))
+        drawn_ = sum(reads[one][3] for one in (job, *members))
+        need(drawn_ > supply and all(drawn_ - reads[member][3] <= supply for member in members))
+        for one in (job, *members):
+            need(one == job and side == 1 or windows[one][0] > time - reads[one][2])
+            need(one == job and side == 0 or windows[one][1] - reads[one][2] <= time)
+        need(time + 1 > windows[job][0] if side == 0 else time < windows[job][1])
+        windows[job][side] = time + 1 if side == 0 else time
+        if windows[job][0] + reads[job][2] > windows[job][1]:
+            end = f"clash {place + 1} {job}"
+    need(lines[-1] == f"end {end}")
+    return (lines[1:4], reads), end, windows if end.startswith("holds") else [list(read[:2]) for read in reads]
