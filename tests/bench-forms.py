@@ -93,6 +93,8 @@ def steps() -> None:
         check((step, supply, draw), (found.get("supply"), found.get("reads", [{}])[0].get("draw")), wanted)
     found = bench(listing("a 0 9 3 2A", supply="5 A", notes="# time: ticks"))
     check("a step of the supply's unit", (found.status, found.lines[-1].split()), (0, ["a", "0-9", "=", "3", "2", "A", "6"]))
+    # 2 of a supply of 5000 would be nothing, if these are amperes of milliamperes.
+    check("a unit that the list does not have", bench(listing("a 0 9 3 2", supply="5000", header=HEADER + " (A)")).status, 2)
     check("ticks of any name", bench(listing("a 0 9 3 2", header="unit,from (s),to (s),dur (s),dem")).status, 0)
     check("ticks as such", bench(listing("a 0 9 3 2", header="unit,from (ticks),to (s),dur (s),dem")).status, 0)
 
