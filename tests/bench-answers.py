@@ -82,6 +82,8 @@ def on_the_clock() -> None:
         "unit    submitted  now   lasts  draws  leeway", "* a   23:00-01:00    -  30 min      3       -", "",
         "1. “a” lasts 30 min, and its window from 23:00 to 01:00 is shorter, so no start is left for it. (Behind midnight the hours go on: 25:00 is one o'clock on the next day.)", "",
         f"“a” cannot be read in its submitted window on this supply, {OTHERS}."], 1, ""))
+    check("before midnight", bench(listing("a 23:00 23:10 30 3", notes="# time: HH:MM"), "--json").object["sentences"],
+          ["“a” lasts 30 min, and its window from 23:00 to 23:10 is shorter, so no start is left for it."])
 
 
 def clashes() -> None:
@@ -194,7 +196,7 @@ def projects() -> None:
                                   ((1, 3), "The plan is bad: “job 2” starts at 3, before “job 1”, which comes first, ends at 4.", 1)):
         plan = put("plan.csv", f"job,at\njob 1,{starts[0]}\njob 2,{starts[1]}\n")
         found = run(two, "--resource", "0", "--horizon", "8", "--plan", plan)
-        check(starts, (found.lines[0], found.status), (lines, status))
+        check(starts, (found.lines[0], found.lines[1:2] or [""], found.status), (lines, [""], status))
     check("a start that is fixed", run(two, "--resource", "0", "--horizon", "9", "--fix", "job 2=5", "--json").object["reads"][1]["now"], [5, 9])
     check("a clash", (run(put("one.rcp", "1 1 1 1 2 0"), "--resource", "0").lines[0]), "Clash: this read has no schedule on 1. The checker took the record from the submitted windows.")
 

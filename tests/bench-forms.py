@@ -43,6 +43,7 @@ SAME = {
     "semicolons, points": SEMICOLONS.replace("1,8", "1.8"),
     "semicolons, padded": "".join(line + ";;;\n" for line in SEMICOLONS.splitlines()),
     "padded": "".join(line + ",,,,\n" for line in LIST.splitlines()),
+    "rows padded, the header not": LIST.replace("1.8 A\n", "1.8 A,,,\n").replace("5 min,0", "5 min,0,"),
     "the header padded, some rows not": LIST.replace(HEAD, HEAD + ",,").replace("5 min,0", "5 min,0,"),
     "empty lines": LIST.replace("\n", "\n\n,,\n \t\n"),
     "blanks around cells": LIST.replace(",08:00,25:20", " ,  08:00\t, 25:20 ").replace('"Bosch', '  "Bosch'),

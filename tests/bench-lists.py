@@ -38,7 +38,7 @@ LISTS = [
      "1:38: the column 'Name' is unit, which 'unit' is already", "1:43: the column 'until' is latest, which 'latest' is already"),
     ("# supply: 5.0 A\n# step: 0.1 A\n" + HEADER + " (mA)", "3:29: the column 'draw (mA)' is read in A"),
     ("# supply: 5 A\n" + HEADER + " [a]", "2:29: the column 'draw [a]' is read in A"),
-    ("# supply: 5\n# time: HH:MM\nunit,from (h),to (HH:MM),dur (s),dem", "3:6: the column 'from (h)' is read in HH:MM", "3:26: the column 'dur (s)' is read in HH:MM"),
+    ("# supply: 5\n# time: HH:MM\nunit,from (h),to (min),dur (s),dem", "3:6: the column 'from (h)' is read in HH:MM", "3:15: the column 'to (min)' is read in HH:MM", "3:24: the column 'dur (s)' is read in HH:MM"),
     ("# supply: 5\nunit,from (s),to (min),dur (s),dem", "2:15: the column 'to (min)' is read in s"),
     # A header that cannot be taken apart is still the header.
     ('# supply: 5\nunit,earliest,latest,length,dr"aw\na,1,9,3,4\n', "2:31: a quote inside a cell without quotes"),
