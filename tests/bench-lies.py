@@ -92,6 +92,7 @@ OF_A_CLASH = {
     "both: the read": "if name in ('narrow', 'check') and word == 'clash': bump(2)",
     "both: a read that is not there": "if name in ('narrow', 'check') and word == 'clash': said[2] = '99'",
     "both: windows": "if name in ('narrow', 'check') and word == 'clash': bump(lists[0] + 1)",
+    "both: windows by all records": "if turn < 3: bump(lists[0] + 1)",
     "conflict: another set": "if name == 'conflict': bump(lists[0] + 1)",
     "conflict: a read that is not there": "if name == 'conflict': bump(lists[0] + 8)",
     "conflict: another count": "if name == 'conflict': bump(1)",
@@ -189,6 +190,8 @@ def lies() -> None:
             lied((name, file), stand_in(lie), file, *WRITTEN)
     for name, lie in OF_A_CLASH.items():
         lied(("of a clash", name), stand_in(lie), "clash.csv", *WRITTEN)
+    nobody = "if word == 'clash': said[2] = '99'\n        elif name == 'conflict': said[lists[0] + 1], said[lists[0] + 4] = '0', '8'"
+    lied("a window that is too short, of a read that is not there", stand_in(nobody), put("short.csv", listing("a 0 4 5 1")), *WRITTEN)
     for name, lie in OF_WHY.items():
         lied(("of the reasons", name), stand_in(lie), "settled.csv", "--why", *WRITTEN)
     for name, lie in OF_A_LOG.items():
