@@ -8,7 +8,7 @@ import re
 from typing import NamedTuple
 
 import calls
-from asking import Program
+from asking import Program, no_answer
 from ending import Stop
 from files import bytes_of
 from layouts import Walked, layout_of, walked
@@ -83,7 +83,13 @@ def read(program: Program, task: Task) -> Reading:
     if task.horizon is not None:
         return asked(program, task, task.horizon)
     found = asked(program, task, task.limits.time)
-    return asked(program, task, least_horizon(found.answer)) if found.answer.word == "read" else found
+    if found.answer.word != "read":
+        return found
+    least = asked(program, task, least_horizon(found.answer))
+    # Only the latest ends are others than before.
+    if (least.answer.word, least.answer.numbers) != ("read", found.answer.numbers) or any(least.answer.lists[place] != found.answer.lists[place] for place in (0, 2, 3, 4, 5)):
+        raise no_answer()
+    return least
 
 
 def horizon_hints(program: Program, task: Task, horizon: int) -> list[str]:

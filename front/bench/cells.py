@@ -111,6 +111,9 @@ class Walk:
                     rows.append(row)
             end = END.match(self.letters, self.at)
             self.at = end.end() if end else self.at
+        # Empty cells at the end of the header, which some rows of a spreadsheet have and others have not, name nothing.
+        while rows and not rows[0][-1].text:
+            rows[0].pop()
         return Sheet(self.text, notes, rows, self.faults, self.separator == ",")
 
 

@@ -35,7 +35,7 @@ def taken_apart(cell: Cell, columns: dict[str, str]) -> tuple[str | None, str | 
 def units_known(column: str, units: Units) -> tuple[str, ...]:
     """In what a column is read; nothing where that is not told, as what a tick is."""
     if column == "draw":
-        return (units.draws.unit,) if units.draws.unit else ()
+        return (units.draws.unit,)
     if not units.times.clock:
         return ()
     return (CLOCK, MINUTES) if column == "length" else (CLOCK,)
@@ -52,7 +52,7 @@ def unit_faults(sheet: Sheet, found: dict[str, tuple[Cell, str | None]], units: 
             tick = tick or unit
             known = (tick,)
         if known and unit not in known and not (column != "draw" and unit.upper() == CLOCK and CLOCK in known):
-            faults.append(sheet.text.fault(cell.at, f"the column '{cell.text}' is read in {known[0]}"))
+            faults.append(sheet.text.fault(cell.at, f"the column '{cell.text}' is read in {known[0] or 'steps without a unit'}"))
     return faults
 
 

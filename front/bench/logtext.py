@@ -102,7 +102,10 @@ class Walk:
         if rest.count(" ") < 2:
             self.wrong("a record has the moved read, the side, the time and the members")
             return Record(0, 0, 0, ())
+        before = len(self.faults)
         job, side, time, *members = self.numbers(rest)
+        if len(self.faults) > before:
+            return Record(0, 0, 0, ())
         if any(member >= following for member, following in zip(members, members[1:])):
             self.wrong("the members do not rise")
         if members and max(members) >= WORD * set_words(self.limits):

@@ -99,4 +99,6 @@ def options_of(words: list[str]) -> Options:
             raise wrong(f"There is no option {word}.")
     if len(files) > 1:
         raise wrong("Only one list can be named.")
+    if "" in files or "" in values.values():
+        raise wrong("A name is empty.")
     return combined(Options(files[0] if files else None, values, fixes, named))

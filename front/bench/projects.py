@@ -11,6 +11,7 @@ from reading import AUTO, Task, read, refused_lines, task_of
 from .options import Options
 from .quantities import Draws, Times
 from .reads import Reads
+from .verdict import contradicts
 
 
 def project_of(options: Options, known: Limits) -> Task:
@@ -34,4 +35,7 @@ def reads_of_project(program: Program, task: Task) -> Reads | Refused:
     pairs = list(zip(jobs, successors))[:count]
     if len(pairs) < count or any(job >= len(units) for pair in pairs for job in pair):
         raise no_answer()
+    for first, then in pairs:
+        if earliest[first] + lengths[first] > earliest[then] or latest[first] + lengths[then] > latest[then]:
+            raise contradicts(f"the windows of {units[first]} and {units[then]} do not respect that one comes before the other")
     return Reads(units, earliest, latest, lengths, demands, supply, Times(), Draws(), pairs, reading.horizon)
