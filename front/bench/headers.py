@@ -29,7 +29,8 @@ def taken_apart(cell: Cell, columns: dict[str, str]) -> tuple[str | None, str | 
     name, bracket, behind = re.sub(r"[\[\]]", lambda sign: {"[": "(", "]": ")"}[sign[0]], cell.text).partition("(")
     if bracket and not behind.endswith(")"):
         return None, None
-    return columns.get(" ".join(name.lower().split())), behind[:-1].strip() if bracket else None
+    unit = behind[:-1].strip()
+    return columns.get(" ".join(name.lower().split())), (CLOCK if unit.upper() == CLOCK else unit) if bracket else None
 
 
 def units_known(column: str, units: Units) -> tuple[str, ...]:
@@ -51,7 +52,7 @@ def unit_faults(sheet: Sheet, found: dict[str, tuple[Cell, str | None]], units: 
         if column != "draw" and not known and unit != TICKS:
             tick = tick or unit
             known = (tick,)
-        if known and unit not in known and not (column != "draw" and unit.upper() == CLOCK and CLOCK in known):
+        if known and unit not in known:
             faults.append(sheet.text.fault(cell.at, f"the column '{cell.text}' is read in {known[0] or 'steps without a unit'}"))
     return faults
 
