@@ -39,8 +39,8 @@ def settled(case: Case) -> str:
     if not case.reads.units:
         return "Settled: there are no reads."
     moved = sum(now != then for now, then in zip(case.verdict.windows, submitted(case.asked)))
-    told = f"{moved} of {plural(len(case.reads.units), 'window')} narrowed, by {plural(len(case.verdict.records), 'record')} that the checker took"
-    told = told if moved else "no window is narrowed"
+    windows, records = plural(len(case.reads.units), "window"), plural(len(case.verdict.records), "record")
+    told = f"{moved} of {windows} narrowed, by {records} that the checker took" if moved else "no window is narrowed"
     if case.starts:
         return f"Settled with {with_starts(case)}: {told}. This says what is left, not that there is a schedule."
     told += " from the submitted windows" if moved else ""
@@ -79,7 +79,8 @@ def planned(case: Case) -> str:
     if case.is_clash:
         return "The plan is bad: the supply is overdrawn."
     supply = case.reads.draws.say(case.reads.supply)
-    return f"The plan is good: every read lies in its submitted window, and at no time is more drawn than {supply}."
+    good = f"The plan is good: every read lies in its submitted window, and at no time is more drawn than {supply}."
+    return f"{good} Every precedence is kept; the project's other resources were not looked at." if case.reads.horizon is not None else good
 
 
 def summary(case: Case) -> str:
@@ -105,7 +106,8 @@ def told(case: Case, desk: Desk, why: bool) -> list[str]:
     """The whole text."""
     lines = [summary(case)]
     lines += [CHAINS.format(case.reads.horizon)] if case.reads.horizon is not None and case.kind != PLAN else []
-    lines += [f"Not used: the column{'s' if len(case.reads.unused) > 1 else ''} {listed([quoted(plain(name)) for name in case.reads.unused])}."] if case.reads.unused else []
+    unused = listed([quoted(plain(name)) for name in case.reads.unused]) if case.reads.unused else ""
+    lines += [f"Not used: the column{'s' if len(case.reads.unused) > 1 else ''} {unused}."] if unused else []
     head = PLANNED if case.kind == PLAN else NARROWED
     lines += ["", *table(case.reads, case.windows, case.verdict.marked, head)] if case.reads.units else []
     said = list(reasons(case, desk, why))
@@ -113,7 +115,8 @@ def told(case: Case, desk: Desk, why: bool) -> list[str]:
     if case.is_clash and case.kind != PLAN:
         lines += ["", Teller(case.reads).together(case.verdict.marked, with_starts(case))]
     if case.is_clash and case.kind == PLAN:
-        lines += ["", f"The supply is overdrawn {listed([f'from {Teller(case.reads).window(stretch)}' for stretch in case.overdrawn()])}, by the command's own count."]
+        stretches = listed([f"from {Teller(case.reads).window(stretch)}" for stretch in case.overdrawn()])
+        lines += ["", f"The supply is overdrawn {stretches}, by the command's own count."]
     return lines
 
 
