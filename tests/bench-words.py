@@ -21,7 +21,7 @@ GOOD = {
     "fix": ["--fix", "a=1"], "plan": ["--plan", PLAN], "check": ["--check", LOG], "log": ["--log", "o.log"], "picture": ["--picture", "o.svg"], "mzn": ["--mzn", "o.mzn"],
     "why": ["--why"], "text-picture": ["--text-picture"], "json": ["--json"],
 }
-APART = [{"plan", "fix"}, {"plan", "check"}, {"check", "log"}, {"json", "why"}, {"json", "text-picture"}]
+APART = [("plan", "fix"), ("plan", "check"), ("plan", "log"), ("check", "log"), ("json", "why"), ("json", "text-picture")]
 
 
 def stopped(what: object, words: list[str], sentence: str | None = None) -> None:
@@ -50,9 +50,9 @@ def pairs() -> None:
     for place, one in enumerate(names):
         for other in names[place + 1 :]:
             for words in ([LIST, *GOOD[one], *GOOD[other]], [*GOOD[other], *GOOD[one], LIST]):
-                if {one, other} in APART:
-                    first, second = next(pair for pair in (("plan", "fix"), ("plan", "check"), ("check", "log"), ("json", "why"), ("json", "text-picture")) if set(pair) == {one, other})
-                    stopped("apart", words, f"--{first} and --{second} do not go together. {MORE}")
+                apart = next((pair for pair in APART if set(pair) == {one, other}), None)
+                if apart:
+                    stopped("apart", words, f"--{apart[0]} and --{apart[1]} do not go together. {MORE}")
                 elif "check" in (one, other) and "fix" not in (one, other):
                     check(words, run(*words, "--fix", "a=1").status, 0)
                 else:
@@ -70,7 +70,7 @@ def words() -> None:
         stopped("no word", [LIST, f"--{name}"], f"--{name} wants a word behind it. {MORE}")
         if name != "fix":
             stopped("twice", [LIST, f"--{name}", "a", f"--{name}=b"], f"--{name} is there twice. {MORE}")
-        stopped("an empty word", [LIST, f"--{name}="])
+        stopped("an empty word", [LIST, f"--{name}="], None if name == "fix" else f"A name is empty. {MORE}")
         # A word that is forgotten does not make a file of the option behind it.
         stopped("an option for a word", [LIST, f"--{name}", "--json"])
     for name in GOOD:
@@ -83,11 +83,11 @@ def words() -> None:
     stopped("a horizon of a list", [LIST, "--horizon", "9"], f"--horizon is for a project, with --resource. {MORE}")
     for file in (PROJECT, "p.SM", "none.Rcp"):
         stopped("a project without a resource", [file], f"A project needs --resource K, counted from 0. {MORE}")
-    for word in ("x", "-1", "", "4294967296", " 1", "+1", "auto", "0x1", "\u0663"):
+    for word in ("x", "-1", "4294967296", " 1", "+1", "auto", "0x1", "\u0663"):
         stopped("a resource", [PROJECT, f"--resource={word}"], "--resource has to be a number from 0 to 4294967295; 0 is the file's first.")
         if word != "auto":
             stopped("a horizon", [PROJECT, "--resource", "0", f"--horizon={word}"], "--horizon has to be a number from 0 to 4294967295, or auto.")
-    for name in ("picture", "svg", ".svg.", "a.svg.png", "a.svg ", ""):
+    for name in ("picture", "svg", ".svg.", "a.svg.png", "a.svg "):
         stopped("a picture", [LIST, f"--picture={name}"], f"The picture's file has to end in .svg. {MORE}")
     check("a project by its resource", run(shutil.copy(PROJECT, "p.txt"), "--resource", "0").status, 0)
     for words_ in (["--help"], ["-h"], [LIST, "--json", "--why", "--help"], ["-h", "--no"]):
@@ -108,12 +108,12 @@ def written_over() -> None:
         reading = {LIST: [file], PLAN: [LIST, "--plan", file], LOG: [LIST, "--fix", "a=1", "--check", file], PROJECT: [file, "--resource", "0"]}[file]
         for name in (file, f"./{file}", f"folder/../{file}", f"{FOLDER}/{file}", f"soft-{file}.svg", f"soft-soft-{file}.svg", f"hard-{file}.svg"):
             for option in ("log", "mzn", "picture"):
-                if (file, option) != (LOG, "log") and (option != "picture" or name.endswith(".svg")):
-                    stopped("written over", [*reading, f"--{option}", name], f"{name}: it would be written over.")
+                if (file, option) not in ((LOG, "log"), (PLAN, "log")) and (option != "picture" or name.endswith(".svg")):
+                    stopped("written over", [*reading, f"--{option}", name], f"{name} would be written over.")
                     check((name, "is as it was"), Path(file).read_bytes() == kept, True)
                     Path(file).write_bytes(kept)
-    stopped("twice", [LIST, "--log", "x", "--mzn", "folder/../x"], "folder/../x: it would be written over.")
-    stopped("twice", [LIST, "--picture", "x.svg", "--mzn", "./x.svg"], "./x.svg: it would be written over.")
+    stopped("twice", [LIST, "--log", "x", "--mzn", "folder/../x"], "folder/../x would be written over.")
+    stopped("twice", [LIST, "--picture", "x.svg", "--mzn", "./x.svg"], "./x.svg would be written over.")
     put("older", "something else\n" * 9999)
     run(LIST, "--log", "fresh")
     check("an older file", (run(LIST, "--log", "older").status, Path("older").read_bytes()), (0, Path("fresh").read_bytes()))
@@ -123,13 +123,19 @@ def unwritten() -> None:
     """A file that cannot be written; what was asked for is then not told."""
     for file in ("/dev/full", "none/x", ".", f"{LIST}/x", "x" * 300):
         for option in ("log", "mzn"):
-            stopped("cannot be written", [LIST, f"--{option}", file], f"{file}: it cannot be written.")
-    stopped("cannot be written", [LIST, "--picture", "none/x.svg"], "none/x.svg: it cannot be written.")
-    # A file that is asked for is written, or it is said that it is not: an older one is there else, and looks like the new one.
+            stopped("cannot be written", [LIST, f"--{option}", file], f"{file} cannot be written.")
+    stopped("cannot be written", [LIST, "--picture", "none/x.svg"], "none/x.svg cannot be written.")
+    # Where there is nothing to show no file is written, and that is said: an older one may be there, and looks like the new one.
     outside = put("outside.csv", "unit,start\na,9\nb,9\n")
-    for words_ in ([LIST, "--plan", outside], [LIST, "--check", LOG], [put("great.csv", listing("a 0 4 3 10001"))]):
-        found = run(*words_, "--picture", "unwritten.svg")
-        check((words_, "a picture, or a word about it"), Path("unwritten.svg").exists() or "unwritten.svg" in found.text, True)
+    great, files = put("great.csv", listing("a 0 4 3 10001")), ["--picture", "not.svg", "--mzn", "not.mzn"]
+    refused = [PROJECT, "--resource", "0", "--horizon", "1"]
+    for words_, status in (([LIST, "--plan", outside], 1), ([LIST, "--check", LOG], 1), ([great], 3), (refused, 3)):
+        found = run(*words_, *files)
+        check((words_, "not written"), (found.lines[-2:], found.status), (["not.svg is not written.", "not.mzn is not written."], status))
+    for words_ in ([great], refused):
+        check((words_, "no log"), run(*words_, "--log", "not.log").lines[-1], "not.log is not written.")
+        check((words_, "for programs"), (run(*words_, *files, "--json").status, run(*words_).text.count("is not written")), (3, 0))
+    check("no such file", [file for file in os.listdir(".") if file.startswith("not.")], [])
 
 
 def no_lists() -> None:
