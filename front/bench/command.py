@@ -92,13 +92,18 @@ def judged(options: Options, ready: Prepared, desk: Desk) -> Case:
     return case
 
 
+def unwritten(options: Options) -> list[str]:
+    """Where there is nothing to show, of the files that were asked for."""
+    return [f"{options.values[name]} is not written." for name in WRITTEN if name in options.values]
+
+
 def spoken(options: Options, case: Case, desk: Desk) -> list[str]:
     call = "check" if case.kind in (CHECK, CHECK_ALONE) else "narrow"
     short = list(case.bad) or (refused(call, case.verdict.numbers[0], case.asked, desk.limits) if case.verdict.word == "refused" else [])
     if "json" in options.named:
         return json_lines(case, short or case.sentences())
     if short:
-        return [*short, *(f"{options.values[name]} is not written." for name in WRITTEN if name in options.values)]
+        return short + unwritten(options)
     lines = told(case, desk, "why" in options.named)
     if "text-picture" in options.named:
         lines += ["", *letters(case.scene(), os.get_terminal_size(1).columns if os.isatty(1) else COLUMNS)]
@@ -143,7 +148,7 @@ def answered(options: Options, known: Limits) -> tuple[list[str], dict[str, list
         if project:
             found = reads_of_project(program, project)
             if isinstance(found, Refused):
-                return refused_project(*found) if "json" in options.named else list(found.lines), {}, REFUSED
+                return refused_project(*found) if "json" in options.named else found.lines + unwritten(options), {}, REFUSED
             ready = prepared(options, found, known)
         desk = Desk(program, ready.reads.fixed(ready.starts), known)
         case = judged(options, ready, desk)
