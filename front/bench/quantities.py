@@ -35,7 +35,9 @@ class Times(NamedTuple):
 
     def length(self, word: str, unit: str | None = None) -> int | None:
         """With a clock a length is written like a time or as a number of minutes; where its column says in what it is, like that alone."""
-        if not self.clock or ":" in word:
+        if not self.clock:
+            return self.time(word)
+        if ":" in word:
             return None if unit == MINUTES else self.time(word)
         return None if unit == CLOCK else whole(word[: -len(MINUTES)].rstrip() if word.endswith(MINUTES) else word)
 
