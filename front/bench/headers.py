@@ -25,12 +25,13 @@ class Header(NamedTuple):
 
 
 def taken_apart(cell: Cell, columns: dict[str, str]) -> tuple[str | None, str | None]:
-    """The column of that name and the unit behind it."""
+    """The column of that name and the unit behind it. Small and capital letters count the same, but not in units of draws, where mA is not MA."""
     name, bracket, behind = re.sub(r"[\[\]]", lambda sign: {"[": "(", "]": ")"}[sign[0]], cell.text).partition("(")
     if bracket and not behind.endswith(")"):
         return None, None
-    unit = behind[:-1].strip()
-    return columns.get(" ".join(name.lower().split())), (CLOCK if unit.upper() == CLOCK else unit) if bracket else None
+    column, unit = columns.get(" ".join(name.lower().split())), behind[:-1].strip() if bracket else None
+    named = {known.lower(): known for known in (CLOCK, MINUTES, TICKS)} if unit and column != "draw" else {}
+    return column, named.get((unit or "").lower(), unit)
 
 
 def units_known(column: str, units: Units) -> tuple[str, ...]:
