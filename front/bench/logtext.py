@@ -85,11 +85,14 @@ class Walk:
         return *self.numbers(said[1]), unit
 
     def fix(self, rest: str) -> tuple[int, int]:
-        """A read and its start, which lies in its window."""
+        """A read and its start, which lies in its window; no read where the line has none."""
+        before = len(self.faults)
         numbers = self.numbers(rest)
+        if len(self.faults) > before:
+            return -1, 0
         if len(numbers) != 2 or numbers[0] >= len(self.found[READ]):
             self.wrong("a fixed start has a read of the log and its start")
-            return 0, 0
+            return -1, 0
         job, start = numbers
         earliest, latest, length = self.found[READ][job][:3]
         if not earliest <= start <= latest - length:
