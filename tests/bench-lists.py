@@ -1,5 +1,4 @@
-"""What ./bench says of lists of reads, plans, fixed starts and logs that cannot be used, each with its place, and which forms of a list are taken (docs/BENCH.md).
-PROBE is the program that is asked. Says what went wrong and ends with status 1, or says nothing.
+"""What ./bench says of lists of reads, plans and fixed starts that cannot be used, each with its place (docs/BENCH.md). PROBE is the program that is asked. Says what went wrong and ends with status 1, or says nothing.
 """
 
 from __future__ import annotations
@@ -17,8 +16,11 @@ CLOCKED = f"# supply: 5\n{CLOCK}{HEADER}\n"
 NO_HEADER = "1:1: there is no header with unit, earliest, latest, length, draw"
 NO_SUPPLY = "1:1: there is no line '# supply: ..'"
 MISSING = "the header has no column "
+TABS = "; tabs part no cells here, but commas or semicolons"
+UNDER_NONE = "the cell '{}' of this row stands under no name of the header"
 LIKE_A_READ = "this looks like a read, but behind # it is a remark: take the line out, or put the unit's name in quotes"
 STEPS = "is not a whole number of steps of "
+ONES = f"{STEPS}1, without a unit"
 TICKS = "is not a whole number of ticks"
 TIME = "is not a time HH:MM"
 LENGTH = "is not a length HH:MM or a whole number of minutes"
@@ -31,7 +33,7 @@ LISTS = [
     (HEADER, NO_SUPPLY),
     ("# supply 5\n" + HEADER, NO_SUPPLY),
     ("# supply: 5\n", NO_HEADER),
-    ("# supply: 5\nunit,earliest\na,1,2\n", f"2:1: {MISSING}latest, length, draw", "3:1: this row has 3 cells, the header 2"),
+    ("# supply: 5\nunit,earliest\na,1,2\n", f"2:1: {MISSING}latest, length, draw", f"3:1: {UNDER_NONE.format('2')}"),
     (HEADER.replace("length", "lenght") + "\n# supply: 5", f"1:1: {MISSING}length"),
     (HEADER.replace("draw", "draw (A") + "\n# supply: 5", f"1:1: {MISSING}draw"),
     (HEADER + ",DUR,Name,until\n# supply: 5", "1:34: the column 'DUR' is length, which 'length' is already",
@@ -45,16 +47,16 @@ LISTS = [
     # Lines that begin with #.
     ("# supply: 5\n# supply: 6\n#SUPPLY :7\n" + HEADER, "2:11: a second line '# supply:'", "3:10: a second line '# supply:'"),
     ("# supply: 5\n# time: HH:MM\n# time: HH:MM\n" + HEADER, "3:9: a second line '# time:'"),
-    ("# supply: \n" + HEADER, "1:10: the supply '' " + STEPS + "1"),
-    ("# supply: 5 A, 6\n" + HEADER, "1:11: the supply '5 A, 6' " + STEPS + "1"),
+    ("# supply: \n" + HEADER, "1:10: the supply '' " + ONES),
+    ("# supply: 5 A, 6\n" + HEADER, "1:11: the supply '5 A, 6' " + ONES),
     ("# supply: 5.0 A\n" + HEADER, "1:11: the supply '5.0 A' " + STEPS + "1 A"),
     ("# supply: 5,0 A\n" + TENTHS + HEADER, "1:11: the supply '5,0 A' " + STEPS + "0.1 A"),
     ("# supply: 5.00 A\n" + TENTHS + HEADER, "1:11: the supply '5.00 A' " + STEPS + "0.1 A"),
     ("# supply: 5 mA\n" + TENTHS + HEADER, "1:11: the supply '5 mA' " + STEPS + "0.1 A"),
-    ("# supply: -5\n" + HEADER, "1:11: the supply '-5' " + STEPS + "1"),
-    ("# supply: 7\n# step: 5\n" + HEADER, "1:11: the supply '7' " + STEPS + "5"),
+    ("# supply: -5\n" + HEADER, "1:11: the supply '-5' " + ONES),
+    ("# supply: 7\n# step: 5\n" + HEADER, "1:11: the supply '7' " + STEPS + "5, without a unit"),
     ("# supply: 4294967296\n" + HEADER, "1:11: the supply '4294967296' is above every limit"),
-    (f"# supply: {'9' * 5000}\n" + HEADER, f"1:11: the supply '{'9' * 5000}' is above every limit"),
+    (f"# supply: {'9' * 5000}\n" + HEADER, f"1:11: the supply '{'9' * 188} .. {'9' * 178}' is above every limit"),
     ("# supply: 5\n# time: minutes\n" + HEADER + "\na,08:00,x,y,1", "2:9: the time 'minutes' is neither HH:MM nor ticks"),
     *((f"# supply: 5\n# step: {step}\n{HEADER}\na,0,9,1,x", f"2:9: the step '{step}' is no step such as 1, 0.1 A or 0.25 A")
       for step in ("0", "0.0 A", "x", "0.1 A h", "-1", "1e3", ".1", "0.0000001", "1234567")),
@@ -63,19 +65,36 @@ LISTS = [
     (HEAD + "  # 12 , 1, 9, 3, 4, at the wall\n", "3:4: " + LIKE_A_READ),
     (HEAD + "#12,1,9,,4\n", "3:2: " + LIKE_A_READ),
     (HEAD.replace(",", ";") + "#12;1;9;3;4;;\n", "3:2: " + LIKE_A_READ),
-    # Rows.
-    (HEAD + "a,1,9,3\nb,1,9,3,4,5\n,,,,6\nc,1,9,3,4,,x,\n", "3:1: this row has 4 cells, the header 5", "4:1: this row has 6 cells, the header 5",
-     "5:1: a unit without a name", "5:2: the earliest start '' " + TICKS, "5:3: the latest end '' " + TICKS, "5:4: the length '' " + TICKS, "6:1: this row has 8 cells, the header 5"),
+    *((HEAD + f"{row}\n", "3:2: " + LIKE_A_READ) for row in ("#12,,9,3,", "#12,1,,,4", "#12,08:00,,3 min,", "# 12,a,b,c,d", '#12,"9",1,3')),
+    # Header and rows.
+    ("# supply: 5\n" + HEADER.replace(",", "\t") + "\na\t0\t9\t3\t2\n", f"2:1: {MISSING}unit, earliest, latest, length, draw{TABS}"),
+    ("# supply: 5\n" + HEADER.replace("length,", "length\t"), f"2:1: {MISSING}length, draw{TABS}"),
+    ("# supply: 5\n" + HEADER + " (A)", "2:29: the column 'draw (A)' is read in steps without a unit"),
+    ("sep=;\r\n# supply: 5\r\n" + HEADER.replace(",", ";") + "\r\na;0;x;3;2\r\n", f"4:5: the latest end 'x' {TICKS}"),
+    (f"sep=;\n# supply: 5\n{HEADER}\n", f"3:1: {MISSING}unit, earliest, latest, length, draw"),
+    (AMPERES + "a,1,9,3,2,5\nb,1,9,3,2,\n", f"4:1: {UNDER_NONE.format('5')}"),
+    (AMPERES.replace(",draw", ",,draw") + "a,1,9,3,,2\nb,1,9,3,2,5\n", f"5:1: {UNDER_NONE.format('2')}"),
+    (AMPERES.replace("draw\n", "draw,shelf\n") + "a,1,9,3,2,5\nb,1,9,3,2.0,5\nc,1,9,3,2,x\nd,1,9,3,2 A,5\n",
+     "4:9: '2' and '5' beside it may be 2,5 with a decimal comma; write the draw with a dot"),
+    (AMPERES.replace("draw\n", "draw,shelf\n") + "a,1,9,3,x,5\nb,1,9,3,0,9\n", f"4:9: the draw 'x' {STEPS}0.1 A", "5:9: '0' and '9' beside it may be 0,9 with a decimal comma; write the draw with a dot"),
+    (HEAD + "a,0800,09,010,2\nb,00,9,0,02\n", f"3:3: the earliest start '0800' {TICKS}", f"3:8: the latest end '09' {TICKS}", f"3:11: the length '010' {TICKS}", f"4:3: the earliest start '00' {TICKS}"),
+    *((CLOCKED.replace("length", f"length {unit}") + "a,08:00,09:00,50,1\nb,08:00,09:00,0:50,1\nc,08:00,09:00,50 min,1\n", *faults) for unit, *faults in (
+        ("(HH:MM)", "4:15: the length '50' is not a length HH:MM", "6:15: the length '50 min' is not a length HH:MM"),
+        ("[hh:mm]", "4:15: the length '50' is not a length HH:MM", "6:15: the length '50 min' is not a length HH:MM"),
+        ("(min)", "5:15: the length '0:50' is not a whole number of minutes"), ("(Min)", "5:15: the length '0:50' is not a whole number of minutes"))),
+    (HEAD + f"{'x' * 200},1,9,3,4\n{'y' * 201},1,9,3,4\n", "4:1: a unit's name has more than 200 letters"),
+    (HEAD + "a,1,9,3\nb,1,9,3,4,5\n,,,,6\nc,1,9,3,4,,x,\n", "3:1: this row has 4 cells, the header 5", f"4:1: {UNDER_NONE.format('5')}",
+     "5:1: a unit without a name", "5:2: the earliest start '' " + TICKS, "5:3: the latest end '' " + TICKS, "5:4: the length '' " + TICKS, f"6:1: {UNDER_NONE.format('x')}"),
     (HEAD + "a,1,9,3,4\nb,1,9,3,4\n a ,1,9,3,4\n\"a\",1,9,3,4\n", "5:2: the unit 'a' is there already, in line 3", "6:1: the unit 'a' is there already, in line 3"),
     (HEAD + "\u00fc,1,9,3,4\nu\u0308,1,9,3,4\n", "4:1: the unit 'u\u0308' is there already, in line 3"),
     (HEAD + '"a\nb",1,9,3,4\na\u00adb,1,9,3,4\nb\u200b,1,9,3,x\nc\u202ed,1,9,3,4\na\tb,1,9,3,4\n', "3:1: a unit's name has the letter U+000A, which does not show",
-     "5:1: a unit's name has the letter U+00AD, which does not show", "6:1: a unit's name has the letter U+200B, which does not show", "6:10: the draw 'x' " + STEPS + "1",
+     "5:1: a unit's name has the letter U+00AD, which does not show", "6:1: a unit's name has the letter U+200B, which does not show", "6:10: the draw 'x' " + ONES,
      "7:1: a unit's name has the letter U+202E, which does not show", "8:1: a unit's name has the letter U+0009, which does not show"),
     (HEAD + "a,-1,9.0,1e1,+4\nb,0x1,08:00,3 min,4.0\nc,\u0663,\u00b2,1 0,1_0\nd,1,2,3,4 A\n",
-     f"3:3: the earliest start '-1' {TICKS}", f"3:6: the latest end '9.0' {TICKS}", f"3:10: the length '1e1' {TICKS}", f"3:14: the draw '+4' {STEPS}1",
-     f"4:3: the earliest start '0x1' {TICKS}", f"4:7: the latest end '08:00' {TICKS}", f"4:13: the length '3 min' {TICKS}", f"4:19: the draw '4.0' {STEPS}1",
-     f"5:3: the earliest start '\u0663' {TICKS}", f"5:5: the latest end '\u00b2' {TICKS}", f"5:7: the length '1 0' {TICKS}", f"5:11: the draw '1_0' {STEPS}1",
-     f"6:9: the draw '4 A' {STEPS}1"),
+     f"3:3: the earliest start '-1' {TICKS}", f"3:6: the latest end '9.0' {TICKS}", f"3:10: the length '1e1' {TICKS}", f"3:14: the draw '+4' {ONES}",
+     f"4:3: the earliest start '0x1' {TICKS}", f"4:7: the latest end '08:00' {TICKS}", f"4:13: the length '3 min' {TICKS}", f"4:19: the draw '4.0' {ONES}",
+     f"5:3: the earliest start '\u0663' {TICKS}", f"5:5: the latest end '\u00b2' {TICKS}", f"5:7: the length '1 0' {TICKS}", f"5:11: the draw '1_0' {ONES}",
+     f"6:9: the draw '4 A' {ONES}"),
     (CLOCKED + "a,8,24:60,1:5,1\nb,08:00:00,:30,min,1\nc,8.00,-1:00,1 h,1\n", f"4:3: the earliest start '8' {TIME}", f"4:5: the latest end '24:60' {TIME}", f"4:11: the length '1:5' {LENGTH}",
      f"5:3: the earliest start '08:00:00' {TIME}", f"5:12: the latest end ':30' {TIME}", f"5:16: the length 'min' {LENGTH}",
      f"6:3: the earliest start '8.00' {TIME}", f"6:8: the latest end '-1:00' {TIME}", f"6:14: the length '1 h' {LENGTH}"),
@@ -85,10 +104,12 @@ LISTS = [
      "3:14: the latest end '99999999999999999999' is above every limit", "3:35: the length '4294967296' is above every limit", "3:46: the draw '4294967296' is above every limit"),
     (HEAD + 'a"b,1,9,3,4\n"a" b,1,9,3,4\nc,x,9,3,4\n', '3:2: a quote inside a cell without quotes', "4:5: this stands behind a closing quote", "5:3: the earliest start 'x' " + TICKS),
     (HEAD + 'a,x,9,3,4\n\u00fc, "b,1,9,3,4\nc,x,9,3,4\n', "3:3: the earliest start 'x' " + TICKS, "4:4: this quote is never closed"),
-    (HEAD + "a,1,9,3,4\rb,1,9,3,4\n", "3:10: a carriage return without a line feed"),
+    # A carriage return alone may end a line for somebody else, and nothing else is looked at.
+    (HEAD.replace("\n", "\r") + "a,x,9,3,4\r", "1:12: a carriage return without a line feed; lines have to end with a line feed"),
+    (HEAD + "a,1,9,3,4\rb,x,9,3,4\n", "3:10: a carriage return without a line feed; lines have to end with a line feed"),
     ("\ufeff" + HEAD + "\u00fc\u00fc,x,9,3,4\n", "3:4: the earliest start 'x' " + TICKS),
-    (HEAD.encode() + "\u00fc\u6f22".encode() + b"\xff,1,9,3,4\n", "3:3: the byte 0xff is no UTF-8"),
-    ("unit".encode("utf-16"), "1:1: the byte 0xff is no UTF-8"),
+    (HEAD.encode() + "\u00fc\u6f22".encode() + b"\xff,1,9,3,4\n", "3:3: the byte 0xff is no UTF-8; the file has to be saved as UTF-8"),
+    ("unit".encode("utf-16"), "1:1: the byte 0xff is no UTF-8; the file has to be saved as UTF-8"),
     (HEAD + "".join(f"u{k},0,9,1,1\n" for k in range(1201)), "1:1: there are 1201 reads; the program takes lists of up to 1200"),
 ]
 
@@ -102,10 +123,12 @@ PLANS = [
     ("start\n08:00\n", "1:1: the header has no column unit"),
     ("unit,start,at\n", "1:12: the column 'at' is start, which 'start' is already"),
     ("unit,start (s)\n", "1:6: the column 'start (s)' is read in HH:MM"),
-    ('unit,start\nc,08:00\na,8\na,08:00,,x\na\n"#b",08:00\n"#b",09:00\n,\n,09:00\n', "2:1: the list has no unit \u201cc\u201d", f"3:3: the start '8' {TIME}", "4:1: this row has 4 cells, the header 2",
+    ('unit,start\nc,08:00\na,8\na,08:00,,x\na\n"#b",08:00\n"#b",09:00\n,\n,09:00\n', "2:1: the list has no unit \u201cc\u201d", f"3:3: the start '8' {TIME}", f"4:1: {UNDER_NONE.format('x')}",
      "5:1: this row has 1 cells, the header 2", "7:1: \u201c#b\u201d has a start already", "9:1: the list has no unit \u201c\u201d"),
+    ("unit,start\ra,08:00\n", "1:11: a carriage return without a line feed; lines have to end with a line feed"),
+    ("# time: ticks\nunit,start\n", "1:2: the list's times are HH:MM"),
     ('unit;start\n"a;08:00\n', "2:1: this quote is never closed"),
-    (b"unit,start\na\xe4", "2:2: the byte 0xe4 is no UTF-8"),
+    (b"unit,start\na\xe4", "2:2: the byte 0xe4 is no UTF-8; the file has to be saved as UTF-8"),
 ]
 
 FIXES = [
@@ -133,6 +156,8 @@ def errors() -> None:
     for words, fault in FIXES:
         found = bench(HOURS, *(f"--fix={word}" for word in words))
         check(words, (found.lines, found.status, found.error.split("\n")[0]), ([], 2, fault))
+    for text in ("tarqumbet-log 1\n", "\ufefftarqumbet-log 2\r\ntime ticks\r\n"):
+        check((text, "a log for a list"), bench(text), Said([], 2, "list.csv is a log and no list; ./bench --check list.csv checks it."))
     check("all fixes", bench(HOURS, "--fix", "a", "--fix", "a=8").error.count("\n"), 1)
 
 
@@ -153,81 +178,6 @@ def shown() -> None:
             check(("a log", cell), (found.status, all(line.isprintable() for line in found.error.split("\n"))), (2, True))
 
 
-LOG = """\
-tarqumbet-log 1
-time HH:MM
-step 0.1 A
-supply 50
-read 480 560 50 18 "Bosch ""Motronic"" ML4.1"
-read 490 570 60 16 "Marelli"
-read 480 720 40 20 "Lucas"
-record 2 0 519 0 1
-record 2 0 529 0 1
-end holds 2
-"""
-A_READ = "a read has its earliest start, latest end, length, draw and, in quotes, its unit's name"
-A_RECORD = "a record has the moved read, the side, the time and the members"
-AN_END = "the end is 'holds' with the number of records, or 'clash' with that number and the read that clashes"
-NO_NUMBER = "is no number from 0 to 4294967295"
-
-# Something in that log, what stands in its place, and what is then wrong.
-LOGS = [
-    ("log 1", "log 2", "1:1: the log has version '2'; this command reads version 1"),
-    ("log 1", "log 01", "1:1: the log has version '01'; this command reads version 1"),
-    ("tarqumbet-log 1\n", "", "10:1: the log has no line 'tarqumbet-log'"),
-    ("time HH:MM", "time hh:mm", "2:1: the time 'hh:mm' is neither HH:MM nor ticks"),
-    ("time HH:MM\n", "time HH:MM\ntime HH:MM\n", "3:1: a line 'time' stands behind a line 'time'"),
-    ("time HH:MM\nstep 0.1 A", "step 0.1 A\ntime HH:MM", "3:1: a line 'time' stands behind a line 'step'"),
-    ("step 0.1 A", "step 0.1A", "3:1: '0.1A' is no step"),
-    ("step 0.1 A", "step 0", "3:1: '0' is no step"),
-    ("step 0.1 A", "step", "3:1: '' is no step"),
-    ("supply 50", "supply 5.0", f"4:1: '5.0' {NO_NUMBER}"),
-    ("supply 50", "supply 50 ", f"4:1: '50 ' {NO_NUMBER}"),
-    ("supply 50", "supply 4294967296", f"4:1: '4294967296' {NO_NUMBER}"),
-    ("supply 50\n", "", "10:1: the log has no line 'supply'"),
-    ("supply", "Supply", "4:1: no line of a log begins with 'Supply'", "11:1: the log has no line 'supply'"),
-    ('"Marelli"', "Marelli", f"6:1: {A_READ}"),
-    ('"Marelli"', '"Marelli" ', f"6:1: {A_READ}"),
-    ("490 570", "490  570", f"6:1: {A_READ}"),
-    ("490 570", "-490 570", f"6:1: {A_READ}"),
-    ("490 570", "570", f"6:1: {A_READ}"),
-    ("490 570", "4294967296 99999999999999999999", f"6:1: '4294967296' {NO_NUMBER}", f"6:1: '99999999999999999999' {NO_NUMBER}"),
-    ('"Marelli"', '""', "6:1: a unit without a name"),
-    ('"Marelli"', '"Mar\tlli"', "6:1: a unit's name has the letter U+0009, which does not show"),
-    ('"Marelli"', '"Lucas"', "7:1: the unit 'Lucas' is there already, in line 6"),
-    ("record 2 0 519 0 1", "record 2 0", f"8:1: {A_RECORD}"),
-    ("record 2 0 519 0 1", "record 2 x 519 0 1", f"8:1: 'x' {NO_NUMBER}"),
-    ("record 2 0 519 0 1", "record 2 0 519  0 1", f"8:1: '' {NO_NUMBER}"),
-    ("record 2 0 519 0 1", "record 2 0 519 1 0", "8:1: the members do not rise"),
-    ("record 2 0 519 0 1", "record 2 0 519 1 1", "8:1: the members do not rise"),
-    ("record 2 0 519 0 1", "record 2 0 519 0 256", "8:1: no member set holds read 256"),
-    ('read 480 720 40 20 "Lucas"\nrecord 2 0 519 0 1', 'record 2 0 519 0 1\nread 480 720 40 20 "Lucas"', "8:1: a line 'read' stands behind a line 'record'"),
-    ("end holds 2\n", "", "10:1: the log has no line 'end'"),
-    ("end holds 2\n", "end holds 2", "10:1: the last line is not ended", "10:1: the log has no line 'end'"),
-    ("end holds 2", "end holds", f"10:1: {AN_END}"),
-    ("end holds 2", "end holds 2 ", f"10:1: {AN_END}"),
-    ("end holds 2", "end clash 2", f"10:1: {AN_END}"),
-    ("end holds 2", "end settled 2", f"10:1: {AN_END}"),
-    ("end holds 2\n", "end holds 2\nend holds 2\n", "11:1: a line 'end' stands behind a line 'end'"),
-    ("end holds 2\n", "end holds 2\n\n", "11:1: the line begins with no word"),
-    ("end holds 2\n", "end holds 2\nrecord 2 0 529 0 1\n", "11:1: a line 'record' stands behind a line 'end'"),
-    ("end holds 2\n", "# remark\nend holds 2\n", "10:1: no line of a log begins with '#'"),
-    ("record 2 0 519", "record 2 0 x 1 1\nrecorded\nrecord 2", f"8:1: 'x' {NO_NUMBER}", "8:1: the members do not rise", "9:1: no line of a log begins with 'recorded'"),
-]
-
-
-def logs() -> None:
-    check("the log", (run("--check", put("log", LOG)).status, run("--check", put("log", "\ufeff" + LOG.replace("\n", "\r\n"))).status), (0, 0))
-    for old, new, *faults in LOGS:
-        check((old, "stands in the log"), LOG.count(old) > 0, True)
-        told((old, new), run("--check", put("log", LOG.replace(old, new, 1))), "log", tuple(faults))
-    told("a byte", run("--check", put("log", LOG.encode().replace(b"Lucas", b"L\xfccas"))), "log", ("7:22: the byte 0xfc is no UTF-8",))
-    many = LOG.replace("record 2 0 519 0 1\n", "record 2 0 519 0 1\n" * 10922)
-    told("records", run("--check", put("log", many)), "log", ("10930:1: the program takes up to 10922 lines 'record'",))
-    many = LOG.replace('read 490 570 60 16 "Marelli"\n', "".join(f'read 0 9 1 1 "{k}"\n' for k in range(1199)))
-    told("reads", run("--check", put("log", many)), "log", ("1205:1: the program takes up to 1200 lines 'read'",))
-
-
 def unread() -> None:
     """Files that cannot be read at all: one sentence that names them."""
     put("long", bytes(16 * 1024 * 1024 + 1))
@@ -241,7 +191,6 @@ def unread() -> None:
 def main() -> int:
     errors()
     shown()
-    logs()
     unread()
     return finished()
 
