@@ -53,11 +53,22 @@ SAME = {
     "notes at the end": "\n".join((HEAD, *BODY, *NOTES)),
     "notes among rows": "\n".join((HEAD, BODY[0], NOTES[2], BODY[1], "  " + NOTES[0] + "  ", BODY[2], NOTES[1])),
     "remarks": "# a remark, with commas, and quotes \"\n#\n" + LIST + "#supplying: 5\n# length, draw and unit, by hand\n",
-    "units in the header": LIST.replace(HEAD, "unit (serial),earliest (HH:MM),latest [HH:MM],length (min),draw (A)"),
-    "units in the header, no space": LIST.replace(HEAD, "unit,earliest(HH:MM),latest( HH:MM ),length[HH:MM],draw(A)"),
+    "units in the header": LIST.replace(HEAD, "unit (serial),earliest (HH:MM),latest [HH:MM],length (min),draw (A)").replace("00:50", "50"),
+    "units in the header, no space": LIST.replace(HEAD, "unit,earliest(hh:mm),latest( HH:MM ),length[HH:MM],draw(A)").replace(",60,", ",1:00,").replace("5 min", "0:05"),
+    "units in the header, capitals": LIST.replace(HEAD, "unit,earliest,latest,length (MIN),draw").replace("00:50", "50min"),
     "units in the cells": LIST.replace(",60,2", ",60min,2A").replace("5.0 A", "5A").replace("0.1 A", "0.1A"),
     "zeros in front": LIST.replace("8:10", "0000000000000000008:10").replace(",60,2", ",00000000000000060,00000000000000002.0"),
     "no fraction": LIST.replace("5.0 A", "5"),
+    "its separator said": "sep=;\n" + SEMICOLONS,
+    "its separator said, a mark, CR LF": "\ufeffsep=;\r\n" + SEMICOLONS.replace("\n", "\r\n"),
+    "commas said": "sep=,\n" + LIST,
+    "commas said, a semicolon in the header": "sep=,\n" + LIST.replace(HEAD, HEAD.replace("unit", "unit (a;b)")),
+    "notes in quotes": LIST.replace("# supply: 5.0 A", '"# supply: 5.0 A"').replace("# step: 0.1 A", '"# step: 0.1 A",,,,').replace("# time", "#time"),
+    "notes in quotes, semicolons": SEMICOLONS.replace("# supply: 5.0 A", '"# supply: 5,0 A"').replace("# time: HH:MM", '"#time: HH:MM";;;'),
+    "a value in the next cell": LIST.replace("supply: 5.0 A", "supply:,5.0 A,,,").replace("time: ", "time:, ").replace("step: ", "step: ,,"),
+    "a value in the next cell, semicolons": SEMICOLONS.replace("supply: 5.0 A", "supply:;5,0 A").replace("time: ", "time:;").replace("step: 0.1 A", "step:;0,1 A;;;"),
+    "a remark in quotes": LIST + '"# a remark, in quotes",,,,\n"#"\n',
+    "a remark with few cells": LIST + "# 3, 4\n#,,,,\n# 08:00, at the wall\n# a,b,c,9\n",
     "no length on the clock": LIST.replace("5 min", "00:05"),
 }
 
@@ -68,7 +79,8 @@ def same() -> None:
         found = bench(text, "--json")
         rows = [{key: value for key, value in row.items() if key != "now"} for row in found.object.get("reads", [])]
         check(name, (rows, found.object.get("supply"), found.status, found.error), (wanted, 50, 0, ""))
-        check((name, "not used"), [line for line in bench(text).lines if line.startswith("Not used")], [])
+        if "padded" in name:
+            check((name, "not used"), [line for line in bench(text).lines if line.startswith("Not used")], [])
 
 
 def columns() -> None:
@@ -82,7 +94,10 @@ def columns() -> None:
             named = [name.title() if one == column else one for one in order]
             text = "\n".join((",".join(("shelf", *named, "")), ",".join(("7", *(cells[one] for one in order), "")), "# supply: 9"))
             check(name, bench(text, "--json").object.get("reads"), [wanted])
-            check((name, "the shelf"), "Not used: the columns \u201cshelf\u201d." in bench(text).lines, True)
+            if name == column:
+                check((name, "the shelf"), "Not used: the column \u201cshelf\u201d." in bench(text).lines, True)
+    two = bench(listing("a 3 14 1 5 7 x 9", header=f"{HEADER},shelf,x\u201dy,{'z' * 500}"))
+    check("columns that are not used", two.lines[1], f"Not used: the columns \u201cshelf\u201d, \"x\u201dy\" and \u201c{'z' * 200} .. {'z' * 200}\u201d.")
     check("blanks in a name", bench(listing("a 3 14 1 5", header="unit,  Earliest   Start,not\tbefore here,latest  end,duration,draws").replace("a,3,", "a,3,x,"), "--json").object["reads"], [wanted])
 
 
@@ -97,6 +112,7 @@ def steps() -> None:
     # 2 of a supply of 5000 would be nothing, if these are amperes of milliamperes.
     check("a unit that the list does not have", bench(listing("a 0 9 3 2", supply="5000", header=HEADER + " (A)")).status, 2)
     check("ticks of any name", bench(listing("a 0 9 3 2", header="unit,from (s),to (s),dur (s),dem")).status, 0)
+    check("ticks that are minutes", bench(listing("a 0 9 3 2", header="unit,from (min),to (min),length (min),dem"), "--json").object.get("reads", [{}])[0].get("length"), 3)
     check("ticks as such", bench(listing("a 0 9 3 2", header="unit,from (ticks),to (s),dur (s),dem")).status, 0)
 
 
@@ -136,8 +152,7 @@ def limits() -> None:
         check((count, "what is to be done"), len(found.lines) > 1, True)
         check((count, "for programs"), {key: bench(listing(*rows[:count]), "--json").object.get(key) for key in ("answer", "refusal", "records", "together")},
               {"answer": "refused", "refusal": 2, "records": [], "together": []})
-    check("no reads", bench(listing()), Said(["Settled: 0 of 0 windows narrowed, 0 records, all taken by the checker from the submitted windows. "
-                                             "Every schedule lies in the windows now; that there is one is not said."], 0, ""))
+    check("no reads", bench(listing()), Said(["Settled: there are no reads."], 0, ""))
     check("no reads, for programs", bench(HEADER + "\r\n# supply: 0", "--json").object, {"answer": "settled", "count": 0, "supply": 0, "reads": [], "records": [], "sentences": [], "together": []})
     check("the example", run(str(TOP / "examples/reads.csv")).status, 0)
 
