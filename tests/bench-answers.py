@@ -1,17 +1,18 @@
-"""What ./bench tells of lists of reads, in exact words: sentences, folded records, clashes, fixed starts, plans, refusals and projects, for people and for programs
-(docs/BENCH.md). PROBE is the program that is asked. Says what went wrong and ends with status 1, or says nothing.
+"""What ./bench tells of lists of reads, in exact words: sentences, folded records, clashes, fixed starts and plans, for people and for programs (docs/BENCH.md). PROBE is the program that is asked. Says what went wrong and ends with status 1, or says nothing.
 """
 
 from __future__ import annotations
 
+import re
 import sys
 from pathlib import Path
 
-from benching import TOP, Said, bench, check, finished, listing, put, run
+from benching import Said, bench, check, finished, listing, put, run
 
 LIES = "Every schedule lies in the windows now; that there is one is not said."
 TAKEN = "that the checker took from the submitted windows"
 OTHERS = "whatever becomes of the others"
+OWN = "by the command's own count"
 DAY = "one of them has to get another window, or another day."
 FEW0 = "nor can it be through before the first of these times, or fit between them, so it starts at"
 FEW1 = "nor can it start after the last of these times, or fit between them, so it ends by"
@@ -95,6 +96,11 @@ def clashes() -> None:
         ["unit  submitted  now  lasts  draws  leeway", "  x         0-4    -      4      3       -", "  y        0-20    -      2      3       -",
          "* a       30-34    -      4      3       -", "* b       30-34    -      4      3       -"],
         f"“a” and “b” cannot be read together in their submitted windows on this supply, {OTHERS}: {DAY}", 1))
+    # Records of which some are needed: of x and y, and of a, the last of which closes its window.
+    several = bench(listing("x 0 4 4 3", "y 0 20 2 3", "a 30 36 3 3", "b 30 36 6 3"))
+    check("some are needed", several.lines[0], "Clash: these 4 reads have no schedule on 5. The checker took all 4 records from the submitted windows, and the 2 that the clash needs by themselves.")
+    all_ = bench(listing("a 30 36 3 3", "b 30 36 6 3"))
+    check("all are needed", all_.lines[0], "Clash: these 2 reads have no schedule on 5. The checker took all 2 records from the submitted windows.")
     told = bench(text, "--json").object
     check("for programs", {key: told[key] for key in ("answer", "count", "job", "supply", "records", "together")}, {
         "answer": "clash", "count": 3, "job": 2, "supply": 5, "records": [{"job": 2, "side": 0, "time": 33, "members": [3]}], "together": ["a", "b"]})
@@ -102,6 +108,29 @@ def clashes() -> None:
     three = bench(listing("a 0 4 4 2", "b 0 4 4 2", "c 0 4 4 2")).lines
     check("three, and one record", (three[0], three[-1]), ("Clash: these 3 reads have no schedule on 5. The checker took the record from the submitted windows.",
                                                            f"“a”, “b” and “c” cannot be read together in their submitted windows on this supply: {DAY}"))
+
+
+def one_record() -> None:
+    found = bench(listing("a 0 4 4 3", "b 2 12 3 3"))
+    check("one record", found.lines[0], f"Settled: 1 of 2 windows narrowed, by 1 record {TAKEN}. {LIES}")
+    check("one read", bench(listing("a 0 9 4 3")).lines, [f"Settled: no window is narrowed. {LIES}", "", "unit  submitted  now  lasts  draws  leeway", "a           0-9    =      4      3       5"])
+    check("nothing of a start that is fixed", "fixed" in bench(listing("a 0 9 4 3"), "--json").object, False)
+
+
+def names() -> None:
+    """Names with typographic quotes stand in straight ones; long names stay whole in the table and in sentences, and are cut in the middle in pictures."""
+    text = listing("a 0 4 4 3", "b 2 12 3 3").replace("\na,", "\n“a” 1,").replace("\nb,", "\nb”,")
+    check("quotes", bench(text, "--json").object["sentences"], ['At time 3 "“a” 1" is being read in any case and draws 3 of 5. "b”" draws 3, so it is not read then; nor can it be through before, so it starts at 4 or later.'])
+    check("quotes, fixed", bench(text, "--fix", "b”=4").lines[0].startswith('Settled with "b”" at 4: no window is narrowed.'), True)
+    one, other = (f"Bosch Motronic {'m' * 170} 198{year}" for year in (7, 8))
+    text = listing("a 0 4 4 3", "b 2 12 3 3").replace("\na,", f"\n{one},").replace("\nb,", f"\n{other},")
+    found = bench(text, "--text-picture", "--picture", "long.svg")
+    check("long names in the table", [line.split("  ")[0] for line in found.lines[3:5]], [one, other])
+    check("long names in a sentence", found.lines[6].count(one) + found.lines[6].count(other), 2)
+    shown = [line.split("|")[0].strip() for line in found.lines[8:10]]
+    drawn = re.findall(r"<text[^>]*>(Bosch[^<]*)</text>", Path("long.svg").read_text("utf-8"))
+    for cut in (shown, drawn):
+        check(("cut in the middle", cut), (len(cut), all(name.startswith("Bosch") and len(name) < 60 and name.endswith(f"198{year}") for name, year in zip(cut, (7, 8)))), (2, True))
 
 
 def why() -> None:
@@ -134,8 +163,14 @@ def fixed() -> None:
         "c     08:00-10:00            =  60 min  1.0 A   0 min".replace("            =", "  09:00-10:00")], 0))
     clash = bench(THREE, "--fix", "a=08:40", "--fix", "b=09:00")
     check("a clash", (clash.lines[0], clash.status), ("Clash: no schedule on 5.0 A starts “a” at 08:40 and “b” at 09:00. The checker took the record.", 1))
-    check("together", clash.lines[-1].startswith("“a” and “b” cannot be read together in their submitted windows on this supply, with the starts that are fixed, whatever becomes of the others: "), True)
-    check("for programs", bench(THREE, "--fix", "a=08:20", "--json").object["reads"][0], {"unit": "a", "earliest": 480, "latest": 600, "length": 40, "draw": 30, "now": [500, 540]})
+    check("together", clash.lines[-1], f"“a” and “b” cannot be read together in their submitted windows on this supply with “a” at 08:40 and “b” at 09:00, {OTHERS}: "
+          "one of them has to get another start, another window, or another day.")
+    told = bench(THREE, "--fix", "c=09:00", "--fix", "a=08:20", "--json").object
+    check("for programs", (told["fixed"], told["reads"][0]), ({"a": 500, "c": 540}, {"unit": "a", "earliest": 480, "latest": 600, "length": 40, "draw": 30, "now": [500, 540]}))
+    found = bench(listing("a 0 9 4 2", "b 0 9 4 2"), "--fix", "a=0")
+    check("nothing is narrowed", found.lines[0], "Settled with “a” at 0: no window is narrowed. This says what is left, not that there is a schedule.")
+    alone = bench(listing("a 0 9 4 6"), "--fix", "a=2")
+    check("one alone", (alone.lines[0], alone.lines[-1]), ("Clash: no schedule on 5 starts “a” at 2. The checker took the record.", "“a” cannot be read in its submitted window on this supply with “a” at 2."))
 
 
 def plans() -> None:
@@ -151,65 +186,37 @@ def plans() -> None:
     check("overdrawn", over, Said([
         "The plan is bad: the supply is overdrawn.", "", "unit    submitted      planned   lasts  draws", "* a   08:00-10:00  08:00-08:40  40 min  3.0 A",
         "* b   08:00-10:00  08:39-09:19  40 min  2.5 A", "  c   08:00-10:00  09:00-10:00  60 min  1.0 A", "",
-        "1. In the minute of 08:39 “a” and “b” draw 5.5 A together, and the supply gives 5.0 A."], 1, ""))
-    check("by one", bench(listing("a 0 9 3 6"), "--plan", put("plan.csv", "unit,start\na,2")).lines[-1], "1. At time 4 “a” draws 6, and the supply gives 5.")
+        "1. In the minute of 08:39 “a” and “b” draw 5.5 A together, and the supply gives 5.0 A.", "", f"The supply is overdrawn from 08:39 to 08:40, {OWN}."], 1, ""))
+    check("by one", bench(listing("a 0 9 3 6"), "--plan", put("plan.csv", "unit,start\na,2")).lines[-3:], ["1. At time 4 “a” draws 6, and the supply gives 5.", "", f"The supply is overdrawn from 2 to 5, {OWN}."])
+    # Neighbours are one stretch, whoever draws there.
+    rows = ["a 0 30 4 3", "b 0 30 4 3", "c 0 30 4 3", "d 0 30 2 6", "e 0 30 3 6", "f 0 30 0 9"]
+    plan = put("plan.csv", "unit,start\na,0\nb,1\nc,3\nd,7\ne,20\nf,25\n")
+    check("stretches", bench(listing(*rows), "--plan", plan).lines[-1], f"The supply is overdrawn from 1 to 5, from 7 to 9 and from 20 to 23, {OWN}.")
     for rows, why in ((("a,07:59", "b,08:40", "c,09:01"), ["“a” would be read from 07:59 to 08:39, outside its submitted window 08:00 to 10:00",
                                                           "“c” would be read from 09:01 to 10:01, outside its submitted window 08:00 to 10:00"]),
                       (("c,09:00",), ["it has no start for “a” and “b”"]), ((), ["it has no start for “a”, “b” and “c”"])):
         wanted = [f"The plan is bad: {one}." for one in why]
         check(rows, planned(*rows), Said(wanted, 1, ""))
         told = planned(*rows, words=("--json",)).object
+        starts = {row[0]: 60 * int(row[2:4]) + int(row[5:]) for row in rows}
         check((rows, "for programs"), ({key: told[key] for key in told if key not in ("reads",)}, [read["now"] for read in told["reads"]]),
-              ({"plan": "bad", "supply": 50, "records": [], "sentences": wanted, "together": []}, [[480, 600]] * 3))
+              ({"plan": "bad", "supply": 50, **({"fixed": starts} if starts else {}), "records": [], "sentences": wanted, "together": []}, [[480, 600]] * 3))
     told = planned("a,08:00", "b,08:39", "c,09:00", words=("--json",)).object
-    check("overdrawn, for programs", [told.get(key) for key in ("answer", "count", "job", "plan", "together", "sentences")],
-          ["clash", 1, 0, "bad", ["a", "b"], ["In the minute of 08:39 “a” and “b” draw 5.5 A together, and the supply gives 5.0 A."]])
+    check("overdrawn, for programs", [told.get(key) for key in ("answer", "count", "job", "plan", "fixed", "together", "sentences")],
+          ["clash", 1, 0, "bad", {"a": 480, "b": 519, "c": 540}, ["a", "b"], ["In the minute of 08:39 “a” and “b” draw 5.5 A together, and the supply gives 5.0 A."]])
     told = planned("a,08:00", "b,08:40", "c,09:00", words=("--json",)).object
     check("good, for programs", [told.get(key) for key in ("answer", "count", "job", "plan", "together", "sentences")], ["settled", 0, None, "good", [], []])
-
-
-def refusals() -> None:
-    text = listing("a 0 30000 30000 3", "b 0 60000 1 3")
-    found = bench(text)
-    check("refused 5", (found.lines[0], found.status, found.error), ("refused 5: The work needs more records than the log has room for.", 3, ""))
-    check("what is to be done", "Round earliest starts up, latest ends down and lengths up" in found.lines[1] and "coarser step of time" in found.lines[1], True)
-    told = bench(text, "--json", "--log", "refused.log", "--mzn", "refused.mzn").object
-    check("refused, for programs", ([told.get(key) for key in ("answer", "refusal", "records", "together")], told["reads"][1]["now"]), (["refused", 5, [], []], [0, 60000]))
-    check("no log of what is refused", Path("refused.log").exists(), False)
-
-
-def projects() -> None:
-    """Both layouts; windows by the longest chains; jobs as the file counts them."""
-    files = [str(TOP / f"instances/j301_1.{kind}") for kind in ("rcp", "sm")]
-    one, other = (run(file, "--resource", "0") for file in files)
-    check("both layouts", (one.lines, one.status), (other.lines, 0))
-    check("a project", one.lines[1], "The project's precedences count here by their longest chains alone; starts have to respect each of them besides.")
-    check("jobs", [line.split()[:2] for line in one.lines[4:36]], [["job", str(number)] for number in range(1, 33)])
-    check("horizons", [run(files[0], "--resource=0", f"--horizon={time}").lines for time in ("38", "auto", "0038")], [one.lines] * 3)
-    short = run(files[1], "--resource", "0", "--horizon", "37")
-    check("a short horizon", short, Said(["refused 34: The horizon is shorter than the longest chain.", "hint: the least horizon that is taken is 38."], 3, ""))
-    for words, number in (([files[0], "--resource", "4"], 37), ([files[0], "--resource", "0", "--horizon", "1"], 34), ([put("x.rcp", "1 x"), "--resource", "0"], 30)):
-        told = run(*words, "--json")
-        check((words, "for programs"), (told.object.get("answer"), told.object.get("refusal"), told.status), ("refused", number, 3))
-    two = put("two.rcp", "2 1\n5\n3 1 1 2\n4 2 0\n")
-    for starts, lines, status in (((0, 3), "The plan is good: every read lies in its submitted window, and at no time is more drawn than 5.", 0),
-                                  ((1, 3), "The plan is bad: “job 2” starts at 3, before “job 1”, which comes first, ends at 4.", 1)):
-        plan = put("plan.csv", f"job,at\njob 1,{starts[0]}\njob 2,{starts[1]}\n")
-        found = run(two, "--resource", "0", "--horizon", "8", "--plan", plan)
-        check(starts, (found.lines[0], found.lines[1:2] or [""], found.status), (lines, [""], status))
-    check("a start that is fixed", run(two, "--resource", "0", "--horizon", "9", "--fix", "job 2=5", "--json").object["reads"][1]["now"], [5, 9])
-    check("a clash", (run(put("one.rcp", "1 1 1 1 2 0"), "--resource", "0").lines[0]), "Clash: this read has no schedule on 1. The checker took the record from the submitted windows.")
 
 
 def main() -> int:
     sentences()
     on_the_clock()
     clashes()
+    one_record()
+    names()
     why()
     fixed()
     plans()
-    refusals()
-    projects()
     return finished()
 
 
