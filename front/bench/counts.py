@@ -30,6 +30,11 @@ def after(windows: Sequence[Window], records: Sequence[Record]) -> list[Window]:
     return [(start, end) for start, end in now]
 
 
+def too_short(reads: Reads, windows: Sequence[Window]) -> list[int]:
+    """The reads whose window leaves them no start."""
+    return [job for job, ((start, end), length) in enumerate(zip(windows, reads.lengths)) if start + length > end]
+
+
 def is_narrowable(reads: Reads, windows: Sequence[Window]) -> bool:
     """Whether a time is crowded for a read at which one of the two rules moves a bound of its window."""
     rows = [Row("", window, window, length, draw, False) for window, length, draw in zip(windows, reads.lengths, reads.demands)]

@@ -15,7 +15,7 @@ from ending import Stop
 from limits import Limits
 from refusals import CODES
 
-from .counts import after, is_narrowable, refusal_of
+from .counts import after, is_narrowable, refusal_of, too_short
 from .reads import Reads
 from .records import Record, jobs_of, log_of, needed, records_of, set_words
 from .scene import Window
@@ -120,15 +120,21 @@ class Desk:
         return records
 
     def told(self, verdict: Verdict, log: Sequence[int]) -> Verdict:
-        """A clash is told by its marked reads and the records that it needs, which have to be a log by themselves; it leaves the windows as they were."""
-        wanted = submitted(self.reads) if verdict.word == "clash" else after(submitted(self.reads), verdict.records)
-        if list(verdict.windows) != wanted:
-            raise contradicts(f"it says '{words_of(verdict.word, verdict.numbers)}' and leaves windows that the records do not")
+        """A clash is told by its marked reads and the records that it needs, which have to be a log by themselves; it leaves the windows as they were. Its read has
+        no start left, and where there is no clash every read has one."""
+        said, reached = f"it says '{words_of(verdict.word, verdict.numbers)}'", after(submitted(self.reads), verdict.records)
+        if list(verdict.windows) != (submitted(self.reads) if verdict.word == "clash" else reached):
+            raise contradicts(f"{said} and leaves windows that the records do not")
+        closed = too_short(self.reads, reached)
         if verdict.word != "clash":
+            if closed:
+                raise contradicts(f"{said} and leaves a read no start")
             return verdict
         count, job = verdict.numbers
         if not 0 <= job < len(self.reads.units) or (verdict.records and verdict.records[-1].job != job):
             raise contradicts("a clash is of another read than its last record")
+        if job not in closed:
+            raise contradicts(f"{said} and leaves the read a start")
         records, marked = needed(verdict.records) if verdict.records else ([], {job})
         answer = self.judged("conflict", count, log, [set_words(self.limits)])
         if answer.word != "marked" or set(jobs_of(answer.lists[0])) != marked or answer.numbers != [len(marked)]:
