@@ -71,6 +71,7 @@ def run(command: Callable[[list[str]], tuple[list[str], int]]) -> None:
         sys.exit(stop.status)
     except Exception as wrong:
         place = traceback.extract_tb(wrong.__traceback__)[-1]
-        complain(f"The command itself has a fault, at line {place.lineno} of {os.path.basename(place.filename)}: {type(wrong).__name__}, {wrong}")
+        what = ", ".join(filter(None, (type(wrong).__name__, " ".join(str(wrong).split()))))
+        complain(f"The command itself has a fault, at line {place.lineno} of {os.path.basename(place.filename)}: {what}.")
         sys.exit(STOPPED)
     sys.exit(status if put(lines) else STOPPED)
