@@ -1,56 +1,13 @@
-"""Programs that lie to ./bench, each a stand-in around the program that answers well: what contradicts itself is never told. Each ends with status 4 and one line
-that names the program, with nothing on standard output and no file written. PROBE is the program that answers well. Says what went wrong and ends with
-status 1, or says nothing.
+"""Programs that lie to ./bench about lists and logs, in one call or in several, or that do not answer: nothing is told (tests/lying.py). PROBE is the program that
+answers well. Says what went wrong and ends with status 1, or says nothing.
 """
 
 from __future__ import annotations
 
 import sys
-from pathlib import Path
 
 from benching import ASKED, bench, check, finished, listing, probe, put, run, script
-
-# A stand-in answers line by line. Of each line it knows the call's name and the claimed count; of the answer its words `said`, which a lie changes, the first of
-# them as it was, and the places at which the lists begin, with their length. What it keeps is there at the next line.
-STAND_IN = """\
-import subprocess
-import sys
-
-HEADS = {"settled": 1, "holds": 1, "marked": 1, "refused": 1, "clash": 2, "rejected": 2, "read": 2}
-asked = subprocess.Popen(["%s"], stdin=subprocess.PIPE, stdout=subprocess.PIPE, text=True, bufsize=1)
-kept, turn = [], -1
-
-
-def bump(place, by=1):
-    said[place] = str(int(said[place]) + by)
-
-
-def head(*words):
-    # Where the checker says that, it leaves the submitted windows.
-    if name == "check" and words[0] != "holds":
-        said[lists[0] :] = call[3 : 5 + 2 * int(call[3])]
-    said[: lists[0]] = map(str, words)
-
-
-for line in sys.stdin:
-    asked.stdin.write(line)
-    asked.stdin.flush()
-    call, said = line.split(), asked.stdout.readline().split()
-    name, word, turn = call[0], said[0], turn + 1
-    count = int(call[2]) if name in ("check", "conflict") else -1
-    at, lists = HEADS.get(word, 0) + 1, []
-    while at < len(said):
-        lists.append(at)
-        at += int(said[at]) + 1
-    if turn:
-        %s
-    print(" ".join(said), flush=True)
-"""
-
-SETTLED = listing("a 0 4 4 3", "b 0 20 4 3", "c 4 8 4 3", "d 0 90 5 1")
-CLASH = listing("x 0 4 4 3", "y 0 20 2 3", "a 16 20 4 3", "b 10 20 4 3", "c 10 14 4 3")
-FILES = ("out.log", "out.svg", "out.mzn")
-WRITTEN = ("--log", "out.log", "--picture", "out.svg", "--mzn", "out.mzn")
+from lying import CLASH, SETTLED, WRITTEN, lied, stand_in
 
 # Lies about a list that settles and about one that clashes, each with several records.
 LIES = {
@@ -134,23 +91,6 @@ OF_A_LOG = {
     "a window that is not the record's": "if name == 'check': bump(lists[0] + 2)",
 }
 
-# The reader of projects, asked for a horizon, and asked for the least: then at first for the greatest.
-OF_A_PROJECT = {
-    "no answer": "if name == 'patterson': said = ['settled', '0']",
-    "a refusal of another call": "if name == 'patterson': head('refused', 5)",
-    "more pairs than there is room for": "if name == 'patterson': bump(2)",
-    "a pair of a job that is not there": "if name == 'patterson': bump(lists[4] + 1, 90)",
-    "a successor that is not there": "if name == 'patterson': bump(lists[5] + 1, 90)",
-    "an earliest start that breaks a pair": "if name == 'patterson' and word == 'read': bump(lists[0] + 2, -1)",
-    "a latest end that breaks a pair": "if name == 'patterson' and word == 'read': bump(lists[1] + 1)",
-    "a list less": "if name == 'patterson': del said[lists[5]:]",
-}
-OF_THE_LEAST = {
-    "refused with its own horizon": "if name == 'patterson' and turn > 1: head('refused', 34)",
-    "a capacity that is another one at the second time": "if name == 'patterson' and turn > 1: bump(1)",
-    "a length that is another one at the second time": "if name == 'patterson' and turn > 1: bump(lists[2] + 1, -1)",
-}
-
 # Programs that do not answer at all, or not to the end.
 MUTE = {
     "none": "/none", "nothing": "exec true", "not well": "exec false", "killed": "kill -9 $$", "the lines": "exec cat", "without end": "exec yes", "an empty line": "echo; exec cat",
@@ -160,29 +100,10 @@ MUTE = {
 }
 
 
-def lied(what: object, program: str, *words: str) -> None:
-    """The command with that program ends with status 4."""
-    for file in FILES:
-        Path(file).unlink(missing_ok=True)
-    with probe(program):
-        found = run(*words)
-    good = found.status == 4 and not found.lines and found.error.endswith(".") and "\n" not in found.error
-    if not good:
-        check(what, (found.lines[:1], found.status, found.error[-300:]), ([], 4, "a sentence"))
-    elif program not in found.error:
-        check(what, found.error, f"a sentence with {program}")
-    check((what, "files"), [file for file in FILES if Path(file).exists()], [])
-
-
-def stand_in(lie: str) -> str:
-    return script("stand-in", STAND_IN % (ASKED, lie), f"{sys.executable} -ISB")
-
-
 def lies() -> None:
     put("settled.csv", SETTLED)
     put("clash.csv", CLASH)
     put("two.rcp", "2 1\n5\n3 1 1 2\n4 2 0\n")
-    put("plan.csv", "unit,start\njob 1,0\njob 2,3\n")
     bench(SETTLED, "--log", "settled.log")
     bench(CLASH, "--log", "clash.log")
     for name, lie in LIES.items():
@@ -200,11 +121,6 @@ def lies() -> None:
     for name, lie in OF_A_CLASH.items():
         if not name.startswith(("the read", "both")):
             lied(("of a log that clashes", name), stand_in(lie.replace("turn > 3", "turn > 2")), "--check", "clash.log")
-    for name, lie in OF_A_PROJECT.items():
-        for words in ([], ["--plan", "plan.csv"]):
-            lied(("of a project", name, *words), stand_in(lie), "two.rcp", "--resource", "0", "--horizon", "9", *words, *WRITTEN)
-    for name, lie in OF_THE_LEAST.items():
-        lied(("of the least horizon", name), stand_in(lie), "two.rcp", "--resource", "0", *WRITTEN)
 
 
 def mute() -> None:
@@ -218,7 +134,7 @@ def mute() -> None:
 def honest() -> None:
     """A stand-in that tells the truth is believed, so that it is the lies that are found."""
     with probe(stand_in("pass")):
-        for words, status in ((["settled.csv", "--why"], 0), (["clash.csv", "--why"], 1), (["--check", "settled.log"], 0), (["--check", "clash.log"], 1), (["two.rcp", "--resource=0", "--plan=plan.csv"], 0)):
+        for words, status in ((["settled.csv", "--why"], 0), (["clash.csv", "--why"], 1), (["--check", "settled.log"], 0), (["--check", "clash.log"], 1), (["two.rcp", "--resource=0"], 0)):
             check(("honest", words), run(*words).status, status)
 
 
