@@ -29,6 +29,10 @@ NO_RECORD = f"""if name == 'narrow': {AS_SUBMITTED}; head('clash', 0, 0)
 OPEN = f"""if name == 'narrow': {AS_SUBMITTED}; head('clash', 1, 1)
         elif name == 'check' and count: head('clash', 1, 1)
         elif name == 'conflict': said = ['marked', '2', '8', '3', *'0000000']"""
+# A record that closes the window of read 0 in a plan, where nothing is overdrawn.
+CLOSED = """if name == 'narrow': said[lists[2] + 1 : lists[2] + 13] = ['0', '0', '3', '1', '2', *'0000000']; head('clash', 1, 0)
+        elif name == 'check' and count: head('clash', 1, 0)
+        elif name == 'conflict': said = ['marked', '2', '8', '3', *'0000000']"""
 KEPT = "['holds' if word == 'settled' else word, *said[1 : lists[2]]]"
 
 # The lie, the words behind the command, and why nothing is told.
@@ -39,6 +43,7 @@ LIES = {
     "settled, one record too early, with a start that is fixed": (EARLY, ["settled.csv", "--fix", "d=50"], "more can be narrowed"),
     "a plan that overdraws is good": (SUBMITTED, ["settled.csv", "--plan", "over.csv", *FILES], "more can be narrowed"),
     "a good plan overdraws": (NO_RECORD, ["settled.csv", "--plan", "good.csv", *FILES], "leaves the read a start"),
+    "a good plan overdraws, by a record": (CLOSED, ["settled.csv", "--plan", "good.csv", *FILES], "a plain count the other"),
     "a clash without a record": (NO_RECORD, ["settled.csv", *WRITTEN], "leaves the read a start"),
     "a clash that leaves a start": (OPEN, ["one.csv", *WRITTEN], "leaves the read a start"),
     "no clash of a window that is too short": ("if name == 'narrow': head('settled', 0)\n        elif name == 'check': head('holds', 0)", ["short.csv", *WRITTEN], "leaves a read no start"),

@@ -191,15 +191,19 @@ def need(fact: bool) -> None:
 
 
 def replay(text: str) -> tuple[tuple, str, list[list[int]]]:
-    """A log file by docs/ANSWERS.md, taken apart and replayed: what it is of, its end, and the windows that it leaves, in a clash the submitted ones."""
+    """A log file by docs/ANSWERS.md, taken apart and replayed: what it is of, its end, and the windows that it leaves, in a clash those that it starts from: the
+    submitted ones, or those of starts that are fixed."""
     lines = text.replace("\r\n", "\n").split("\n")[:-1]
     need(lines[0] == "tarqumbet-log 1" and [line.split(" ")[0] for line in lines[1:4]] == ["time", "step", "supply"])
     reads = [(*map(int, line.split(" ")[1:5]), unicodedata.normalize("NFC", line.split(" ", 5)[5][1:-1].replace('""', '"'))) for line in lines if line.startswith("read ")]
     steps = [tuple(map(int, line.split(" ")[1:])) for line in lines if line.startswith("record ")]
     supply = int(lines[3].split(" ")[1])
-    need(all(max(start, end, length) <= 1000000 and draw <= 10000 for start, end, length, draw, _ in reads) and supply <= 10000 and len(reads) <= 256)
-    windows, end = [list(read[:2]) for read in reads], f"holds {len(steps)}"
-    short = [job for job, (start, end_, length, _, _) in enumerate(reads) if start + length > end_]
+    fixes = [tuple(map(int, line.split(" ")[1:])) for line in lines if line.startswith("fix ")]
+    need(len(dict(fixes)) == len(fixes) and all(reads[job][0] <= start <= reads[job][1] - reads[job][2] for job, start in fixes))
+    asked = [[dict(fixes).get(job, read[0]), dict(fixes)[job] + read[2] if job in dict(fixes) else read[1]] for job, read in enumerate(reads)]
+    need(all(max(*window, read[2]) <= 1000000 and read[3] <= 10000 for window, read in zip(asked, reads)) and supply <= 10000 and len(reads) <= 256)
+    windows, end = [list(window) for window in asked], f"holds {len(steps)}"
+    short = [job for job, (start, end_) in enumerate(asked) if start + reads[job][2] > end_]
     if short:
         need(not steps)
         end = f"clash 0 {short[0]}"
@@ -216,4 +220,4 @@ def replay(text: str) -> tuple[tuple, str, list[list[int]]]:
         if windows[job][0] + reads[job][2] > windows[job][1]:
             end = f"clash {place + 1} {job}"
     need(lines[-1] == f"end {end}")
-    return (lines[1:4], reads), end, windows if end.startswith("holds") else [list(read[:2]) for read in reads]
+    return (lines[1:4], reads, dict(fixes)), end, windows if end.startswith("holds") else asked
