@@ -165,6 +165,10 @@ class Direct:
         line = " ".join(("narrow", str(supply), *map(row, lists), row([0] * RECORD * records)))
         return self.answer(line, {"settled": 1, "clash": 2, "refused": 1})
 
+    def check(self, supply: int, lists: Sequence[Sequence[int]], count: int, log: Sequence[int]) -> Answer:
+        line = " ".join(("check", str(supply), str(count), *map(row, lists), row(log)))
+        return self.answer(line, {"holds": 1, "clash": 2, "rejected": 2, "refused": 1})
+
     def conflict(self, supply: int, lists: Sequence[Sequence[int]], count: int, log: Sequence[int]) -> list[int]:
         """The marked reads."""
         line = " ".join(("conflict", str(supply), str(count), *map(row, lists), row(log)))
