@@ -15,7 +15,7 @@ from drawing import List, drawn, fixed, logged
 SEED = 7
 
 # Logs with starts that are fixed in every other one. Of the damages, nine to a word, every so many are judged alone and beside the list.
-LOGS, ALONE, BESIDE = 2, 2, 7
+LOGS, ALONE, BESIDE = 2, 4, 7
 PLACE = re.compile(r"log:[0-9]+:[0-9]+: \S.*")
 
 
