@@ -95,6 +95,8 @@ def by_hand() -> None:
     check("needed, the marks of a record before", needed([third, second, Record(4, 0, 3, (5,)), last]), ([second, last], {0, 1, 4}))
     check("after", after([(0, 9), (1, 8)], [Record(0, 0, 3, ()), Record(1, 1, 6, (0,)), Record(0, 1, 8, ())]), [(4, 8), (1, 6)])
     plain = Reads(["a"], [0], [9], [3], [1], 5, Times(), Draws())
+    for length, draw, wanted in ((3, 6, True), (3, 5, False), (0, 6, False)):
+        check((length, draw, "by itself"), is_narrowable(plain._replace(lengths=[length], demands=[draw]), [(0, 9)]), wanted)
     for change, wanted in (({}, None), ({"supply": 10001}, 3), ({"demands": [10001]}, 3), ({"latest": [1000001]}, 3), ({"earliest": [1000001]}, 3), ({"lengths": [1000001]}, 3),
                            ({"supply": 10000, "demands": [10000], "latest": [1000000]}, None), ({"units": ["a"] * 257}, 2), ({"units": ["a"] * 257, "supply": 10001}, 2), ({"units": ["a"] * 256}, None)):
         check((change, "refused"), refusal_of(plain._replace(**change), LIMITS), wanted)
