@@ -7,7 +7,7 @@ import re
 import sys
 from pathlib import Path
 
-from benching import Said, bench, check, finished, listing, put, run
+from benching import Said, bench, check, finished, listing, put
 
 LIES = "Every schedule lies in the windows now; that there is one is not said."
 TAKEN = "that the checker took from the submitted windows"
