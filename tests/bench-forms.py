@@ -96,7 +96,7 @@ def columns() -> None:
             check(name, bench(text, "--json").object.get("reads"), [wanted])
             if name == column:
                 check((name, "the shelf"), "Not used: the column \u201cshelf\u201d." in bench(text).lines, True)
-    two = bench(listing("a 3 14 1 5 7 x 9", header=f"{HEADER},shelf,x\u201dy,{'z' * 500}"))
+    two = bench(listing("a 3 14 1 5 7b x 9", header=f"{HEADER},shelf,x\u201dy,{'z' * 500}"))
     check("columns that are not used", two.lines[1], f"Not used: the columns \u201cshelf\u201d, \"x\u201dy\" and \u201c{'z' * 200} .. {'z' * 200}\u201d.")
     check("blanks in a name", bench(listing("a 3 14 1 5", header="unit,  Earliest   Start,not\tbefore here,latest  end,duration,draws").replace("a,3,", "a,3,x,"), "--json").object["reads"], [wanted])
 

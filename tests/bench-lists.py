@@ -17,7 +17,7 @@ NO_HEADER = "1:1: there is no header with unit, earliest, latest, length, draw"
 NO_SUPPLY = "1:1: there is no line '# supply: ..'"
 MISSING = "the header has no column "
 TABS = "; tabs part no cells here, but commas or semicolons"
-UNDER_NONE = "the cell '{}' of this row stands under no name of the header"
+UNDER_NONE = "the cell '{}' stands under no name of the header"
 LIKE_A_READ = "this looks like a read, but behind # it is a remark: take the line out, or put the unit's name in quotes"
 STEPS = "is not a whole number of steps of "
 ONES = f"{STEPS}1, without a unit"
@@ -33,7 +33,7 @@ LISTS = [
     (HEADER, NO_SUPPLY),
     ("# supply 5\n" + HEADER, NO_SUPPLY),
     ("# supply: 5\n", NO_HEADER),
-    ("# supply: 5\nunit,earliest\na,1,2\n", f"2:1: {MISSING}latest, length, draw", f"3:1: {UNDER_NONE.format('2')}"),
+    ("# supply: 5\nunit,earliest\na,1,2\n", f"2:1: {MISSING}latest, length, draw", f"3:5: {UNDER_NONE.format('2')}"),
     (HEADER.replace("length", "lenght") + "\n# supply: 5", f"1:1: {MISSING}length"),
     (HEADER.replace("draw", "draw (A") + "\n# supply: 5", f"1:1: {MISSING}draw"),
     (HEADER + ",DUR,Name,until\n# supply: 5", "1:34: the column 'DUR' is length, which 'length' is already",
@@ -72,19 +72,19 @@ LISTS = [
     ("# supply: 5\n" + HEADER + " (A)", "2:29: the column 'draw (A)' is read in steps without a unit"),
     ("sep=;\r\n# supply: 5\r\n" + HEADER.replace(",", ";") + "\r\na;0;x;3;2\r\n", f"4:5: the latest end 'x' {TICKS}"),
     (f"sep=;\n# supply: 5\n{HEADER}\n", f"3:1: {MISSING}unit, earliest, latest, length, draw"),
-    (AMPERES + "a,1,9,3,2,5\nb,1,9,3,2,\n", f"4:1: {UNDER_NONE.format('5')}"),
-    (AMPERES.replace(",draw", ",,draw") + "a,1,9,3,,2\nb,1,9,3,2,5\n", f"5:1: {UNDER_NONE.format('2')}"),
+    (AMPERES + "a,1,9,3,2,5\nb,1,9,3,2,\n", f"4:11: {UNDER_NONE.format('5')}"),
+    (AMPERES.replace(",draw", ",,draw") + "a,1,9,3,,2\nb,1,9,3,2,5\n", f"5:9: {UNDER_NONE.format('2')}"),
     (AMPERES.replace("draw\n", "draw,shelf\n") + "a,1,9,3,2,5\nb,1,9,3,2.0,5\nc,1,9,3,2,x\nd,1,9,3,2 A,5\n",
-     "4:9: '2' and '5' beside it may be 2,5 with a decimal comma; write the draw with a dot"),
-    (AMPERES.replace("draw\n", "draw,shelf\n") + "a,1,9,3,x,5\nb,1,9,3,0,9\n", f"4:9: the draw 'x' {STEPS}0.1 A", "5:9: '0' and '9' beside it may be 0,9 with a decimal comma; write the draw with a dot"),
+     "4:9: '2' and '5' beside it may be 2,5 with a decimal comma; write the draw with a dot, or put another column behind it"),
+    (AMPERES.replace("draw\n", "draw,shelf\n") + "a,1,9,3,x,5\nb,1,9,3,0,9\n", f"4:9: the draw 'x' {STEPS}0.1 A", "5:9: '0' and '9' beside it may be 0,9 with a decimal comma; write the draw with a dot, or put another column behind it"),
     (HEAD + "a,0800,09,010,2\nb,00,9,0,02\n", f"3:3: the earliest start '0800' {TICKS}", f"3:8: the latest end '09' {TICKS}", f"3:11: the length '010' {TICKS}", f"4:3: the earliest start '00' {TICKS}"),
     *((CLOCKED.replace("length", f"length {unit}") + "a,08:00,09:00,50,1\nb,08:00,09:00,0:50,1\nc,08:00,09:00,50 min,1\n", *faults) for unit, *faults in (
         ("(HH:MM)", "4:15: the length '50' is not a length HH:MM", "6:15: the length '50 min' is not a length HH:MM"),
         ("[hh:mm]", "4:15: the length '50' is not a length HH:MM", "6:15: the length '50 min' is not a length HH:MM"),
         ("(min)", "5:15: the length '0:50' is not a whole number of minutes"), ("(Min)", "5:15: the length '0:50' is not a whole number of minutes"))),
     (HEAD + f"{'x' * 200},1,9,3,4\n{'y' * 201},1,9,3,4\n", "4:1: a unit's name has more than 200 letters"),
-    (HEAD + "a,1,9,3\nb,1,9,3,4,5\n,,,,6\nc,1,9,3,4,,x,\n", "3:1: this row has 4 cells, the header 5", f"4:1: {UNDER_NONE.format('5')}",
-     "5:1: a unit without a name", "5:2: the earliest start '' " + TICKS, "5:3: the latest end '' " + TICKS, "5:4: the length '' " + TICKS, f"6:1: {UNDER_NONE.format('x')}"),
+    (HEAD + "a,1,9,3\nb,1,9,3,4,5\n,,,,6\nc,1,9,3,4,,x,\n", "3:1: this row has 4 cells, the header 5", f"4:11: {UNDER_NONE.format('5')}",
+     "5:1: a unit without a name", "5:2: the earliest start '' " + TICKS, "5:3: the latest end '' " + TICKS, "5:4: the length '' " + TICKS, f"6:12: {UNDER_NONE.format('x')}"),
     (HEAD + "a,1,9,3,4\nb,1,9,3,4\n a ,1,9,3,4\n\"a\",1,9,3,4\n", "5:2: the unit 'a' is there already, in line 3", "6:1: the unit 'a' is there already, in line 3"),
     (HEAD + "\u00fc,1,9,3,4\nu\u0308,1,9,3,4\n", "4:1: the unit 'u\u0308' is there already, in line 3"),
     (HEAD + '"a\nb",1,9,3,4\na\u00adb,1,9,3,4\nb\u200b,1,9,3,x\nc\u202ed,1,9,3,4\na\tb,1,9,3,4\n', "3:1: a unit's name has the letter U+000A, which does not show",
@@ -123,7 +123,7 @@ PLANS = [
     ("start\n08:00\n", "1:1: the header has no column unit"),
     ("unit,start,at\n", "1:12: the column 'at' is start, which 'start' is already"),
     ("unit,start (s)\n", "1:6: the column 'start (s)' is read in HH:MM"),
-    ('unit,start\nc,08:00\na,8\na,08:00,,x\na\n"#b",08:00\n"#b",09:00\n,\n,09:00\n', "2:1: the list has no unit \u201cc\u201d", f"3:3: the start '8' {TIME}", f"4:1: {UNDER_NONE.format('x')}",
+    ('unit,start\nc,08:00\na,8\na,08:00,,x\na\n"#b",08:00\n"#b",09:00\n,\n,09:00\n', "2:1: the list has no unit \u201cc\u201d", f"3:3: the start '8' {TIME}", f"4:10: {UNDER_NONE.format('x')}",
      "5:1: this row has 1 cells, the header 2", "7:1: \u201c#b\u201d has a start already", "9:1: the list has no unit \u201c\u201d"),
     ("unit,start\ra,08:00\n", "1:11: a carriage return without a line feed; lines have to end with a line feed"),
     ("# time: ticks\nunit,start\n", "1:2: the list's times are HH:MM"),

@@ -28,11 +28,14 @@ REFUSED = [
 ]
 
 
+UNWRITTEN = ("refused.log is not written.", "refused.mzn is not written.")
+
+
 def refusals() -> None:
     for text, number, lines in REFUSED:
         check((number, "text"), bench(text), Said(lines, 3, ""))
         told = bench(text, "--json", "--log", "refused.log", "--mzn", "refused.mzn").object
-        check((number, "for programs"), [told.get(key) for key in ("answer", "refusal", "records", "sentences", "together", "plan", "log", "count")], ["refused", number, [], lines, [], None, None, None])
+        check((number, "for programs"), [told.get(key) for key in ("answer", "refusal", "records", "sentences", "together", "plan", "log", "count")], ["refused", number, [], [*lines, *UNWRITTEN], [], None, None, None])
         check((number, "windows"), all(read["now"] == [read["earliest"], read["latest"]] for read in told["reads"]), True)
     check("no files of what is refused", (Path("refused.log").exists(), Path("refused.mzn").exists()), (False, False))
     plan = put("plan.csv", "unit,start\na,0\nb,0\n")
@@ -60,13 +63,17 @@ def layouts() -> None:
 
 def projects() -> None:
     two = put("two.rcp", "2 1\n5\n3 1 1 2\n4 2 0\n")
-    for starts, lines, status in (((0, 3), "The plan is good: every read lies in its submitted window, and at no time is more drawn than 5.", 0),
-                                  ((1, 3), "The plan is bad: “job 2” starts at 3, before “job 1”, which comes first, ends at 4.", 1)):
+    good = "The plan is good: every read lies in its submitted window, and at no time is more drawn than 5. Every precedence is kept; the project's other resources were not looked at."
+    for starts, lines, status in (((0, 3), [good, "The horizon is 8."], 0),
+                                  ((1, 3), ["The plan is bad: “job 2” starts at 3, before “job 1”, which comes first, ends at 4."], 1),
+                                  ((0, 5), ["The plan is bad: “job 2” would be read from 5 to 9, outside its submitted window 3 to 8 by the horizon 8."], 1)):
         plan = put("plan.csv", f"job,at\njob 1,{starts[0]}\njob 2,{starts[1]}\n")
         found = run(two, "--resource", "0", "--horizon", "8", "--plan", plan)
-        check(starts, (found.lines[0], found.lines[1:2] or [""], found.status), (lines, [""], status))
+        check(starts, (found.lines[:2], found.status), (lines, status))
         told = run(two, "--resource", "0", "--horizon", "8", "--plan", plan, "--json").object
         check((starts, "for programs"), [told.get(key) for key in ("horizon", "fixed")], [8, {"job 1": starts[0], "job 2": starts[1]}])
+    broken = run(two, "--resource", "0", "--horizon", "9", "--fix", "job 1=1", "--fix", "job 2=3")
+    check("starts that break a precedence", (broken.status, broken.error), (2, "--fix: “job 2” starts at 3, before “job 1”, which comes first, ends at 4"))
     fixed = run(two, "--resource", "0", "--horizon", "9", "--fix", "job 2=5", "--json").object
     check("a start that is fixed", (fixed["reads"][1]["now"], fixed["horizon"], fixed["fixed"]), ([5, 9], 9, {"job 2": 5}))
     check("no horizon of a list", "horizon" in bench(listing("a 0 9 1 1"), "--json").object, False)

@@ -70,7 +70,7 @@ def words() -> None:
         stopped("no word", [LIST, f"--{name}"], f"--{name} wants a word behind it. {MORE}")
         if name != "fix":
             stopped("twice", [LIST, f"--{name}", "a", f"--{name}=b"], f"--{name} is there twice. {MORE}")
-        stopped("an empty word", [LIST, f"--{name}="], None if name == "fix" else f"A name is empty. {MORE}")
+        stopped("an empty word", [LIST, f"--{name}="], None if name == "fix" else f"--{name} wants a word behind it. {MORE}")
         # A word that is forgotten does not make a file of the option behind it.
         stopped("an option for a word", [LIST, f"--{name}", "--json"])
     for name in GOOD:

@@ -15,7 +15,7 @@ from .places import Fault, Text, stop
 QUOTED = re.compile(r'[ \t]*"([^"]*(?:""[^"]*)*)"(?!")[ \t]*')
 OPENED = re.compile(r'[ \t]*"')
 NOTE = re.compile(r"[ \t]*#([^\n]*)")
-SEPARATOR = re.compile(r"sep=([,;])\r?\n")
+SEPARATOR = re.compile(r"sep=[,;]\r?\n")
 ALONE = re.compile(r"\r(?!\n)")
 QUOTED_NOTE = re.compile(r'\s*"\s*#[^"]*(?:""[^"]*)*"\s*')
 LINE = re.compile(r"[^\n]*")
@@ -41,9 +41,7 @@ class Sheet(NamedTuple):
 
 
 def separator(letters: str) -> str:
-    """By what the first line says, or by the first line that is neither a note nor empty; a note in quotes tells it where separators stand behind it."""
-    if said := SEPARATOR.match(letters):
-        return said[1]
+    """By the first line that is neither a note nor empty, as `sep=;` is; a note in quotes tells it where separators stand behind it."""
     for line in letters.split("\n"):
         if line.strip() and not line.lstrip().startswith("#") and not QUOTED_NOTE.fullmatch(line):
             return ";" if ";" in re.sub(r'"[^"]*"?', "", line) else ","

@@ -100,10 +100,11 @@ def unwritten(options: Options) -> list[str]:
 def spoken(options: Options, case: Case, desk: Desk) -> list[str]:
     call = "check" if case.kind in (CHECK, CHECK_ALONE) else "narrow"
     short = list(case.bad) or (refused(call, case.verdict.numbers[0], case.asked, desk.limits) if case.verdict.word == "refused" else [])
+    short += unwritten(options) if short else []
     if "json" in options.named:
         return json_lines(case, short or case.sentences())
     if short:
-        return short + unwritten(options)
+        return short
     lines = told(case, desk, "why" in options.named)
     if "text-picture" in options.named:
         lines += ["", *letters(case.scene(), os.get_terminal_size(1).columns if os.isatty(1) else COLUMNS)]
@@ -148,7 +149,8 @@ def answered(options: Options, known: Limits) -> tuple[list[str], dict[str, list
         if project:
             found = reads_of_project(program, project)
             if isinstance(found, Refused):
-                return refused_project(*found) if "json" in options.named else found.lines + unwritten(options), {}, REFUSED
+                lines = found.lines + unwritten(options)
+                return refused_project(found.number, lines) if "json" in options.named else lines, {}, REFUSED
             ready = prepared(options, found, known)
         desk = Desk(program, ready.reads.fixed(ready.starts), known)
         case = judged(options, ready, desk)

@@ -99,6 +99,9 @@ def options_of(words: list[str]) -> Options:
             raise wrong(f"There is no option {word}.")
     if len(files) > 1:
         raise wrong("Only one list can be named.")
-    if "" in files or "" in values.values():
-        raise wrong("A name is empty.")
+    if "" in files:
+        raise wrong("The name of the list is empty.")
+    for name, value in values.items():
+        if not value:
+            raise wrong(f"--{name} wants a word behind it.")
     return combined(Options(files[0] if files else None, values, fixes, named))

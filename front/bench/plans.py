@@ -32,7 +32,7 @@ def outside(reads: Reads, job: int, start: int) -> str | None:
     if reads.earliest[job] <= start and start + reads.lengths[job] <= reads.latest[job]:
         return None
     teller = Teller(reads)
-    window = teller.window((reads.earliest[job], reads.latest[job]))
+    window = teller.window((reads.earliest[job], reads.latest[job])) + (f" by the horizon {reads.horizon}" if reads.horizon is not None else "")
     return f"{quoted(reads.units[job])} would be read from {teller.window((start, start + reads.lengths[job]))}, outside its submitted window {window}"
 
 
@@ -54,6 +54,7 @@ def fixed(words: list[str], reads: Reads) -> dict[int, int]:
             wrong.append(f"--fix {word}: {said}")
         else:
             starts[job] = start
+    wrong += [f"--fix: {said}" for said in broken_pairs(reads, starts)]
     if wrong:
         raise Stop("\n".join(wrong))
     return starts
@@ -72,8 +73,8 @@ class PlanRows:
         self.faults.append(self.sheet.text.fault(cell.at, what))
 
     def row(self, cells: list[Cell]) -> None:
-        if what := row_fault(cells, self.sheet.rows[0]):
-            self.wrong(cells[0], what)
+        if fault := row_fault(cells, self.sheet.rows[0]):
+            self.wrong(*fault)
             return
         found = dict(zip(self.columns, cells))
         if "unit" not in found or "start" not in found:
@@ -91,10 +92,10 @@ class PlanRows:
 
 
 def broken_pairs(reads: Reads, starts: dict[int, int]) -> list[str]:
-    """Of a project: reads that start before one ends that comes first."""
+    """Of a project: reads that start before one ends that comes first, where both have their start."""
     bad = []
     for first, then in reads.pairs:
-        if starts[first] + reads.lengths[first] > starts[then]:
+        if first in starts and then in starts and starts[first] + reads.lengths[first] > starts[then]:
             early, end = reads.times.say(starts[then]), reads.times.say(starts[first] + reads.lengths[first])
             bad.append(f"{quoted(reads.units[then])} starts at {early}, before {quoted(reads.units[first])}, which comes first, ends at {end}")
     return bad

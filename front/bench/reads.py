@@ -77,13 +77,13 @@ class Names:
         return None if before == line else f"the unit '{unit}' is there already, in line {before}"
 
 
-def row_fault(cells: list[Cell], header: list[Cell]) -> str | None:
+def row_fault(cells: list[Cell], header: list[Cell]) -> tuple[Cell, str] | None:
     """What is wrong with the cells of a row, before they are read. A cell that stands under no name is one too many: it may be what a decimal comma has parted."""
     if len(cells) < len(header):
-        return f"this row has {len(cells)} cells, the header {len(header)}"
+        return cells[0], f"this row has {len(cells)} cells, the header {len(header)}"
     names = [*header, *[Cell(0, "")] * (len(cells) - len(header))]
-    extra = next((cell.text for cell, name in zip(cells, names) if cell.text and not name.text), None)
-    return None if extra is None else f"the cell '{extra}' of this row stands under no name of the header"
+    extra = next((cell for cell, name in zip(cells, names) if cell.text and not name.text), None)
+    return None if extra is None else (extra, f"the cell '{extra.text}' stands under no name of the header")
 
 
 class ReadRows:
@@ -122,21 +122,22 @@ class ReadRows:
         return cell.text
 
     def row(self, cells: list[Cell]) -> None:
-        if what := row_fault(cells, self.sheet.rows[0]):
-            self.wrong(cells[0], what)
+        if fault := row_fault(cells, self.sheet.rows[0]):
+            self.wrong(*fault)
             return
         for column, cell, beside in zip(self.header.columns, cells, [*cells[1:], None]):
             if column is not None:
                 self.found[column].append(self.unit(cell) if column == "unit" else self.number(column, cell))
             if column == "draw" and beside and self.may_be_parted(cell, beside):
-                self.wrong(cell, f"'{cell.text}' and '{beside.text}' beside it may be {cell.text},{beside.text} with a decimal comma; write the draw with a dot")
+                parted = f"'{cell.text}' and '{beside.text}' beside it may be {cell.text},{beside.text} with a decimal comma"
+                self.wrong(cell, f"{parted}; write the draw with a dot, or put another column behind it")
 
     def may_be_parted(self, draw: Cell, beside: Cell) -> bool:
-        """Whether a cell that is not used has what may be the decimals of the draw before it."""
+        """Whether a cell that is not used has what may be the decimals of the draw before it, however many the step has."""
         if not self.sheet.comma or not re.fullmatch("[0-9]+", draw.text) or not re.fullmatch("[0-9]+", beside.text):
             return False
         place = self.header.columns.index("draw") + 1
-        return self.header.columns[place : place + 1] == [None] and len(beside.text) <= self.units.draws.places
+        return self.header.columns[place : place + 1] == [None]
 
 
 def reads_of(file: str, limits: Limits) -> Reads:

@@ -2,7 +2,7 @@
 
 from __future__ import annotations
 
-from collections.abc import Iterator
+from collections.abc import Iterator, Sequence
 
 from limits import Limits
 from refusals import refusal
@@ -26,13 +26,14 @@ ADVICE = {
     3: f"Take a coarser step of time or of draws. {ROUNDED}",
     5: f"Take a coarser step of time, such as minutes in place of seconds: fewer records are needed then. {ROUNDED}",
 }
-CHAINS = "The horizon is {}. The project's precedences count here by their longest chains alone; starts have to respect each of them besides."
+HORIZON = "The horizon is {}."
+CHAINS = "The project's precedences count here by their longest chains alone; starts have to respect each of them besides."
 
 
-def with_starts(case: Case) -> str:
-    """The starts that are fixed."""
-    said = [f"{quoted(case.reads.units[job])} at {case.reads.times.say(start)}" for job, start in sorted(case.starts.items())]
-    return listed(said) if said else ""
+def with_starts(case: Case, jobs: Sequence[int] | None = None) -> str:
+    """The starts that are fixed, or those of some reads."""
+    some = sorted(job for job in case.starts if jobs is None or job in jobs)
+    return listed([f"{quoted(case.reads.units[job])} at {case.reads.times.say(case.starts[job])}" for job in some]) if some else ""
 
 
 def settled(case: Case) -> str:
@@ -105,7 +106,8 @@ def reasons(case: Case, desk: Desk, why: bool) -> Iterator[str]:
 def told(case: Case, desk: Desk, why: bool) -> list[str]:
     """The whole text."""
     lines = [summary(case)]
-    lines += [CHAINS.format(case.reads.horizon)] if case.reads.horizon is not None and case.kind != PLAN else []
+    if case.reads.horizon is not None:
+        lines.append(HORIZON.format(case.reads.horizon) + ("" if case.kind == PLAN else f" {CHAINS}"))
     unused = listed([quoted(plain(name)) for name in case.reads.unused]) if case.reads.unused else ""
     lines += [f"Not used: the column{'s' if len(case.reads.unused) > 1 else ''} {unused}."] if unused else []
     head = PLANNED if case.kind == PLAN else NARROWED
@@ -113,7 +115,7 @@ def told(case: Case, desk: Desk, why: bool) -> list[str]:
     said = list(reasons(case, desk, why))
     lines += ["", *said] if said else []
     if case.is_clash and case.kind != PLAN:
-        lines += ["", Teller(case.reads).together(case.verdict.marked, with_starts(case))]
+        lines += ["", Teller(case.reads).together(case.verdict.marked, with_starts(case, case.verdict.marked))]
     if case.is_clash and case.kind == PLAN:
         stretches = listed([f"from {Teller(case.reads).window(stretch)}" for stretch in case.overdrawn()])
         lines += ["", f"The supply is overdrawn {stretches}, by the command's own count."]

@@ -123,6 +123,8 @@ class Desk:
         """A clash is told by its marked reads and the records that it needs, which have to be a log by themselves; it leaves the windows as they were. Its read has
         no start left, and where there is no clash every read has one."""
         said, reached = f"it says '{words_of(verdict.word, verdict.numbers)}'", after(submitted(self.reads), verdict.records)
+        if refused := refusal_of(self.reads, self.limits):
+            raise contradicts(f"{said} of a list that has to be refused with {refused}")
         if list(verdict.windows) != (submitted(self.reads) if verdict.word == "clash" else reached):
             raise contradicts(f"{said} and leaves windows that the records do not")
         closed = too_short(self.reads, reached)
