@@ -171,6 +171,7 @@ def fixed() -> None:
     check("nothing is narrowed", found.lines[0], "Settled with “a” at 0: no window is narrowed. This says what is left, not that there is a schedule.")
     alone = bench(listing("a 0 9 4 6"), "--fix", "a=2")
     check("one alone", (alone.lines[0], alone.lines[-1]), ("Clash: no schedule on 5 starts “a” at 2. The checker took the record.", "“a” cannot be read in its submitted window on this supply with “a” at 2."))
+    check("another's start", bench(listing("a 0 9 4 6", "b 0 9 4 2"), "--fix", "b=0").lines[-1], f"“a” cannot be read in its submitted window on this supply, {OTHERS}.")
 
 
 def plans() -> None:

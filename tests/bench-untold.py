@@ -51,6 +51,7 @@ LIES = {
     "a log with a clash that leaves a start": (OPEN, ["--check", "one.log"], "leaves the read a start"),
     **{f"refused {number}": (f"if name in ('narrow', 'check'): head('refused', {number})", ["settled.csv", *WRITTEN], "gives no ground") for number in (2, 3)},
     **{f"refused {number}, of a log": (f"if name == 'check': head('refused', {number})", ["--check", "one.log"], "gives no ground") for number in (2, 3)},
+    "no refusal": ("if name == 'narrow': head('settled', 0)\n        elif name == 'check': head('holds', 0)", ["late.csv", *WRITTEN], "has to be refused with 3"),
     "another refusal": ("if name in ('narrow', 'check'): said[1] = '2'", ["great.csv"], "gives no ground"),
     "refused 5": ("if name == 'narrow': head('refused', 5)", ["settled.csv", *WRITTEN], "room for every record"),
     "more records than there is room for": ("if name == 'narrow': bump(1, 60)", ["one.csv"], "no room"),
@@ -80,7 +81,7 @@ OF_THE_LEAST = {
 
 
 def made() -> None:
-    for name, text in {"settled": SETTLED, "clash": CLASH, "one": ONE, "short": SHORT, "great": listing("a 0 4 3 10001")}.items():
+    for name, text in {"settled": SETTLED, "clash": CLASH, "one": ONE, "short": SHORT, "great": listing("a 0 4 3 10001"), "late": listing("a 0 1000001 3 1")}.items():
         put(f"{name}.csv", text)
     bench(ONE, "--log", "one.log")
     bench(SHORT, "--log", "short.log")
