@@ -1,4 +1,5 @@
-"""What ./bench tells of lists of reads, in exact words: sentences, folded records, clashes, fixed starts and plans, for people and for programs (docs/BENCH.md). PROBE is the program that is asked. Says what went wrong and ends with status 1, or says nothing.
+"""What ./bench tells of lists of reads, in exact words: sentences, folded records, clashes, fixed starts and plans, for people and for programs
+(docs/BENCH.md). PROBE is the program that is asked. Says what went wrong and ends with status 1, or says nothing.
 """
 
 from __future__ import annotations

@@ -1,6 +1,6 @@
 """tests/bench-counts.py [SEED]: the plain counts that ./bench holds against the program (front/bench/counts.py), and the records that a clash needs
-(front/bench/records.py), on drawn lists: against definitions tick by tick (docs/ANSWERS.md), and against what a program says directly. SECOND, or where that is not
-set PROBE, is the program. Says what went wrong and ends with status 1, or says nothing.
+(front/bench/records.py), on drawn lists: against definitions tick by tick (docs/ANSWERS.md), and against what a program says directly. SECOND, or where
+that is not set PROBE, is the program. Says what went wrong and ends with status 1, or says nothing.
 """
 
 from __future__ import annotations

@@ -1,5 +1,5 @@
-"""tests/bench-damaged.py [SEED]: logs of drawn lists, damaged in many ways, given to ./bench alone and beside the list; what is said of them agrees with a plain
-replay. PROBE is the program that is asked. Says what went wrong and ends with status 1, or says nothing.
+"""tests/bench-damaged.py [SEED]: logs of drawn lists, damaged in many ways, given to ./bench alone and beside the list; what is said of them agrees with a
+plain replay. PROBE is the program that is asked. Says what went wrong and ends with status 1, or says nothing.
 """
 
 from __future__ import annotations

@@ -1,6 +1,7 @@
-"""tests/bench-drawn.py [SEED]: lists of reads drawn from a seed and written in a drawn form, given to ./bench, whose answers are compared with what a program says to
-the numbers directly; plans, compared with a plain count; logs, read back and compared with a plain replay. PROBE is the program that is asked, and SECOND, where
-it is set, the path of the second program, which says what is right. Says what went wrong and ends with status 1, or says nothing.
+"""tests/bench-drawn.py [SEED]: lists of reads drawn from a seed and written in a drawn form, given to ./bench, whose answers are compared with what a
+program says to the numbers directly; plans, compared with a plain count; logs, read back and compared with a plain replay. PROBE is the program that is
+asked, and SECOND, where it is set, the path of the second program, which says what is right. Says what went wrong and ends with status 1, or says
+nothing.
 """
 
 from __future__ import annotations

@@ -1,5 +1,6 @@
-"""The forms of a list of reads and of a plan that ./bench takes: separators, line ends, quotes, columns, units, clocks and steps, notes, and numbers up to the limits
-of the calls and above them (docs/BENCH.md, 'The list'). PROBE is the program that is asked. Says what went wrong and ends with status 1, or says nothing.
+"""The forms of a list of reads and of a plan that ./bench takes: separators, line ends, quotes, columns, units, clocks and steps, notes, and numbers up to
+the limits of the calls and above them (docs/BENCH.md, 'The list'). PROBE is the program that is asked. Says what went wrong and ends with status 1, or
+says nothing.
 """
 
 from __future__ import annotations

@@ -1,5 +1,5 @@
-"""Programs that lie to ./bench about lists and logs, in one call or in several, or that do not answer: nothing is told (tests/lying.py). PROBE is the program that
-answers well. Says what went wrong and ends with status 1, or says nothing.
+"""Programs that lie to ./bench about lists and logs, in one call or in several, or that do not answer: nothing is told (tests/lying.py). PROBE is the
+program that answers well. Says what went wrong and ends with status 1, or says nothing.
 """
 
 from __future__ import annotations

@@ -1,4 +1,5 @@
-"""What ./bench says of lists of reads, plans and fixed starts that cannot be used, each with its place (docs/BENCH.md). PROBE is the program that is asked. Says what went wrong and ends with status 1, or says nothing.
+"""What ./bench says of lists of reads, plans and fixed starts that cannot be used, each with its place (docs/BENCH.md). PROBE is the program that is asked.
+Says what went wrong and ends with status 1, or says nothing.
 """
 
 from __future__ import annotations

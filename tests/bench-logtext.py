@@ -1,5 +1,5 @@
-"""What ./bench says of log files that cannot be read, each line with its place (docs/ANSWERS.md, 'The log file'). PROBE is the program that is asked. Says what went
-wrong and ends with status 1, or says nothing.
+"""What ./bench says of log files that cannot be read, each line with its place (docs/ANSWERS.md, 'The log file'). PROBE is the program that is asked. Says
+what went wrong and ends with status 1, or says nothing.
 """
 
 from __future__ import annotations

@@ -1,6 +1,6 @@
-"""Programs that lie to ./bench in every call alike, so that only the list itself or a plain count of the command's own gives them away (front/bench/counts.py), and
-readers of projects that contradict themselves: nothing is told (tests/lying.py). PROBE is the program that answers well. Says what went wrong and ends with
-status 1, or says nothing.
+"""Programs that lie to ./bench in every call alike, so that only the list itself or a plain count of the command's own gives them away
+(front/bench/counts.py), and readers of projects that contradict themselves: nothing is told (tests/lying.py). PROBE is the program that answers well.
+Says what went wrong and ends with status 1, or says nothing.
 """
 
 from __future__ import annotations

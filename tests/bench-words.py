@@ -1,6 +1,6 @@
-"""The words behind ./bench and the files that it writes: options that are not there, twice, without a word or not together, files that would be written over or
-cannot be written, and what a model for other solvers holds (docs/BENCH.md). PROBE is the program that is asked. Says what went wrong and ends with status 1,
-or says nothing.
+"""The words behind ./bench and the files that it writes: options that are not there, twice, without a word or not together, files that would be written over
+or cannot be written, and what a model for other solvers holds (docs/BENCH.md). PROBE is the program that is asked. Says what went wrong and ends with
+status 1, or says nothing.
 """
 
 from __future__ import annotations

@@ -1,5 +1,6 @@
-"""What the tests of ./bench share: its command called in process from a folder that is made for it, what it says, programs in place of the one that is asked, and
-lines that are put to a program directly, and a plain replay of log files. PROBE is the command that answers in place of `./run probe`; nothing is proved.
+"""What the tests of ./bench share: its command called in process from a folder that is made for it, what it says, programs in place of the one that is
+asked, and lines that are put to a program directly, and a plain replay of log files. PROBE is the command that answers in place of `./run probe`; nothing
+is proved.
 """
 
 from __future__ import annotations

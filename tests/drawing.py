@@ -1,4 +1,6 @@
-"""Lists of reads drawn for the tests of ./bench, each with its numbers and written in a drawn form; starts that are fixed; and logs that the command writes of them."""
+"""Lists of reads drawn for the tests of ./bench, each with its numbers and written in a drawn form; starts that are fixed; and logs that the command writes
+of them.
+"""
 
 from __future__ import annotations
 

@@ -1,5 +1,5 @@
-"""Programs that lie to ./bench, for its tests: each is a stand-in around the program that answers well. What contradicts itself is never told: the command ends with
-status 4 and one line that names the program, with nothing on standard output and no file written.
+"""Programs that lie to ./bench, for its tests: each is a stand-in around the program that answers well. What contradicts itself is never told: the command
+ends with status 4 and one line that names the program, with nothing on standard output and no file written.
 """
 
 from __future__ import annotations

@@ -10,8 +10,8 @@ list.
     record 2 0 519 0 1
     end holds 1
 
-Here it is written, and held beside a list; front/bench/logtext.py reads it. The windows in it are the submitted ones, so that it is no list to go on from; reads whose
-start was fixed beside them are named.
+Here it is written, and held beside a list; front/bench/logtext.py reads it. The windows in it are the submitted ones, so that it is no list to go on from; reads
+whose start was fixed beside them are named.
 """
 
 from __future__ import annotations
