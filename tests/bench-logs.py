@@ -127,24 +127,24 @@ def bad() -> None:
 def beside() -> None:
     """A log that is not of the list: the first difference is said, and nothing is asked."""
     clock = listing("a 00:00 00:10 10 3", "b 00:00 00:10 2 3", notes="# time: HH:MM")
-    here = "log: the log is not of this list: "
+    here = "the log is not of this list: "
     good = log("1 0 1 0", rows=ROWS[:2])
-    for text, difference in (
-        (clock, "the log's time is ticks, the list's HH:MM"),
-        (listing(*ROWS[:2], supply="5 A"), "the log's step is 1, the list's 1 A"),
-        (listing(*ROWS[:2], supply="6"), "the log's supply is 5, the list's 6"),
-        (listing(*ROWS[1::-1]), "read 1 of the log is “a”, of the list “b”"),
-        (listing(*ROWS), "the log has 2 reads, the list 4"),
-        (listing(ROWS[0]), "the log has 2 reads, the list 1"),
-        (listing("a 1 10 10 3", ROWS[1]), "in the log “a” starts at 0 or later, in the list it starts at 1 or later"),
-        (listing("a 0 11 10 3", ROWS[1]), "in the log “a” ends by 10, in the list it ends by 11"),
-        (listing("a 0 10 9 3", ROWS[1]), "in the log “a” lasts 10, in the list it lasts 9"),
-        (listing(ROWS[0], "b 0 10 2 4"), "in the log “b” draws 3, in the list it draws 4"),
+    for text, line, difference in (
+        (clock, 2, "the log's time is ticks, the list's HH:MM"),
+        (listing(*ROWS[:2], supply="5 A"), 3, "the log's step is 1, the list's 1 A"),
+        (listing(*ROWS[:2], supply="6"), 4, "the log's supply is 5, the list's 6"),
+        (listing(*ROWS[1::-1]), 5, "read 1 of the log is “a”, of the list “b”"),
+        (listing(*ROWS), 8, "the log has 2 reads, the list 4"),
+        (listing(ROWS[0]), 6, "the log has 2 reads, the list 1"),
+        (listing("a 1 10 10 3", ROWS[1]), 5, "in the log “a” starts at 0 or later, in the list it starts at 1 or later"),
+        (listing("a 0 11 10 3", ROWS[1]), 5, "in the log “a” ends by 10, in the list it ends by 11"),
+        (listing("a 0 10 9 3", ROWS[1]), 5, "in the log “a” lasts 10, in the list it lasts 9"),
+        (listing(ROWS[0], "b 0 10 2 4"), 6, "in the log “b” draws 3, in the list it draws 4"),
     ):
         found = bench(text, "--check", put("log", good))
-        check(difference, found, Said([f"{here}{difference}."], 1, ""))
+        check(difference, found, Said([f"log:{line}: {here}{difference}."], 1, ""))
         told = bench(text, "--check", "log", "--json").object
-        check((difference, "for programs"), [told.get(key) for key in ("answer", "log", "sentences", "records")], [None, "bad", [f"{here}{difference}."], []])
+        check((difference, "for programs"), [told.get(key) for key in ("answer", "log", "sentences", "records")], [None, "bad", [f"log:{line}: {here}{difference}."], []])
     accents = listing("e\u0301 0 10 10 3", ROWS[1]), log("1 0 1 0", rows=["\u00e9 0 10 10 3", ROWS[1]])
     check("for programs, against", told.get("against"), "list")
     check("an accent that is coded otherwise", bench(accents[0], "--check", put("log", accents[1])).status, 0)
@@ -169,12 +169,12 @@ def fixed() -> None:
         check((words, "a clash"), (found.lines[0], found.status), (f"The log holds, checked {where} with “b” at 30: 1 record and a clash, so no schedule starts “b” at 30.", 1))
         check((words, "the rest"), found.lines[1:], told.lines[1:])
         check((words, "for programs"), (for_programs["fixed"], [read["now"] for read in for_programs["reads"]]), ({"b": 30}, [[0, 4], [0, 20], [30, 34], [30, 34]]))
-    other = "own.log: the log is not of this list: in the log "
-    for words, said in (([], "“b” starts at 30, and here it has no fixed start"), (["--fix", "b=31"], "“b” starts at 30, and here it starts at 31"),
-                        ([*starts, "--fix", "x=0"], "“x” has no fixed start, and here it starts at 0")):
-        check(words, bench(text, *words, "--check", "own.log"), Said([f"{other}{said}."], 1, ""))
+    other = "the log is not of this list: in the log "
+    for words, line, said in (([], 9, "“b” starts at 30, and here it has no fixed start"), (["--fix", "b=31"], 9, "“b” starts at 30, and here it starts at 31"),
+                        ([*starts, "--fix", "x=0"], 11, "“x” has no fixed start, and here it starts at 0")):
+        check(words, bench(text, *words, "--check", "own.log"), Said([f"own.log:{line}: {other}{said}."], 1, ""))
     bench(text, "--log", "plain.log")
-    check("a log without them", bench(text, *starts, "--check", "plain.log").lines, ["plain.log: the log is not of this list: in the log “b” has no fixed start, and here it starts at 30."])
+    check("a log without them", bench(text, *starts, "--check", "plain.log").lines, ["plain.log:12: the log is not of this list: in the log “b” has no fixed start, and here it starts at 30."])
     bench(text, "--fix", "b=40", "--fix", "y=9", "--log", "own.log", "--picture", "own.svg")
     check("two", [line for line in Path("own.log").read_text("utf-8").splitlines() if line.startswith(("fix", "end"))], ["fix 1 9", "fix 3 40", "end holds 0"])
     found = run("--check", "own.log", "--picture", "log.svg")

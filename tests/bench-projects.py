@@ -92,7 +92,7 @@ def projects() -> None:
     run(*words, "--log", "own.log")
     check("a log of a project", (run(*words, "--check", "own.log").lines[1], run(*words, "--check", "own.log", "--json").object["horizon"]), (f"The horizon is 9. {CHAINS}", 9))
     words[4] = "8"
-    check("a log by another horizon", run(*words, "--check", "own.log"), Said(["own.log: the log is not of this list: in the log “job 1” ends by 9, in the list it ends by 8."], 1, ""))
+    check("a log by another horizon", run(*words, "--check", "own.log"), Said(["own.log:5: the log is not of this list: in the log “job 1” ends by 9, in the list it ends by 8."], 1, ""))
 
 
 def main() -> int:

@@ -17,7 +17,7 @@ from refusals import code
 from .case import CHECK, CHECK_ALONE, NARROW, PLAN, Case
 from .letters import letters
 from .logs import difference, log_lines, other_starts
-from .logtext import Log, log_of_file
+from .logtext import END, RECORD, Log, log_of_file
 from .model import model_lines
 from .objects import json_lines, refused_project
 from .options import USAGE, Options, options_of
@@ -65,16 +65,16 @@ def log_judged(file: str, ready: Prepared, desk: Desk) -> tuple[Verdict, list[st
     """What the checker says of a log, and what makes it bad."""
     log, reads = ready.log, ready.reads
     if other := difference(log.reads, reads) or other_starts(log.starts, ready.starts, reads):
-        return not_asked([f"{file}: the log is not of this list: {other}."], reads)
+        return not_asked([f"{file}:{log.line(other.word, other.place)}: the log is not of this list: {other.what}."], reads)
     verdict = desk.checked(log.records)
     said = words_of(verdict.word, verdict.numbers)
     where = against(ready.kind)
     if verdict.word == "rejected":
         place, number = verdict.numbers
         claim = Teller(desk.reads).claim(log.records[place])
-        return verdict, [f"{file}:{log.record_lines[place]}: the log is rejected, checked {where}: at its record {place} {code(number, desk.limits)}", *claim]
+        return verdict, [f"{file}:{log.line(RECORD, place)}: the log is rejected, checked {where}: at its record {place} {code(number, desk.limits)}", *claim]
     if verdict.word != "refused" and said != log.end:
-        return verdict, [f"{file}:{log.end_line}: the log is bad, checked {where}: its end says '{log.end}', and the checker '{said}'."]
+        return verdict, [f"{file}:{log.line(END)}: the log is bad, checked {where}: its end says '{log.end}', and the checker '{said}'."]
     return verdict, []
 
 

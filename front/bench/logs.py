@@ -17,6 +17,7 @@ whose start was fixed beside them are named.
 from __future__ import annotations
 
 import re
+from typing import NamedTuple
 
 from ending import Stop
 from limits import TOP
@@ -56,7 +57,15 @@ def log_lines(reads: Reads, starts: dict[int, int], verdict: Verdict) -> list[st
     return [*lines, row("end", "holds", len(verdict.records))]
 
 
-def difference(log: Reads, reads: Reads) -> str | None:
+class Differs(NamedTuple):
+    """A line of a log, by its first word and its place among those with that word, and what is otherwise in it than in the list."""
+
+    word: str
+    place: int
+    what: str
+
+
+def difference(log: Reads, reads: Reads) -> Differs | None:
     """The first thing in which a log's reads are not those of the list; none where there is no such thing. Names that look the same are the same."""
     heads = (
         ("time", log.times.form, reads.times.form),
@@ -65,25 +74,26 @@ def difference(log: Reads, reads: Reads) -> str | None:
     )
     for what, logged, listed in heads:
         if logged != listed:
-            return f"the log's {what} is {logged}, the list's {listed}"
-    for place, (logged, listed) in enumerate(zip(log.units, reads.units), 1):
+            return Differs(what, 0, f"the log's {what} is {logged}, the list's {listed}")
+    for job, (logged, listed) in enumerate(zip(log.units, reads.units)):
         if key(logged) != key(listed):
-            return f"read {place} of the log is {quoted(logged)}, of the list {quoted(listed)}"
+            return Differs("read", job, f"read {job + 1} of the log is {quoted(logged)}, of the list {quoted(listed)}")
     if len(log.units) != len(reads.units):
-        return f"the log has {len(log.units)} reads, the list {len(reads.units)}"
+        return Differs("read", len(reads.units), f"the log has {len(log.units)} reads, the list {len(reads.units)}")
     say = reads.times.say
     forms = (("starts at {} or later", say), ("ends by {}", say), ("lasts {}", reads.times.lasts), ("draws {}", reads.draws.say))
     for job, unit in enumerate(reads.units):
         for (form, spoken), logged, listed in zip(forms, log.lists, reads.lists):
             if logged[job] != listed[job]:
-                return f"in the log {quoted(unit)} {form.format(spoken(logged[job]))}, in the list it {form.format(spoken(listed[job]))}"
+                return Differs("read", job, f"in the log {quoted(unit)} {form.format(spoken(logged[job]))}, in the list it {form.format(spoken(listed[job]))}")
     return None
 
 
-def other_starts(logged: dict[int, int], asked: dict[int, int], reads: Reads) -> str | None:
+def other_starts(logged: dict[int, int], asked: dict[int, int], reads: Reads) -> Differs | None:
     """The first read whose start is fixed in the log and not by the command, or otherwise."""
     for job, unit in enumerate(reads.units):
         if logged.get(job) != asked.get(job):
             said = ["has no fixed start" if start is None else f"starts at {reads.times.say(start)}" for start in (logged.get(job), asked.get(job))]
-            return f"in the log {quoted(unit)} {said[0]}, and here it {said[1]}"
+            place = [*logged].index(job) if job in logged else len(logged)
+            return Differs("fix", place, f"in the log {quoted(unit)} {said[0]}, and here it {said[1]}")
     return None

@@ -22,14 +22,17 @@ MANY = (READ, FIX, RECORD)
 
 
 class Log(NamedTuple):
-    """What a log file says, and the line of each record and of the end."""
+    """What a log file says, and its lines by their first words."""
 
     reads: Reads
     starts: dict[int, int]
     records: list[Record]
     end: str
-    record_lines: list[int]
-    end_line: int
+    lines: dict[str, list[int]]
+
+    def line(self, word: str, place: int = 0) -> int:
+        """The line of that word and place; where there are not so many, the end's."""
+        return [*self.lines[word], *self.lines[END]][min(place, len(self.lines[word]))]
 
 
 class Walk:
@@ -161,4 +164,4 @@ def log_of_file(file: str, limits: Limits) -> Log:
     found = walk.found
     *lists, units = map(list, zip(*found[READ])) if found[READ] else ([], [], [], [], [])
     reads = Reads(units, *lists, found["supply"][0], found["time"][0], found["step"][0])
-    return Log(reads, dict(found[FIX]), found[RECORD], found[END][0], walk.lines[RECORD], walk.lines[END][0])
+    return Log(reads, dict(found[FIX]), found[RECORD], found[END][0], walk.lines)
