@@ -77,7 +77,7 @@ def alone() -> None:
     short = run("--check", put("log", log(end="clash 0 0", rows=["a 0 4 9 1"])))
     check("a window that is too short", (short.lines[0], short.lines[-3], short.status), (f"The log holds, checked {ALONE}: 0 records {ENDS}", "1. “a” lasts 9, and its window from 0 to 4 is shorter, so no start is left for it.", 1))
     refused = run("--check", put("log", log(head="time ticks\nstep 1\nsupply 10001")))
-    check("a log that is refused", (refused.lines[0], refused.lines[1], refused.status), ("refused 3: A number is above its limit.", "The supply 10001 is above 10000.", 3))
+    check("a log that is refused", (refused.lines[0], refused.lines[1], refused.status), ("refused 3: A number is above its limit.", "log:4: The supply 10001 is above 10000.", 3))
     check("for programs", [run("--check", "log", "--json").object.get(key) for key in ("answer", "refusal", "log", "against", "sentences")], ["refused", 3, None, "log", refused.lines])
 
 

@@ -69,11 +69,13 @@ def log_judged(file: str, ready: Prepared, desk: Desk) -> tuple[Verdict, list[st
     verdict = desk.checked(log.records)
     said = words_of(verdict.word, verdict.numbers)
     where = against(ready.kind)
+    if verdict.word == "refused":
+        return verdict, refused("check", verdict.numbers[0], desk.reads, desk.limits, lambda word, place: f"{file}:{log.line(word, place)}: ")
     if verdict.word == "rejected":
         place, number = verdict.numbers
         claim = Teller(desk.reads).claim(log.records[place])
         return verdict, [f"{file}:{log.line(RECORD, place)}: the log is rejected, checked {where}: at its record {place} {code(number, desk.limits)}", *claim]
-    if verdict.word != "refused" and said != log.end:
+    if said != log.end:
         return verdict, [f"{file}:{log.line(END)}: the log is bad, checked {where}: its end says '{log.end}', and the checker '{said}'."]
     return verdict, []
 
@@ -98,8 +100,7 @@ def unwritten(options: Options) -> list[str]:
 
 
 def spoken(options: Options, case: Case, desk: Desk) -> list[str]:
-    call = "check" if case.kind in (CHECK, CHECK_ALONE) else "narrow"
-    short = list(case.bad) or (refused(call, case.verdict.numbers[0], case.asked, desk.limits) if case.verdict.word == "refused" else [])
+    short = list(case.bad) or (refused("narrow", case.verdict.numbers[0], case.asked, desk.limits) if case.verdict.word == "refused" else [])
     short += unwritten(options) if short else []
     if "json" in options.named:
         return json_lines(case, short or case.sentences())

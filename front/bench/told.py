@@ -2,7 +2,7 @@
 
 from __future__ import annotations
 
-from collections.abc import Iterator, Sequence
+from collections.abc import Callable, Iterator, Sequence
 
 from limits import Limits
 from refusals import refusal
@@ -122,20 +122,26 @@ def told(case: Case, desk: Desk, why: bool) -> list[str]:
     return lines
 
 
-def above(reads: Reads, limits: Limits) -> list[str]:
-    """The numbers that are above their limits."""
+def nowhere(word: str, place: int) -> str:
+    """A list names its reads, and needs no lines."""
+    return ""
+
+
+def above(reads: Reads, limits: Limits, where: Callable[[str, int], str]) -> list[str]:
+    """The numbers that are above their limits, each behind the place of its line in a log."""
     times, draws = reads.times, reads.draws
     says = {"earliest": times.say, "latest": times.say, "length": times.lasts, "draw": draws.say}
     found = []
     if reads.supply > limits.demand:
-        found.append(f"The supply {draws.say(reads.supply)} is above {draws.say(limits.demand)}.")
+        found.append(f"{where('supply', 0)}The supply {draws.say(reads.supply)} is above {draws.say(limits.demand)}.")
     for (column, say), numbers in zip(says.items(), reads.lists):
         most = limits.demand if column == "draw" else limits.time
         what = COLUMNS[column]
-        found += [f"{quoted(reads.units[job])}: {what} {say(number)} is above {say(most)}." for job, number in enumerate(numbers) if number > most]
+        over = [(job, number) for job, number in enumerate(numbers) if number > most]
+        found += [f"{where('read', job)}{quoted(reads.units[job])}: {what} {say(number)} is above {say(most)}." for job, number in over]
     return found
 
 
-def refused(call: str, number: int, reads: Reads, limits: Limits) -> list[str]:
-    places = above(reads, limits) if number == 3 else []
+def refused(call: str, number: int, reads: Reads, limits: Limits, where: Callable[[str, int], str] = nowhere) -> list[str]:
+    places = above(reads, limits, where) if number == 3 else []
     return [refusal(call, number, limits), *places, *([ADVICE[number]] if number in ADVICE else [])]
