@@ -7,7 +7,7 @@ from collections.abc import Callable, Iterator, Sequence
 from limits import Limits
 from refusals import refusal
 
-from .case import CHECK, CHECK_ALONE, NARROW, PLAN, Case
+from .case import CHECK, CHECK_ALONE, PLAN, Case
 from .columns import COLUMNS
 from .places import plain
 from .reads import Reads
