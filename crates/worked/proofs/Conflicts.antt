@@ -113,6 +113,11 @@ pub chain-needed : neededBy 3 (records chainLog 0 3) ≡ noted 1 0 0 1 1 ∷ not
 unfolding neededBy records has
 chain-needed = refl
 
+-- the one that closes 3 alone, whose member is not sure without the first, is rejected
+pub chain-closing-rejected : checked (with 1 chain (noted 3 0 1 1 2)) 1 ≡ finds (said Word.rejected (0 ∷ 25 ∷ [])) (windowsOf chain)
+unfolding checked
+chain-closing-rejected = refl
+
 -- the records that move 2 and 1 are left out, though 1 is marked in the end
 pub aside-needed : neededBy 0 (records pushedAsideLog 0 4) ≡ noted 0 0 1 1 2 ∷ noted 0 0 2 1 8 ∷ []
 unfolding neededBy records has
