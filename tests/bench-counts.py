@@ -9,17 +9,15 @@ import random
 import sys
 from collections.abc import Sequence
 
-from benching import RECORD, Direct, check, finished
+from benching import LIMITS, RECORD, Direct, check, finished
 from drawing import List, drawn
 
-from bench.counts import after, is_narrowable, refusal_of, too_short
+from bench.counts import after, is_narrowable, refusal_of, without_start
 from bench.quantities import Draws, Times
 from bench.reads import Reads
 from bench.records import Record, log_of, needed, records_of
-from limits import limits
 
 SEED, LISTS = 7, 400
-LIMITS = limits()
 
 
 def reads_of(list_: List) -> Reads:
@@ -55,11 +53,11 @@ def counted(chance: random.Random, list_: List) -> bool:
     windows = narrowed_by_hand(chance, reads)
     found = is_narrowable(reads, windows)
     check((list_.lists, list_.supply, windows, "can be narrowed"), found, plainly_narrowable(reads, windows))
-    check((windows, "no room"), too_short(reads, windows), [])
+    check((windows, "no room"), without_start(reads, windows), [])
     job = chance.randrange(len(windows)) if windows else 0
     if windows and reads.lengths[job]:
         windows[job] = (windows[job][0], windows[job][0] + reads.lengths[job] - 1)
-        check((windows, "too short"), too_short(reads, windows), [job])
+        check((windows, "too short"), without_start(reads, windows), [job])
     return found
 
 
@@ -75,10 +73,10 @@ def replayed(list_: List, direct: Direct) -> str:
         check((list_.lists, number), (checked.word, after(submitted, records[:number])), ("holds", list(zip(*checked.lists))))
     windows = after(submitted, records)
     if answer.word == "settled":
-        check((list_.lists, "settled"), (windows, is_narrowable(reads, windows), too_short(reads, windows)), (list(zip(*answer.lists[:2])), False, []))
+        check((list_.lists, "settled"), (windows, is_narrowable(reads, windows), without_start(reads, windows)), (list(zip(*answer.lists[:2])), False, []))
         check((list_.lists, "narrowed"), is_narrowable(reads, submitted), count > 0)
     else:
-        check((list_.lists, "closed"), answer.numbers[1] in too_short(reads, windows), True)
+        check((list_.lists, "closed"), answer.numbers[1] in without_start(reads, windows), True)
     if answer.word == "clash" and records:
         kept, marked = needed(records)
         check((records, "marked"), sorted(marked), direct.conflict(list_.supply, list_.lists, count, log[: RECORD * count]))
@@ -98,7 +96,8 @@ def by_hand() -> None:
     for length, draw, wanted in ((3, 6, True), (3, 5, False), (0, 6, False)):
         check((length, draw, "by itself"), is_narrowable(plain._replace(lengths=[length], demands=[draw]), [(0, 9)]), wanted)
     for change, wanted in (({}, None), ({"supply": 10001}, 3), ({"demands": [10001]}, 3), ({"latest": [1000001]}, 3), ({"earliest": [1000001]}, 3), ({"lengths": [1000001]}, 3),
-                           ({"supply": 10000, "demands": [10000], "latest": [1000000]}, None), ({"units": ["a"] * 257}, 2), ({"units": ["a"] * 257, "supply": 10001}, 2), ({"units": ["a"] * 256}, None)):
+                           ({"supply": 10000, "demands": [10000], "latest": [1000000]}, None), 
+                           ({"units": ["a"] * (LIMITS.jobs + 1)}, 2), ({"units": ["a"] * (LIMITS.jobs + 1), "supply": 10001}, 2), ({"units": ["a"] * LIMITS.jobs}, None)):
         check((change, "refused"), refusal_of(plain._replace(**change), LIMITS), wanted)
 
 

@@ -11,7 +11,7 @@ import re
 import sys
 from itertools import groupby
 
-from benching import Direct, bench, check, finished, put, records
+from benching import LIMITS, Direct, bench, check, finished, put, records
 from drawing import List, cell, drawn, fixed, logged, time_word
 
 SEED, LISTS = 7, 60
@@ -22,7 +22,7 @@ def asked(list_: List, direct: Direct) -> str:
     heard = bench(list_.text, "--json")
     check((list_.text, "error"), heard.error, "")
     found = heard.object
-    answer = direct.narrow(list_.supply, list_.lists, min(list_.room, 10922))
+    answer = direct.narrow(list_.supply, list_.lists, min(list_.room, LIMITS.records))
     log = answer.lists[2]
     numbers = [found.get(name) for name in (("count", "job") if answer.word == "clash" else ("count",))]
     check((list_.text, "answer"), (found.get("answer"), numbers, found.get("supply")), (answer.word, answer.numbers, list_.supply))
@@ -83,7 +83,7 @@ def main() -> int:
     chance, direct = random.Random(int(sys.argv[1]) if len(sys.argv) > 1 else SEED), Direct()
     words = []
     for number in range(LISTS):
-        list_ = drawn(chance, {LISTS - 2: 1, LISTS - 1: 256}.get(number, chance.randint(0, 40)))
+        list_ = drawn(chance, {LISTS - 2: 1, LISTS - 1: LIMITS.jobs}.get(number, chance.randint(0, 40)))
         words.append(asked(list_, direct))
         planned(chance, list_)
         logged(list_, *(fixed(chance, list_, 1 + number % 3) if number % 2 else ([], {})))

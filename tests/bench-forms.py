@@ -8,7 +8,7 @@ from __future__ import annotations
 import re
 import sys
 
-from benching import HEADER, TOP, Said, bench, check, finished, listing, put, run
+from benching import HEADER, LIMITS, TOP, Said, bench, check, finished, listing, put, run
 
 BENCH = (TOP / "docs/BENCH.md").read_text("utf-8")
 ANSWERS = (TOP / "docs/ANSWERS.md").read_text("utf-8")
@@ -145,9 +145,9 @@ def limits() -> None:
     check("what is to be done where a number is too great", len(found.lines) > 6 and "coarser" in found.lines[-1], True)
     late = bench(listing("a 16666:41 16666:41 0 1000.1", supply="1000.0 A", notes="# time: HH:MM\n# step: 0.1 A"))
     check("above on the clock", late.lines[1:4], [f"“a”: the {what} 16666:41 is above 16666:40." for what in ("earliest start", "latest end")] + ["“a”: the draw 1000.1 A is above 1000.0 A."])
-    rows = [f"u{number} 0 9 1 1" for number in range(1200)]
-    check("256 reads", bench(listing(*rows[:256])).status, 0)
-    for count in (257, 1200):
+    rows = [f"u{number} 0 9 1 1" for number in range(LIMITS.line_jobs)]
+    check("as many reads as there may be", bench(listing(*rows[: LIMITS.jobs])).status, 0)
+    for count in (LIMITS.jobs + 1, LIMITS.line_jobs):
         found = bench(listing(*rows[:count]))
         check(count, (found.lines[0], found.status, found.error), (f"refused 2: {refusals['2']}", 3, ""))
         check((count, "what is to be done"), len(found.lines) > 1, True)

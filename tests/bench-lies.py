@@ -41,7 +41,7 @@ LIES = {
     **{f"both: refused {number}": f"if name in ('narrow', 'check'): head('refused', {number})" for number in (1, 2, 3, 7)},
     "both: many records": "if name == 'narrow': bump(1, 1000); kept = ['holds' if word == 'settled' else word, *said[1 : lists[2]]]\n        elif name == 'check' and count: said = kept",
     **{f"both: {what}": f"if name == 'narrow': kept = ['holds' if word == 'settled' else word, *said[1 : lists[2]]]; bump(lists[2] + {place}, {by})\n        elif name == 'check' and count: said = kept"
-       for what, place, by in (("a read that is not there", 1, 90), ("a third side", 2, 2), ("a last time that is not the window's", "12 * int(said[1]) - 9", 1), ("a member that is not there", 12, 1))},
+       for what, place, by in (("a read that is not there", 1, 90), ("a third side", 2, 2), ("a last time that is not the window's", "RECORD * (int(said[1]) - 1) + 3", 1), ("a member that is not there", "RECORD", 1))},
 }
 
 OF_A_CLASH = {

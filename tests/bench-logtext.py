@@ -6,7 +6,7 @@ from __future__ import annotations
 
 import sys
 
-from benching import HEADER, Said, check, finished, put, run
+from benching import HEADER, LIMITS, Said, check, finished, put, run
 
 LOG = """\
 tarqumbet-log 1
@@ -58,7 +58,7 @@ LOGS = [
     ("record 2 0 519 0 1", "record 2 0 519  0 1", f"8:1: '' {NO_NUMBER}"),
     ("record 2 0 519 0 1", "record 2 0 519 1 0", "8:1: the members do not rise"),
     ("record 2 0 519 0 1", "record 2 0 519 1 1", "8:1: the members do not rise"),
-    ("record 2 0 519 0 1", "record 2 0 519 0 256", "8:1: no member set holds read 256"),
+    ("record 2 0 519 0 1", f"record 2 0 519 0 {LIMITS.jobs}", f"8:1: no member set holds read {LIMITS.jobs}"),
     ('read 480 720 40 20 "Lucas"\nrecord 2 0 519 0 1', 'record 2 0 519 0 1\nread 480 720 40 20 "Lucas"', "8:1: a line 'read' stands behind a line 'record'"),
     ("end holds 2\n", "", "9:1: the log has no line 'end'"),
     ("end holds 2\n", "end holds 2", "10:1: the last line is not ended"),
@@ -83,7 +83,7 @@ FIXES = [
     ("fix 0 480", "fix 2 490", "9:1: read 2 has a fixed start already"),
     ("fix 0 480", "fix 2 479", "9:1: read 2 has a fixed start already", "9:1: the start 479 of read 2 is not in its window"),
     ("fix 2 490", "fix 3 490", f"8:1: {A_START}"),
-    ("fix 2 490", "fix 256 490", f"8:1: {A_START}"),
+    ("fix 2 490", f"fix {LIMITS.jobs} 490", f"8:1: {A_START}"),
     ("fix 2 490", "fix 2", f"8:1: {A_START}"),
     ("fix 2 490", "fix 2 490 490", f"8:1: {A_START}"),
     ("fix 2 490", "fix", f"8:1: '' {NO_NUMBER}"),
@@ -117,10 +117,10 @@ def main() -> int:
     damaged(LOG, LOGS)
     damaged(FIXED, FIXES)
     told("a byte", run("--check", put("log", LOG.encode().replace(b"Lucas", b"L\xfccas"))), "7:22: the byte 0xfc is no UTF-8; the file has to be saved as UTF-8")
-    many = LOG.replace("record 2 0 519 0 1\n", "record 2 0 519 0 1\n" * 10922)
-    told("records", run("--check", put("log", many)), "10930:1: the program takes up to 10922 lines 'record'")
-    many = LOG.replace('read 490 570 60 16 "Marelli"\n', "".join(f'read 0 9 1 1 "{k}"\n' for k in range(1199)))
-    told("reads", run("--check", put("log", many)), "1205:1: the program takes up to 1200 lines 'read'")
+    many = LOG.replace("record 2 0 519 0 1\n", "record 2 0 519 0 1\n" * LIMITS.records)
+    told("records", run("--check", put("log", many)), f"{LIMITS.records + 8}:1: the program takes up to {LIMITS.records} lines 'record'")
+    many = LOG.replace('read 490 570 60 16 "Marelli"\n', "".join(f'read 0 9 1 1 "{k}"\n' for k in range(LIMITS.line_jobs - 1)))
+    told("reads", run("--check", put("log", many)), f"{LIMITS.line_jobs + 5}:1: the program takes up to {LIMITS.line_jobs} lines 'read'")
     for text in (f"# supply: 5\n{HEADER}\na,0,9,3,2\n", "", "\n" + LOG, " " + LOG, "tarqumbet-log\n", "tarqumbet-log1\n", "Tarqumbet-log 1\n"):
         told((text, "no log"), run("--check", put("log", text)), NO_LOG)
         told((text, "no log beside a list"), run(put("list.csv", f"# supply: 5\n{HEADER}\n"), "--check", "log"), NO_LOG)

@@ -7,7 +7,7 @@ from __future__ import annotations
 import sys
 from pathlib import Path
 
-from benching import TOP, Said, bench, check, finished, listing, put, run
+from benching import LIMITS, TOP, Said, bench, check, finished, listing, put, run
 
 ROUND = (
     "Round so that no window gets wider, no read shorter, no draw less and the supply no greater: earliest starts up, latest ends down, lengths and draws up. "
@@ -18,7 +18,7 @@ CHAINS = "The project's precedences count here by their longest chains alone; st
 
 # A list that is refused, and what is said of it.
 REFUSED = [
-    (listing(*(f"u{number} 0 9 1 1" for number in range(257))), 2, ["refused 2: There are more than 256 jobs.", PARTS]),
+    (listing(*(f"u{number} 0 9 1 1" for number in range(LIMITS.jobs + 1))), 2, [f"refused 2: There are more than {LIMITS.jobs} jobs.", PARTS]),
     (listing("a 0 9 1 10001", "b 0 1000001 1 1", supply="10001"), 3, [
         "refused 3: A number is above its limit.", "The supply 10001 is above 10000.", "“b”: the latest end 1000001 is above 1000000.", "“a”: the draw 10001 is above 10000.",
         f"Take a coarser step of time or of draws. {ROUND}"]),

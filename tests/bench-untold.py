@@ -19,20 +19,20 @@ AS_SUBMITTED = "said[lists[0] : lists[2]] = call[2 : 4 + 2 * int(call[2])]"
 SUBMITTED = f"if name == 'narrow': {AS_SUBMITTED}; head('settled', 0)"
 EARLY = """if name == 'narrow':
             count, lent = int(said[1]) - 1, said[lists[2] :]
-            log = lent[1 : 1 + 12 * count]
+            log = lent[1 : 1 + RECORD * count]
             said = ['settled', str(count), *ask(' '.join(('check', call[1], str(count), *call[2 : 6 + 4 * int(call[2])], str(len(log)), *log)) + '\\n')[2:], *lent]"""
 
 # A clash without a record, of read 0; and of the last record of ONE, which leaves its read a start.
 NO_RECORD = f"""if name == 'narrow': {AS_SUBMITTED}; head('clash', 0, 0)
         elif name == 'check': head('clash', 0, 0)
-        elif name == 'conflict': said = ['marked', '1', '8', '1', *'0000000']"""
+        elif name == 'conflict': marks(1, 1)"""
 OPEN = f"""if name == 'narrow': {AS_SUBMITTED}; head('clash', 1, 1)
         elif name == 'check' and count: head('clash', 1, 1)
-        elif name == 'conflict': said = ['marked', '2', '8', '3', *'0000000']"""
+        elif name == 'conflict': marks(2, 3)"""
 # A record that closes the window of read 0 in a plan, where nothing is overdrawn.
-CLOSED = """if name == 'narrow': said[lists[2] + 1 : lists[2] + 13] = ['0', '0', '3', '1', '2', *'0000000']; head('clash', 1, 0)
+CLOSED = """if name == 'narrow': said[lists[2] + 1 : lists[2] + 1 + RECORD] = [*'00312', *'0' * (SET - 1)]; head('clash', 1, 0)
         elif name == 'check' and count: head('clash', 1, 0)
-        elif name == 'conflict': said = ['marked', '2', '8', '3', *'0000000']"""
+        elif name == 'conflict': marks(2, 3)"""
 KEPT = "['holds' if word == 'settled' else word, *said[1 : lists[2]]]"
 
 # The lie, the words behind the command, and why nothing is told.

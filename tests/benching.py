@@ -23,11 +23,15 @@ sys.path.insert(0, str(TOP / "front"))
 
 from bench.command import command  # noqa: E402
 from ending import Stop  # noqa: E402
+from limits import limits  # noqa: E402
 
 # So much of what went wrong is said.
 MOST = 40
 HEADER = "unit,earliest,latest,length,draw"
-RECORD = 12
+
+# The limits and the layout of a record stand in the sources.
+LIMITS = limits()
+RECORD = LIMITS.record
 
 failed: list[str] = []
 
@@ -206,7 +210,8 @@ def replay(text: str) -> tuple[tuple, str, list[list[int]]]:
     fixes = [tuple(map(int, line.split(" ")[1:])) for line in lines if line.startswith("fix ")]
     need(len(dict(fixes)) == len(fixes) and all(reads[job][0] <= start <= reads[job][1] - reads[job][2] for job, start in fixes))
     asked = [[dict(fixes).get(job, read[0]), dict(fixes)[job] + read[2] if job in dict(fixes) else read[1]] for job, read in enumerate(reads)]
-    need(all(max(*window, read[2]) <= 1000000 and read[3] <= 10000 for window, read in zip(asked, reads)) and supply <= 10000 and len(reads) <= 256)
+    need(all(max(*window, read[2]) <= LIMITS.time and read[3] <= LIMITS.demand for window, read in zip(asked, reads)))
+    need(supply <= LIMITS.demand and len(reads) <= LIMITS.jobs)
     windows, end = [list(window) for window in asked], f"holds {len(steps)}"
     short = [job for job, (start, end_) in enumerate(asked) if start + reads[job][2] > end_]
     if short:

@@ -7,7 +7,7 @@ from __future__ import annotations
 import sys
 from pathlib import Path
 
-from benching import ASKED, check, listing, probe, run, script
+from benching import ASKED, LIMITS, check, listing, probe, run, script
 
 # A stand-in answers line by line. Of each line it knows the call's name and the claimed count; of the answer its words `said`, which a lie changes, the first of
 # them as it was, and the places at which the lists begin, with their length. What it keeps is there at the next line.
@@ -15,6 +15,8 @@ STAND_IN = """\
 import subprocess
 import sys
 
+# The words of a record, and those of a member set.
+RECORD, SET = %d, %d
 HEADS = {"settled": 1, "holds": 1, "marked": 1, "refused": 1, "clash": 2, "rejected": 2, "read": 2}
 asked = subprocess.Popen(["%s"], stdin=subprocess.PIPE, stdout=subprocess.PIPE, text=True, bufsize=1)
 kept, turn = [], -1
@@ -29,6 +31,11 @@ def head(*words):
     if name == "check" and words[0] != "holds":
         said[lists[0] :] = call[3 : 5 + 2 * int(call[3])]
     said[: lists[0]] = map(str, words)
+
+
+def marks(count, first):
+    # So many reads, all of them in the first word.
+    said[:] = map(str, ("marked", count, SET, first, *[0] * (SET - 1)))
 
 
 def ask(line):
@@ -71,4 +78,4 @@ def lied(what: object, program: str, *words: str, reason: str = "") -> None:
 
 
 def stand_in(lie: str) -> str:
-    return script("stand-in", STAND_IN % (ASKED, lie), f"{sys.executable} -ISB")
+    return script("stand-in", STAND_IN % (LIMITS.record, LIMITS.record - LIMITS.head, ASKED, lie), f"{sys.executable} -ISB")

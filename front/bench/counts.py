@@ -11,7 +11,7 @@ from limits import Limits
 
 from .reads import Reads
 from .records import Record
-from .scene import Row, Window, load, sure
+from .scene import Row, Window, load, sure, too_short
 
 
 def refusal_of(reads: Reads, limits: Limits) -> int | None:
@@ -30,14 +30,18 @@ def after(windows: Sequence[Window], records: Sequence[Record]) -> list[Window]:
     return [(start, end) for start, end in now]
 
 
-def too_short(reads: Reads, windows: Sequence[Window]) -> list[int]:
+def rows_of(reads: Reads, windows: Sequence[Window]) -> list[Row]:
+    return [Row("", window, window, length, draw, False) for window, length, draw in zip(windows, reads.lengths, reads.demands)]
+
+
+def without_start(reads: Reads, windows: Sequence[Window]) -> list[int]:
     """The reads whose window leaves them no start."""
-    return [job for job, ((start, end), length) in enumerate(zip(windows, reads.lengths)) if start + length > end]
+    return [job for job, row in enumerate(rows_of(reads, windows)) if too_short(row)]
 
 
 def is_narrowable(reads: Reads, windows: Sequence[Window]) -> bool:
     """Whether a time is crowded for a read at which one of the two rules moves a bound of its window."""
-    rows = [Row("", window, window, length, draw, False) for window, length, draw in zip(windows, reads.lengths, reads.demands)]
+    rows = rows_of(reads, windows)
     stretches = load(rows)
     for row in rows:
         (start, end), length, draw = row.now, row.length, row.draw

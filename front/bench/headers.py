@@ -5,7 +5,6 @@ A name may have its unit behind it, as `draw (A)`; that has to be the one in whi
 
 from __future__ import annotations
 
-import re
 from typing import NamedTuple
 
 from .cells import Cell, Sheet
@@ -13,6 +12,9 @@ from .columns import COLUMN
 from .notes import Units
 from .places import Fault
 from .quantities import CLOCK, MINUTES, TICKS
+
+# Units stand in round brackets or in square ones.
+ROUND = str.maketrans("[]", "()")
 
 
 class Header(NamedTuple):
@@ -26,7 +28,7 @@ class Header(NamedTuple):
 
 def taken_apart(cell: Cell, columns: dict[str, str]) -> tuple[str | None, str | None]:
     """The column of that name and the unit behind it. Small and capital letters count the same, but not in units of draws, where mA is not MA."""
-    name, bracket, behind = re.sub(r"[\[\]]", lambda sign: {"[": "(", "]": ")"}[sign[0]], cell.text).partition("(")
+    name, bracket, behind = cell.text.translate(ROUND).partition("(")
     if bracket and not behind.endswith(")"):
         return None, None
     column, unit = columns.get(" ".join(name.lower().split())), behind[:-1].strip() if bracket else None

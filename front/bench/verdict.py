@@ -15,7 +15,7 @@ from ending import Stop
 from limits import Limits
 from refusals import CODES
 
-from .counts import after, is_narrowable, refusal_of, too_short
+from .counts import after, is_narrowable, refusal_of, without_start
 from .reads import Reads
 from .records import Record, jobs_of, log_of, needed, records_of, set_words
 from .scene import Window
@@ -127,7 +127,7 @@ class Desk:
             raise contradicts(f"{said} of a list that has to be refused with {refused}")
         if list(verdict.windows) != (submitted(self.reads) if verdict.word == "clash" else reached):
             raise contradicts(f"{said} and leaves windows that the records do not")
-        closed = too_short(self.reads, reached)
+        closed = without_start(self.reads, reached)
         if verdict.word != "clash":
             if closed:
                 raise contradicts(f"{said} and leaves a read no start")
