@@ -3,11 +3,11 @@
 ghost use Rattle.std.specs.Prelude.{◌≡◌, not, ◌+◌, ◌*◌, ◌-◌, ◌<◌, ◌≤◌, leb, ltb, eqb, length};
 ghost use Rattle.lists.specs.Lists.{◌!◌};
 ghost use Rattle.lists.specs.Tests.{both, pick};
-ghost use Rattle.lists.specs.Extremes.{foundOr};
+ghost use Rattle.lists.specs.Extremes.{found_or};
 ghost use Rattle.lists.specs.Sweeps.{advanced};
 ghost use Rattle.narrowing.specs.Windows.{early};
-ghost use Rattle.joblist.specs.Limits.{mostTime, mostJobs};
-ghost use Rattle.heads.specs.Search.{earlyBound, detect};
+ghost use Rattle.joblist.specs.Limits.{most_time, most_jobs};
+ghost use Rattle.heads.specs.Search.{early_bound, detect};
 ghost use Rattle.mirrors.specs.Back.{told};
 ghost use Rattle.ahead.specs.Ready.{Ready};
 
@@ -16,8 +16,8 @@ use screen::{MOST_JOBS, MOST_TIME};
 
 // Whether job k, which lasts p and has its latest end counted back, comes before job i, whose e + p is `end`: i lasts.
 fn comes_first(k: usize, i: usize, end: u32, back: u32, p: u32) -> bool
-    requires { (end ≤ 2 * mostTime) × (back ≤ mostTime) × (p ≤ mostTime) }
-    ensures { result ≡ both (not (eqb k i)) (both (leb 1 p) (ltb (mostTime - back) (end + p))) }
+    requires { (end ≤ 2 * most_time) × (back ≤ most_time) × (p ≤ most_time) }
+    ensures { result ≡ both (not (eqb k i)) (both (leb 1 p) (ltb (most_time - back) (end + p))) }
 {
     if k == i {
         return false;
@@ -30,7 +30,7 @@ fn comes_first(k: usize, i: usize, end: u32, back: u32, p: u32) -> bool
 
 // What is done after one more job, if it is a member: it starts when all before it are done, or at its e if that is later.
 fn advance(done: u32, e: u32, p: u32, member: bool) -> u32
-    requires { (done ≤ mostTime * (mostJobs + 1)) × (e ≤ mostTime) × (p ≤ mostTime) }
+    requires { (done ≤ most_time * (most_jobs + 1)) × (e ≤ most_time) × (p ≤ most_time) }
     ensures { result ≡ pick member (advanced done e p) done }
 {
     if member {
@@ -52,7 +52,7 @@ fn bound_of(
     job: usize,
 ) -> u32
     requires { Ready (length starts.now) starts.now ends.now dur.now order.now × (job < length starts.now) × (1 ≤ dur.now ! job) }
-    ensures { result ≡ earlyBound (length starts.now) dur.now (told starts.now ends.now) job }
+    ensures { result ≡ early_bound (length starts.now) dur.now (told starts.now ends.now) job }
 {
     let end = starts[job] + dur[job];
     let mut done: u32 = 0;
@@ -75,7 +75,7 @@ pub fn start(
     job: usize,
 ) -> u32
     requires { Ready (length starts.now) starts.now ends.now dur.now order.now × (job < length starts.now) }
-    ensures { result ≡ foundOr (starts.now ! job) (detect (length starts.now) dur.now (told starts.now ends.now) job early) }
+    ensures { result ≡ found_or (starts.now ! job) (detect (length starts.now) dur.now (told starts.now ends.now) job early) }
 {
     let present = starts[job];
     if dur[job] == 0 {

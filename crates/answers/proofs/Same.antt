@@ -16,7 +16,7 @@ use Rattle.answers.specs.declared.ReadAnswer.{ReadAnswer}
 use Rattle.answers.specs.declared.WriteAnswer.{WriteAnswer}
 use Rattle.answers.specs.declared.ConflictAnswer.{ConflictAnswer}
 use Rattle.answers.specs.declared.Conflict.{Conflict}
-use Rattle.answers.specs.Said.{Word, Said, said, says, saysCheck, saysOverload, saysRead, saysWrite, saysConflict}
+use Rattle.answers.specs.Said.{Word, Said, said, says, says_check, says_overload, says_read, says_write, says_conflict}
 
 -- the words told apart by numbers
 abbrev pub told : Word → ℕ
@@ -31,11 +31,11 @@ told Word.read = 7
 told Word.written = 8
 told Word.marked = 9
 
-pub not-said : (v w : Word) → (told v ≡ told w → ⊥) → v ≡ w → ⊥
-not-said v w f e = f (ap (λ (x : Word). told x) e)
+pub not_said : (v w : Word) → (told v ≡ told w → ⊥) → v ≡ w → ⊥
+not_said v w f e = f (ap (λ (x : Word). told x) e)
 
-pub said-apart : {A : Type 0} (v w : Word) (ns ms : List ℕ) → (told v ≡ told w → ⊥) → said v ns ≡ said w ms → A
-said-apart v w ns ms f e = absurd (not-said v w f (ap (λ (x : Said). x.word) e))
+pub said_apart : {A : Type 0} (v w : Word) (ns ms : List ℕ) → (told v ≡ told w → ⊥) → said v ns ≡ said w ms → A
+said_apart v w ns ms f e = absurd (not_said v w f (ap (λ (x : Said). x.word) e))
 
 -- and read back from them, so that two words are one or they are not
 worded : ℕ → Word
@@ -43,27 +43,27 @@ worded n =
     get_or
     (Word.settled ∷ Word.clash ∷ Word.refused ∷ Word.holds ∷ Word.rejected ∷ Word.none ∷ Word.overload ∷ Word.read ∷ Word.written ∷ Word.marked ∷ []) n Word.settled
 
-worded-told : (w : Word) → worded (told w) ≡ w
+worded_told : (w : Word) → worded (told w) ≡ w
 unfolding worded
-worded-told Word.settled = refl
-worded-told Word.clash = refl
-worded-told Word.refused = refl
-worded-told Word.holds = refl
-worded-told Word.rejected = refl
-worded-told Word.none = refl
-worded-told Word.overload = refl
-worded-told Word.read = refl
-worded-told Word.written = refl
-worded-told Word.marked = refl
+worded_told Word.settled = refl
+worded_told Word.clash = refl
+worded_told Word.refused = refl
+worded_told Word.holds = refl
+worded_told Word.rejected = refl
+worded_told Word.none = refl
+worded_told Word.overload = refl
+worded_told Word.read = refl
+worded_told Word.written = refl
+worded_told Word.marked = refl
 
-pub word-discrete : (v w : Word) → Dec (v ≡ w)
-word-discrete v w =
-    elim (ℕ_discrete (told v) (told w)) [ yes e ↦ yes (sym (worded-told v) ∙ ap worded e ∙ worded-told w) | no d ↦ no (not-said v w d) ]
+pub word_discrete : (v w : Word) → Dec (v ≡ w)
+word_discrete v w =
+    elim (ℕ_discrete (told v) (told w)) [ yes e ↦ yes (sym (worded_told v) ∙ ap worded e ∙ worded_told w) | no d ↦ no (not_said v w d) ]
 
 -- settled or clash is no refusal
-pub not-refused : (w : Word) → (w ≡ Word.settled) ⊎ (w ≡ Word.clash) → w ≡ Word.refused → ⊥
-not-refused w (inl x) e = not-said Word.settled Word.refused (λ z. omega arith) (sym x ∙ e)
-not-refused w (inr x) e = not-said Word.clash Word.refused (λ z. omega arith) (sym x ∙ e)
+pub not_refused : (w : Word) → (w ≡ Word.settled) ⊎ (w ≡ Word.clash) → w ≡ Word.refused → ⊥
+not_refused w (inl x) e = not_said Word.settled Word.refused (λ z. omega arith) (sym x ∙ e)
+not_refused w (inr x) e = not_said Word.clash Word.refused (λ z. omega arith) (sym x ∙ e)
 
 -- what can be read back is the same where what is said is
 read_back : {A : Type 0} (say : A → Said) (heard : Said → A) → ((a : A) → heard (say a) ≡ a) → (a b : A) → say a ≡ say b → a ≡ b
@@ -73,77 +73,77 @@ read_back say heard back a b h = sym (back a) ∙ ap heard h ∙ back b
 abbrev is : Said → Word → Bool
 is s w = eqb (told s.word) (told w)
 
-abbrev heardOf : Said → Answer
-heardOf s =
+abbrev heard_of : Said → Answer
+heard_of s =
     cond (is s Word.settled) (Answer.Settled (s.numbers ! 0))
     (cond (is s Word.clash) (Answer.Clash (s.numbers ! 0) (s.numbers ! 1)) (Answer.Refused (s.numbers ! 0)))
 
-heard-says : (a : Answer) → heardOf (says a) ≡ a
-heard-says (Answer.Settled n) = refl
-heard-says (Answer.Clash n j) = refl
-heard-says (Answer.Refused k) = refl
+heard_says : (a : Answer) → heard_of (says a) ≡ a
+heard_says (Answer.Settled n) = refl
+heard_says (Answer.Clash n j) = refl
+heard_says (Answer.Refused k) = refl
 
 pub says_same : (a b : Answer) → says a ≡ says b → a ≡ b
-says_same = read_back says heardOf heard-says
+says_same = read_back says heard_of heard_says
 
-abbrev heardCheck : Said → CheckAnswer
-heardCheck s =
+abbrev heard_check : Said → CheckAnswer
+heard_check s =
     cond (is s Word.holds) (CheckAnswer.Holds (s.numbers ! 0))
     (cond (is s Word.clash) (CheckAnswer.Clash (s.numbers ! 0) (s.numbers ! 1))
     (cond (is s Word.rejected) (CheckAnswer.Rejected (s.numbers ! 0) (s.numbers ! 1)) (CheckAnswer.Refused (s.numbers ! 0))))
 
-heard-check : (a : CheckAnswer) → heardCheck (saysCheck a) ≡ a
-heard-check (CheckAnswer.Holds n) = refl
-heard-check (CheckAnswer.Clash n j) = refl
-heard-check (CheckAnswer.Rejected i c) = refl
-heard-check (CheckAnswer.Refused k) = refl
+heard_check_lem : (a : CheckAnswer) → heard_check (says_check a) ≡ a
+heard_check_lem (CheckAnswer.Holds n) = refl
+heard_check_lem (CheckAnswer.Clash n j) = refl
+heard_check_lem (CheckAnswer.Rejected i c) = refl
+heard_check_lem (CheckAnswer.Refused k) = refl
 
-pub check-same : (a b : CheckAnswer) → saysCheck a ≡ saysCheck b → a ≡ b
-check-same = read_back saysCheck heardCheck heard-check
+pub check_same : (a b : CheckAnswer) → says_check a ≡ says_check b → a ≡ b
+check_same = read_back says_check heard_check heard_check_lem
 
-abbrev heardOverload : Said → OverloadAnswer
-heardOverload s =
+abbrev heard_overload : Said → OverloadAnswer
+heard_overload s =
     cond (is s Word.none) OverloadAnswer.None
     (cond (is s Word.overload) (OverloadAnswer.Overload (s.numbers ! 0) (s.numbers ! 1)) (OverloadAnswer.Refused (s.numbers ! 0)))
 
-heard-overload : (a : OverloadAnswer) → heardOverload (saysOverload a) ≡ a
-heard-overload OverloadAnswer.None = refl
-heard-overload (OverloadAnswer.Overload a b) = refl
-heard-overload (OverloadAnswer.Refused k) = refl
+heard_overload_lem : (a : OverloadAnswer) → heard_overload (says_overload a) ≡ a
+heard_overload_lem OverloadAnswer.None = refl
+heard_overload_lem (OverloadAnswer.Overload a b) = refl
+heard_overload_lem (OverloadAnswer.Refused k) = refl
 
-pub overload-same : (a b : OverloadAnswer) → saysOverload a ≡ saysOverload b → a ≡ b
-overload-same = read_back saysOverload heardOverload heard-overload
+pub overload_same : (a b : OverloadAnswer) → says_overload a ≡ says_overload b → a ≡ b
+overload_same = read_back says_overload heard_overload heard_overload_lem
 
-abbrev heardRead : Said → ReadAnswer
-heardRead s = cond (is s Word.read) (ReadAnswer.Read (s.numbers ! 0) (s.numbers ! 1)) (ReadAnswer.Refused (s.numbers ! 0))
+abbrev heard_read : Said → ReadAnswer
+heard_read s = cond (is s Word.read) (ReadAnswer.Read (s.numbers ! 0) (s.numbers ! 1)) (ReadAnswer.Refused (s.numbers ! 0))
 
-heard-read : (a : ReadAnswer) → heardRead (saysRead a) ≡ a
-heard-read (ReadAnswer.Read cap pairs) = refl
-heard-read (ReadAnswer.Refused k) = refl
+heard_read_lem : (a : ReadAnswer) → heard_read (says_read a) ≡ a
+heard_read_lem (ReadAnswer.Read cap pairs) = refl
+heard_read_lem (ReadAnswer.Refused k) = refl
 
-pub read_same : (a b : ReadAnswer) → saysRead a ≡ saysRead b → a ≡ b
-read_same = read_back saysRead heardRead heard-read
+pub read_same : (a b : ReadAnswer) → says_read a ≡ says_read b → a ≡ b
+read_same = read_back says_read heard_read heard_read_lem
 
-abbrev heardWrite : Said → WriteAnswer
-heardWrite s = cond (is s Word.written) (WriteAnswer.Written (s.numbers ! 0)) (WriteAnswer.Refused (s.numbers ! 0))
+abbrev heard_write : Said → WriteAnswer
+heard_write s = cond (is s Word.written) (WriteAnswer.Written (s.numbers ! 0)) (WriteAnswer.Refused (s.numbers ! 0))
 
-heard-write : (a : WriteAnswer) → heardWrite (saysWrite a) ≡ a
-heard-write (WriteAnswer.Written bytes) = refl
-heard-write (WriteAnswer.Refused k) = refl
+heard_write_lem : (a : WriteAnswer) → heard_write (says_write a) ≡ a
+heard_write_lem (WriteAnswer.Written bytes) = refl
+heard_write_lem (WriteAnswer.Refused k) = refl
 
-pub write_same : (a b : WriteAnswer) → saysWrite a ≡ saysWrite b → a ≡ b
-write_same = read_back saysWrite heardWrite heard-write
+pub write_same : (a b : WriteAnswer) → says_write a ≡ says_write b → a ≡ b
+write_same = read_back says_write heard_write heard_write_lem
 
-abbrev heardConflict : Said → ConflictAnswer
-heardConflict s = cond (is s Word.marked) (ConflictAnswer.Marked (s.numbers ! 0)) (ConflictAnswer.Refused (s.numbers ! 0))
+abbrev heard_conflict : Said → ConflictAnswer
+heard_conflict s = cond (is s Word.marked) (ConflictAnswer.Marked (s.numbers ! 0)) (ConflictAnswer.Refused (s.numbers ! 0))
 
-heard-conflict : (a : ConflictAnswer) → heardConflict (saysConflict a) ≡ a
-heard-conflict (ConflictAnswer.Marked m) = refl
-heard-conflict (ConflictAnswer.Refused k) = refl
+heard_conflict_lem : (a : ConflictAnswer) → heard_conflict (says_conflict a) ≡ a
+heard_conflict_lem (ConflictAnswer.Marked m) = refl
+heard_conflict_lem (ConflictAnswer.Refused k) = refl
 
-pub conflict-same : (a b : ConflictAnswer) → saysConflict a ≡ saysConflict b → a ≡ b
-conflict-same = read_back saysConflict heardConflict heard-conflict
+pub conflict_same : (a b : ConflictAnswer) → says_conflict a ≡ says_conflict b → a ≡ b
+conflict_same = read_back says_conflict heard_conflict heard_conflict_lem
 
 -- with the set beside it
-pub marks-same : (r q : Conflict) → saysConflict r.answer ≡ saysConflict q.answer → r.set ≡ q.set → r ≡ q
-marks-same r q e f = let h = conflict-same r.answer q.answer e in rw (h, f)
+pub marks_same : (r q : Conflict) → says_conflict r.answer ≡ says_conflict q.answer → r.set ≡ q.set → r ≡ q
+marks_same r q e f = let h = conflict_same r.answer q.answer e in rw (h, f)

@@ -35,29 +35,29 @@ says (Answer.Clash n j) = said Word.clash (n ∷ j ∷ [])
 says (Answer.Refused k) = said Word.refused (k ∷ [])
 
 -- the checker's answers
-abbrev pub saysCheck : CheckAnswer → Said
-saysCheck (CheckAnswer.Holds n) = said Word.holds (n ∷ [])
-saysCheck (CheckAnswer.Clash n j) = said Word.clash (n ∷ j ∷ [])
-saysCheck (CheckAnswer.Rejected i c) = said Word.rejected (i ∷ c ∷ [])
-saysCheck (CheckAnswer.Refused k) = said Word.refused (k ∷ [])
+abbrev pub says_check : CheckAnswer → Said
+says_check (CheckAnswer.Holds n) = said Word.holds (n ∷ [])
+says_check (CheckAnswer.Clash n j) = said Word.clash (n ∷ j ∷ [])
+says_check (CheckAnswer.Rejected i c) = said Word.rejected (i ∷ c ∷ [])
+says_check (CheckAnswer.Refused k) = said Word.refused (k ∷ [])
 
 -- the overload check's answers
-abbrev pub saysOverload : OverloadAnswer → Said
-saysOverload OverloadAnswer.None = said Word.none []
-saysOverload (OverloadAnswer.Overload a b) = said Word.overload (a ∷ b ∷ [])
-saysOverload (OverloadAnswer.Refused k) = said Word.refused (k ∷ [])
+abbrev pub says_overload : OverloadAnswer → Said
+says_overload OverloadAnswer.None = said Word.none []
+says_overload (OverloadAnswer.Overload a b) = said Word.overload (a ∷ b ∷ [])
+says_overload (OverloadAnswer.Refused k) = said Word.refused (k ∷ [])
 
 -- a reader's answers
-abbrev pub saysRead : ReadAnswer → Said
-saysRead (ReadAnswer.Read cap pairs) = said Word.read (cap ∷ pairs ∷ [])
-saysRead (ReadAnswer.Refused k) = said Word.refused (k ∷ [])
+abbrev pub says_read : ReadAnswer → Said
+says_read (ReadAnswer.Read cap pairs) = said Word.read (cap ∷ pairs ∷ [])
+says_read (ReadAnswer.Refused k) = said Word.refused (k ∷ [])
 
 -- the writer's answers
-abbrev pub saysWrite : WriteAnswer → Said
-saysWrite (WriteAnswer.Written bytes) = said Word.written (bytes ∷ [])
-saysWrite (WriteAnswer.Refused k) = said Word.refused (k ∷ [])
+abbrev pub says_write : WriteAnswer → Said
+says_write (WriteAnswer.Written bytes) = said Word.written (bytes ∷ [])
+says_write (WriteAnswer.Refused k) = said Word.refused (k ∷ [])
 
 -- the answers of the call that names jobs
-abbrev pub saysConflict : ConflictAnswer → Said
-saysConflict (ConflictAnswer.Marked m) = said Word.marked (m ∷ [])
-saysConflict (ConflictAnswer.Refused k) = said Word.refused (k ∷ [])
+abbrev pub says_conflict : ConflictAnswer → Said
+says_conflict (ConflictAnswer.Marked m) = said Word.marked (m ∷ [])
+says_conflict (ConflictAnswer.Refused k) = said Word.refused (k ∷ [])

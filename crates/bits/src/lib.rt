@@ -1,7 +1,7 @@
 // Member sets (01, 'Log records'): member k is bit (k mod 32) of word (k div 32), bit 0 lowest, whatever the number of words.
 // A number beyond the words is no member, and putting it in changes nothing.
 ghost use Rattle.std.specs.Prelude.{◌≡◌, ◌*◌, ◌%◌, ◌^◌, ◌<◌, length, replicate};
-ghost use Rattle.members.specs.Members.{setWords, has, onesOf, inserted, joined};
+ghost use Rattle.members.specs.Members.{set_words, has, ones_of, inserted, joined};
 
 // The number of words of a record's member set.
 pub const WORDS: usize = 8;
@@ -11,7 +11,7 @@ pub const BITS: usize = 32;
 
 // A record's member set with no members.
 pub fn empty() -> [u32; WORDS]
-    ensures { result ≡ replicate setWords 0 }
+    ensures { result ≡ replicate set_words 0 }
 {
     [0u32; WORDS]
 }
@@ -61,7 +61,7 @@ pub fn join(set: &mut [u32], more: &[u32])
 // The number of ones. A word can hold it where the bits are fewer than 2 ^ 32.
 pub fn count(set: &[u32]) -> u32
     requires { 32 * length set.now < 2 ^ 32 }
-    ensures { result ≡ onesOf set.now }
+    ensures { result ≡ ones_of set.now }
 {
     let mut n: u32 = 0;
     let mut i = 0;

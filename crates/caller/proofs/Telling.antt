@@ -9,16 +9,16 @@ use Rattle.answers.specs.declared.Answer.{Answer}
 use Rattle.answers.specs.declared.CheckAnswer.{CheckAnswer}
 use Rattle.answers.specs.declared.ConflictAnswer.{ConflictAnswer}
 use Rattle.answers.specs.declared.ReadAnswer.{ReadAnswer}
-use Rattle.answers.specs.Said.{Word, Said, said, says, saysCheck, saysRead, saysConflict}
+use Rattle.answers.specs.Said.{Word, Said, said, says, says_check, says_read, says_conflict}
 use Rattle.desk.specs.Lists.{Win, Set, has}
 use Rattle.desk.specs.AnyRules.{needs}
 use Rattle.desk.specs.Narrowing.{Call, leaves, Narrows}
 use Rattle.desk.specs.Checking.{finds, Checks}
 use Rattle.desk.specs.Conflicts.{Among, blame, Blames}
-use Rattle.desk.specs.Sequencing.{headAsk, left, Sequences}
+use Rattle.desk.specs.Sequencing.{head_ask, left, Sequences}
 use Rattle.desk.specs.Reading.{Lent, TextCall, Reads}
 use Rattle.desk.proofs.Conflicts.{all_listed, none_elsewhere}
-use Rattle.desk.proofs.Sequencing.{counts-settled, counts-decided}
+use Rattle.desk.proofs.Sequencing.{counts_settled, counts_decided}
 use Rattle.caller.specs.Told.{ToldSettles, ToldHolds, ToldHopeless, ToldSequences, ToldReads}
 
 -- false is not true
@@ -26,15 +26,15 @@ not-true : false ≡ true → ⊥
 not-true e = let q : ◌≡◌ {A = ℕ} 0 1 = cc in omega arith
 
 -- a result that is true exactly where the word of an answer is w
-pub yes-exactly : {A : Type 0} (word : A → Word) (a b : A) → a ≡ b → (true ≡ true) ↔ (word a ≡ word b)
-yes-exactly word a b e = (λ z. ap word e, λ z. refl)
+pub yes_exactly : {A : Type 0} (word : A → Word) (a b : A) → a ≡ b → (true ≡ true) ↔ (word a ≡ word b)
+yes_exactly word a b e = (λ z. ap word e, λ z. refl)
 
-pub no-exactly : {A : Type 0} (word : A → Word) (a b : A) (w : Word) → (word b ≡ w → ⊥) → a ≡ b → (false ≡ true) ↔ (word a ≡ w)
-no-exactly word a b w f e = (λ z. absurd (not-true z), λ z. absurd (f (sym (ap word e) ∙ z)))
+pub no_exactly : {A : Type 0} (word : A → Word) (a b : A) (w : Word) → (word b ≡ w → ⊥) → a ≡ b → (false ≡ true) ↔ (word a ≡ w)
+no_exactly word a b w f e = (λ z. absurd (not-true z), λ z. absurd (f (sym (ap word e) ∙ z)))
 
-pub tells-settles : (c : Call) (U : Win) (log : List ℕ) (a : Answer) (r : Bool) → Narrows c (leaves (says a) U log) → (r ≡ true) ↔ ((says a).word ≡ Word.settled)
+pub tells_settles : (c : Call) (U : Win) (log : List ℕ) (a : Answer) (r : Bool) → Narrows c (leaves (says a) U log) → (r ≡ true) ↔ ((says a).word ≡ Word.settled)
     → ToldSettles c U log r
-tells-settles c U log a r h e =
+tells_settles c U log a r h e =
     record {
       says = says a;
       narrows = h;
@@ -46,13 +46,13 @@ tells-settles c U log a r h e =
     clashes (inl s) f = absurd (f (e.1 s))
     clashes (inr s) f = s
 
-pub tells-holds : (c : Call) (count : ℕ) (U : Win) (a : CheckAnswer) (r : Bool) → Checks c count (finds (saysCheck a) U) → (r ≡ true) ↔ ((saysCheck a).word ≡ Word.holds)
+pub tells_holds : (c : Call) (count : ℕ) (U : Win) (a : CheckAnswer) (r : Bool) → Checks c count (finds (says_check a) U) → (r ≡ true) ↔ ((says_check a).word ≡ Word.holds)
     → ToldHolds c count U r
-tells-holds c count U a r h e = record { says = saysCheck a; checks = h; holds = e }
+tells_holds c count U a r h e = record { says = says_check a; checks = h; holds = e }
 
 -- the jobs are among those of their own list
-own-among : (M : Set) (c : Call) → Among M c c (λ k. k)
-own-among M c =
+own_among : (M : Set) (c : Call) → Among M c c (λ k. k)
+own_among M c =
     record {
       listed = λ k b h. b;
       apart = λ i k b d h g e. e;
@@ -63,28 +63,28 @@ own-among M c =
       supply = omega arith;
     }
 
-pub tells-hopeless : (c : Call) (count : ℕ) (a : ConflictAnswer) (set : List ℕ) (r : Bool) → Blames c count (blame (saysConflict a) set)
-    → (r ≡ true) ↔ ((saysConflict a).word ≡ Word.marked) → ToldHopeless c count r
-tells-hopeless c count a set r h e =
+pub tells_hopeless : (c : Call) (count : ℕ) (a : ConflictAnswer) (set : List ℕ) (r : Bool) → Blames c count (blame (says_conflict a) set)
+    → (r ≡ true) ↔ ((says_conflict a).word ≡ Word.marked) → ToldHopeless c count r
+tells_hopeless c count a set r h e =
     record {
-      says = saysConflict a;
+      says = says_conflict a;
       set = set;
       blames = h;
       marked = e;
       listed = λ z. all_listed c count _ h.exactly (e.0 z);
-      none = λ z. (none_elsewhere c count _ h (e.0 z) c (λ k. k) (own-among (has set) c)).1;
+      none = λ z. (none_elsewhere c count _ h (e.0 z) c (λ k. k) (own_among (has set) c)).1;
     }
 
-pub tells-sequences : (W : Win) (p : List ℕ) (U : Win) (a : Answer) (r : Bool) → Sequences W p (left (says a) U) → (r ≡ true) ↔ ((says a).word ≡ Word.settled)
+pub tells_sequences : (W : Win) (p : List ℕ) (U : Win) (a : Answer) (r : Bool) → Sequences W p (left (says a) U) → (r ≡ true) ↔ ((says a).word ≡ Word.settled)
     → ToldSequences W p U r
-tells-sequences W p U a r h e =
+tells_sequences W p U a r h e =
     record {
       says = says a;
       sequences = h;
       settled = e;
       free = λ g. (
-        (λ z. (U, (counts-settled (headAsk W p) (left (says a) U) h.counts (e.0 z)).1.one), λ x. e.1 (word ((h.counts.exactly.settled (needs (headAsk W p))).1 (g, refl, x)))),
-        λ f. h.counts.kept.none (clashes f (counts-decided (headAsk W p) (left (says a) U) h.counts g)),
+        (λ z. (U, (counts_settled (head_ask W p) (left (says a) U) h.counts (e.0 z)).1.one), λ x. e.1 (word ((h.counts.exactly.settled (needs (head_ask W p))).1 (g, refl, x)))),
+        λ f. h.counts.kept.none (clashes f (counts_decided (head_ask W p) (left (says a) U) h.counts g)),
       );
     }
   where
@@ -92,11 +92,11 @@ tells-sequences W p U a r h e =
     word q = ap (λ (z : Said). z.word) q
 
     clashes : (r ≡ true → ⊥)
-        → (says a ≡ said Word.settled (needs (headAsk W p) ∷ [])) ⊎ ((j : ℕ) × (says a ≡ said Word.clash (needs (headAsk W p) ∷ j ∷ [])))
+        → (says a ≡ said Word.settled (needs (head_ask W p) ∷ [])) ⊎ ((j : ℕ) × (says a ≡ said Word.clash (needs (head_ask W p) ∷ j ∷ [])))
         → (says a).word ≡ Word.clash
     clashes f (inl q) = absurd (f (e.1 (word q)))
     clashes f (inr (j, q)) = word q
 
-pub tells-reads : (c : TextCall) (L : Lent) (a : ReadAnswer) (r : Bool) → Reads c (record { says = saysRead a; lent = L }) → (r ≡ true) ↔ ((saysRead a).word ≡ Word.read)
+pub tells_reads : (c : TextCall) (L : Lent) (a : ReadAnswer) (r : Bool) → Reads c (record { says = says_read a; lent = L }) → (r ≡ true) ↔ ((says_read a).word ≡ Word.read)
     → ToldReads c L r
-tells-reads c L a r h e = record { says = saysRead a; reads = h; read = e; long = λ z. h.long (e.0 z) }
+tells_reads c L a r h e = record { says = says_read a; reads = h; read = e; long = λ z. h.long (e.0 z) }

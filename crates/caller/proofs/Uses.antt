@@ -6,23 +6,23 @@ use mathlib.Core.Bool.{true}
 use mathlib.Core.List.{[], ◌∷◌}
 use lib.ListN.{replicate}
 use Rattle.answers.specs.Said.{Word}
-use Rattle.desk.specs.Lists.{◌!◌, win, Side, jobs, recordWords, Long, slack, roomOf}
-use Rattle.desk.specs.Narrowing.{Call, call, Good, HasRoom, After, Narrows, Stable, Applies, jobsOf}
-use Rattle.desk.specs.Reading.{Lent, TextCall, windowsIn}
+use Rattle.desk.specs.Lists.{◌!◌, win, Side, jobs, record_words, Long, slack, room_of}
+use Rattle.desk.specs.Narrowing.{Call, call, Good, HasRoom, After, Narrows, Stable, Applies, jobs_of}
+use Rattle.desk.specs.Reading.{Lent, TextCall, windows_in}
 use Rattle.caller.specs.Told.{ToldReads}
 
 -- room for one record is enough for a window that just holds its job
-pub just-room : HasRoom (call (win (0 ∷ []) (1 ∷ [])) (1 ∷ []) (1 ∷ []) 1 (replicate recordWords 0)) (suc (slack (1 ∷ []) (win (0 ∷ []) (1 ∷ [])) 1))
-unfolding slack roomOf
-just-room = ((1, refl), omega arith)
+pub just_room : HasRoom (call (win (0 ∷ []) (1 ∷ [])) (1 ∷ []) (1 ∷ []) 1 (replicate record_words 0)) (suc (slack (1 ∷ []) (win (0 ∷ []) (1 ∷ [])) 1))
+unfolding slack room_of
+just_room = ((1, refl), omega arith)
 
 -- every window of a text that was read holds its job
-pub window-holds : (c : TextCall) (L : Lent) → ToldReads c L true → (k : ℕ) → k < jobs (windowsIn L) → L.est ! k + L.dur ! k ≤ L.lct ! k
+pub window_holds : (c : TextCall) (L : Lent) → ToldReads c L true → (k : ℕ) → k < jobs (windows_in L) → L.est ! k + L.dur ! k ≤ L.lct ! k
 unfolding Long
-window-holds c L h k b = h.long refl k b
+window_holds c L h k b = h.long refl k b
 
 -- no rule applies to the windows of a list that settled
-pub no-rule-left : (c : Call) (a : After) → Narrows c a → Good c → a.says.word ≡ Word.settled
-    → (j : ℕ) (s : Side) (b : ℕ) → j < jobs c.win → Applies (jobsOf c) a.win j s b → ⊥
+pub no_rule_left : (c : Call) (a : After) → Narrows c a → Good c → a.says.word ≡ Word.settled
+    → (j : ℕ) (s : Side) (b : ℕ) → j < jobs c.win → Applies (jobs_of c) a.win j s b → ⊥
 unfolding Stable
-no-rule-left c a h g e j s b i r = ((h.largest g).settled e).one.stable j s b i r
+no_rule_left c a h g e j s b i r = ((h.largest g).settled e).one.stable j s b i r

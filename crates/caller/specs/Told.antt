@@ -7,8 +7,8 @@ use Rattle.desk.specs.AnyRules as rules
 use Rattle.desk.specs.Narrowing.{Call, Good, HasRoom, StableIn, NoneIn, Scheduled, leaves, Narrows}
 use Rattle.desk.specs.Checking.{finds, Checks}
 use Rattle.desk.specs.Conflicts.{blame, Blames}
-use Rattle.desk.specs.Sequencing.{headAsk, GoodHead, left, Sequences}
-use Rattle.desk.specs.Reading.{Lent, TextCall, windowsIn, Reads}
+use Rattle.desk.specs.Sequencing.{head_ask, GoodHead, left, Sequences}
+use Rattle.desk.specs.Reading.{Lent, TextCall, windows_in, Reads}
 
 -- whether the windows of a job list could be narrowed
 pub record ToldSettles (c : Call) (U : Win) (log : List ℕ) (r : Bool) : Type 0 where
@@ -40,8 +40,8 @@ pub record ToldSequences (W : Win) (p : List ℕ) (U : Win) (r : Bool) : Type 0 
   pub settled : (r ≡ true) ↔ (says.word ≡ Word.settled)
   -- of a good list, exactly when there are windows to which no rule applies, and else there is no schedule
   pub free : GoodHead W p
-      → ((r ≡ true) ↔ ((X : Win) × rules.StableIn (headAsk W p) X))
-      × ((r ≡ true → ⊥) → (s : List ℕ) → rules.Scheduled (headAsk W p) W s → ⊥)
+      → ((r ≡ true) ↔ ((X : Win) × rules.StableIn (head_ask W p) X))
+      × ((r ≡ true → ⊥) → (s : List ℕ) → rules.Scheduled (head_ask W p) W s → ⊥)
 
 -- whether a project text could be read
 pub record ToldReads (c : TextCall) (L : Lent) (r : Bool) : Type 0 where
@@ -49,4 +49,4 @@ pub record ToldReads (c : TextCall) (L : Lent) (r : Bool) : Type 0 where
   pub reads : Reads c (record { says = says; lent = L })
   pub read : (r ≡ true) ↔ (says.word ≡ Word.read)
   -- narrowing then finds no window that is too short
-  pub long : r ≡ true → Long (jobs (windowsIn L)) L.dur (windowsIn L)
+  pub long : r ≡ true → Long (jobs (windows_in L)) L.dur (windows_in L)

@@ -1,6 +1,6 @@
 // A user of the desk: it names `desk answers` and nothing else, and is proved like the rest, from the contracts of the desk's calls.
 ghost use Rattle.std.specs.Prelude.{◌≡◌, true, ◌↔◌};
-ghost use Rattle.answers.specs.Said.{Word, says, saysCheck, saysRead, saysConflict};
+ghost use Rattle.answers.specs.Said.{Word, says, says_check, says_read, says_conflict};
 ghost use Rattle.desk.specs.Lists.{win};
 ghost use Rattle.desk.specs.Narrowing.{call};
 ghost use Rattle.desk.specs.Reading.{patterson};
@@ -33,7 +33,7 @@ pub fn settles(
 }
 
 fn held(answer: CheckAnswer) -> bool
-    ensures { (result ≡ true) ↔ ((saysCheck answer).word ≡ Word.holds) }
+    ensures { (result ≡ true) ↔ ((says_check answer).word ≡ Word.holds) }
 {
     match answer {
         CheckAnswer::Holds(_) => true,
@@ -59,7 +59,7 @@ pub fn holds(
 }
 
 fn marked(answer: ConflictAnswer) -> bool
-    ensures { (result ≡ true) ↔ ((saysConflict answer).word ≡ Word.marked) }
+    ensures { (result ≡ true) ↔ ((says_conflict answer).word ≡ Word.marked) }
 {
     match answer {
         ConflictAnswer::Marked(_) => true,
@@ -92,7 +92,7 @@ pub fn sequences(est: &mut [u32], lct: &mut [u32], dur: &[u32]) -> bool
 }
 
 fn read(answer: ReadAnswer) -> bool
-    ensures { (result ≡ true) ↔ ((saysRead answer).word ≡ Word.read) }
+    ensures { (result ≡ true) ↔ ((says_read answer).word ≡ Word.read) }
 {
     match answer {
         ReadAnswer::Read(_, _) => true,

@@ -5,7 +5,7 @@ mod run;
 
 ghost use Rattle.std.specs.Prelude.{◌<◌, length};
 
-use logbook::RECORD;
+use logs::RECORD;
 use run::{narrow_line, overload_line};
 
 // The words of a record, and of a log where the text names no room.

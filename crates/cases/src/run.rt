@@ -12,7 +12,7 @@ use sayings::{Saying, Word, say};
 const JOBS: u32 = screen::MOST_JOBS as u32 + 1;
 
 // The words of a log where the text names no room: eight records.
-pub const USUAL: usize = 8 * logbook::RECORD;
+pub const USUAL: usize = 8 * logs::RECORD;
 
 // The most words of a run's lists: four of jobs and such a log, each behind its length.
 const WORDS: usize = 4 * (screen::MOST_JOBS + 2) + USUAL + 1;

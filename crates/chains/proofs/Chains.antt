@@ -10,69 +10,69 @@ use Rattle.chains.specs.Passes.{NoneRaises, Chained}
 use Rattle.chains.proofs.Holes.{holes}
 
 -- no job before j
-pub chain-none : {R : ℕ → ℕ → Type 0} {w : ℕ → ℕ} {j : ℕ} → Chain R w j 0
-chain-none {j = j} = record { from = j; path = here; long = refl }
+pub chain_none : {R : ℕ → ℕ → Type 0} {w : ℕ → ℕ} {j : ℕ} → Chain R w j 0
+chain_none {j = j} = record { from = j; path = here; long = refl }
 
 -- a chain before i, then i, then j
-pub chain-on : {R : ℕ → ℕ → Type 0} {w : ℕ → ℕ} {i j L : ℕ} → R i j → Chain R w i L → Chain R w j (L + w i)
-chain-on {w = w} {i = i} r c = record { from = c.from; path = on c.path r; long = ap (λ x. x + w i) c.long }
+pub chain_on : {R : ℕ → ℕ → Type 0} {w : ℕ → ℕ} {i j L : ℕ} → R i j → Chain R w i L → Chain R w j (L + w i)
+chain_on {w = w} {i = i} r c = record { from = c.from; path = on c.path r; long = ap (λ x. x + w i) c.long }
 
 -- a path alone is a chain
-pub chain-of : {R : ℕ → ℕ → Type 0} (w : ℕ → ℕ) {a j : ℕ} (t : Path R a j) → Chain R w j (length_of w t)
-chain-of w {a} t = record { from = a; path = t; long = refl }
+pub chain_of : {R : ℕ → ℕ → Type 0} (w : ℕ → ℕ) {a j : ℕ} (t : Path R a j) → Chain R w j (length_of w t)
+chain_of w {a} t = record { from = a; path = t; long = refl }
 
-pub longest-unique : (R : ℕ → ℕ → Type 0) (w : ℕ → ℕ) (j L M : ℕ) → Longest R w j L → Longest R w j M → L ≡ M
-longest-unique R w j L M f g = omega (arith, f.most M g.one, g.most L f.one)
+pub longest_unique : (R : ℕ → ℕ → Type 0) (w : ℕ → ℕ) (j L M : ℕ) → Longest R w j L → Longest R w j M → L ≡ M
+longest_unique R w j L M f g = omega (arith, f.most M g.one, g.most L f.one)
 
 module _ (R : ℕ → ℕ → Type 0) (w : ℕ → ℕ) (v : List ℕ) (s : NoneRaises R w v) where
   -- along a path the values rise by its length
-  pub stable-path : {a j : ℕ} (t : Path R a j) → v ! a + length_of w t ≤ v ! j
-  stable-path here = omega arith
-  stable-path (on {a} {b} {c} t r) = omega (arith, stable-path t, s b c r)
+  pub stable_path : {a j : ℕ} (t : Path R a j) → v ! a + length_of w t ≤ v ! j
+  stable_path here = omega arith
+  stable_path (on {a} {b} {c} t r) = omega (arith, stable_path t, s b c r)
 
-  pub stable-most : {j L : ℕ} → Chain R w j L → L ≤ v ! j
-  stable-most c = omega (arith, stable-path c.path, c.long)
+  pub stable_most : {j L : ℕ} → Chain R w j L → L ≤ v ! j
+  stable_most c = omega (arith, stable_path c.path, c.long)
 
-  pub stable-longest : Chained R w v → (j : ℕ) → Longest R w j (v ! j)
-  stable-longest q j = record { one = q j; most = λ M c. stable-most c }
+  pub stable_longest : Chained R w v → (j : ℕ) → Longest R w j (v ! j)
+  stable_longest q j = record { one = q j; most = λ M c. stable_most c }
 
   -- a path after j: what stands at its far end is later by j's duration and its length
-  pub stable-back : {a j : ℕ} (t : Path (Back R) a j) → v ! j + w j + length_of w t ≤ v ! a + w a
-  stable-back here = omega arith
-  stable-back (on {a} {b} {c} t r) = omega (arith, stable-back t, s c b r)
+  pub stable_back : {a j : ℕ} (t : Path (Back R) a j) → v ! j + w j + length_of w t ≤ v ! a + w a
+  stable_back here = omega arith
+  stable_back (on {a} {b} {c} t r) = omega (arith, stable_back t, s c b r)
 
   -- the same of a chain after j, whose far end is where it starts
-  pub stable-after : {j L : ℕ} (c : Chain (Back R) w j L) → v ! j + w j + L ≤ v ! c.from + w c.from
-  stable-after c = omega (arith, stable-back c.path, c.long)
+  pub stable_after : {j L : ℕ} (c : Chain (Back R) w j L) → v ! j + w j + L ≤ v ! c.from + w c.from
+  stable_after c = omega (arith, stable_back c.path, c.long)
 
   -- with durations of 1 or more there is no cycle
-  pub stable-acyclic : ((i : ℕ) → 0 < w i) → Cycle R → ⊥
-  stable-acyclic h c = omega (arith, stable-path c.path, s c.last c.at c.back, h c.last)
+  pub stable_acyclic : ((i : ℕ) → 0 < w i) → Cycle R → ⊥
+  stable_acyclic h c = omega (arith, stable_path c.path, s c.last c.at c.back, h c.last)
 
 -- ---- other pairs, other durations
 
-path-map : (R S : ℕ → ℕ → Type 0) (w u : ℕ → ℕ) → ((a b : ℕ) → R a b → S a b × (w a ≡ u a)) → {a j : ℕ} (t : Path R a j) → (x : Path S a j) × (length_of u x ≡ length_of w t)
-path-map R S w u f here = (here, refl)
-path-map R S w u f (on {a} {b} {c} t r) = let x = path-map R S w u f t in (on x.0 (f b c r).0, omega (arith, x.1, (f b c r).1))
+path_map : (R S : ℕ → ℕ → Type 0) (w u : ℕ → ℕ) → ((a b : ℕ) → R a b → S a b × (w a ≡ u a)) → {a j : ℕ} (t : Path R a j) → (x : Path S a j) × (length_of u x ≡ length_of w t)
+path_map R S w u f here = (here, refl)
+path_map R S w u f (on {a} {b} {c} t r) = let x = path_map R S w u f t in (on x.0 (f b c r).0, omega (arith, x.1, (f b c r).1))
 
-pub chain-map : (R S : ℕ → ℕ → Type 0) (w u : ℕ → ℕ) → ((a b : ℕ) → R a b → S a b × (w a ≡ u a)) → {j L : ℕ} → Chain R w j L → Chain S u j L
-chain-map R S w u f c = let x = path-map R S w u f c.path in record { from = c.from; path = x.0; long = x.1 ∙ c.long }
+pub chain_map : (R S : ℕ → ℕ → Type 0) (w u : ℕ → ℕ) → ((a b : ℕ) → R a b → S a b × (w a ≡ u a)) → {j L : ℕ} → Chain R w j L → Chain S u j L
+chain_map R S w u f c = let x = path_map R S w u f c.path in record { from = c.from; path = x.0; long = x.1 ∙ c.long }
 
 -- a path starts below n where it ends there
-path-starts : (R : ℕ → ℕ → Type 0) (n : ℕ) → Below n R → {a j : ℕ} → Path R a j → j < n → a < n
-path-starts R n q here h = h
-path-starts R n q (on {a} {b} {c} t r) h = path-starts R n q t (q b c r).0
+path_starts : (R : ℕ → ℕ → Type 0) (n : ℕ) → Below n R → {a j : ℕ} → Path R a j → j < n → a < n
+path_starts R n q here h = h
+path_starts R n q (on {a} {b} {c} t r) h = path_starts R n q t (q b c r).0
 
-pub chain-starts : (R : ℕ → ℕ → Type 0) (n : ℕ) (w : ℕ → ℕ) → Below n R → {j L : ℕ} (c : Chain R w j L) → j < n → c.from < n
-chain-starts R n w q c h = path-starts R n q c.path h
+pub chain_starts : (R : ℕ → ℕ → Type 0) (n : ℕ) (w : ℕ → ℕ) → Below n R → {j L : ℕ} (c : Chain R w j L) → j < n → c.from < n
+chain_starts R n w q c h = path_starts R n q c.path h
 
 path_inside : (R : ℕ → ℕ → Type 0) (n : ℕ) (w : ℕ → ℕ) → Below n R → {a j : ℕ} (t : Path R a j) → 0 < length_of w t → j < n
 path_inside R n w q here h = absurd (omega arith)
 path_inside R n w q (on {a} {b} {c} t r) h = (q b c r).1
 
 -- a chain with something in it ends below n
-pub chain-inside : (R : ℕ → ℕ → Type 0) (n : ℕ) (w : ℕ → ℕ) → Below n R → {j L : ℕ} → 0 < L → Chain R w j L → j < n
-chain-inside R n w q h c = path_inside R n w q c.path (omega (arith, c.long))
+pub chain_inside : (R : ℕ → ℕ → Type 0) (n : ℕ) (w : ℕ → ℕ) → Below n R → {j L : ℕ} → 0 < L → Chain R w j L → j < n
+chain_inside R n w q h c = path_inside R n w q c.path (omega (arith, c.long))
 
 -- ---- as many steps as jobs
 
@@ -86,9 +86,9 @@ abbrev ahead : ℕ → (ℕ → ℕ) → ℕ → ℕ
 ahead j f zero = j
 ahead j f (suc i) = f i
 
-ahead-steps : (R : ℕ → ℕ → Type 0) (j m : ℕ) (f : ℕ → ℕ) → R (f 0) j → ((i : ℕ) → i < m → R (f (suc i)) (f i)) → (i : ℕ) → i < suc m → R (ahead j f (suc i)) (ahead j f i)
-ahead-steps R j m f r g zero h = r
-ahead-steps R j m f r g (suc i) h = g i (omega arith)
+ahead_steps : (R : ℕ → ℕ → Type 0) (j m : ℕ) (f : ℕ → ℕ) → R (f 0) j → ((i : ℕ) → i < m → R (f (suc i)) (f i)) → (i : ℕ) → i < suc m → R (ahead j f (suc i)) (ahead j f i)
+ahead_steps R j m f r g zero h = r
+ahead_steps R j m f r g (suc i) h = g i (omega arith)
 
 steps_of : (R : ℕ → ℕ → Type 0) {a j : ℕ} (t : Path R a j) → Steps R j (length_of (λ i. 1) t)
 steps_of R {a} here = record { at = λ i. a; ends = refl; steps = λ i h. absurd (omega arith) }
@@ -97,7 +97,7 @@ steps_of R (on {a} {b} {c} t r) =
     record {
       at = ahead c s.at;
       ends = refl;
-      steps = λ k h. ahead-steps R c (length_of (λ i. 1) t) s.at (subst (λ (x : ℕ). R x c) (sym s.ends) r) s.steps k (omega arith);
+      steps = λ k h. ahead_steps R c (length_of (λ i. 1) t) s.at (subst (λ (x : ℕ). R x c) (sym s.ends) r) s.steps k (omega arith);
     }
 
 -- d steps that end at place lo
@@ -107,8 +107,8 @@ along R f m g (suc d) lo h =
     let e : lo + suc d ≡ suc lo + d = omega arith in
     subst (λ (x : ℕ). Path R (f x) (f lo)) (sym e) (on (along R f m g d (suc lo) (omega arith)) (g lo (omega arith)))
 
-steps-cycle : (R : ℕ → ℕ → Type 0) (n j m : ℕ) → Below n R → j < n → n ≤ m → Steps R j m → Cycle R
-steps-cycle R n j m q b k t =
+steps_cycle : (R : ℕ → ℕ → Type 0) (n j m : ℕ) → Below n R → j < n → n ≤ m → Steps R j m → Cycle R
+steps_cycle R n j m q b k t =
     let z = holes n t.at inside in
     let e : suc z.lo + (z.hi - suc z.lo) ≡ z.hi = omega (arith, z.less) in
     record {
@@ -122,5 +122,5 @@ steps-cycle R n j m q b k t =
     inside zero h = rw t.ends b
     inside (suc i) h = (q (t.at (suc i)) (t.at i) (t.steps i (omega arith))).0
 
-pub long-cycle : (R : ℕ → ℕ → Type 0) (n : ℕ) {j m : ℕ} → Below n R → j < n → n ≤ m → Chain R (λ i. 1) j m → Cycle R
-long-cycle R n {j} {m} q b h c = steps-cycle R n j (length_of (λ i. 1) c.path) q b (omega (arith, c.long)) (steps_of R c.path)
+pub long_cycle : (R : ℕ → ℕ → Type 0) (n : ℕ) {j m : ℕ} → Below n R → j < n → n ≤ m → Chain R (λ i. 1) j m → Cycle R
+long_cycle R n {j} {m} q b h c = steps_cycle R n j (length_of (λ i. 1) c.path) q b (omega (arith, c.long)) (steps_of R c.path)

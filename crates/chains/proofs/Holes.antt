@@ -7,7 +7,7 @@ use mathlib.Core.Path.{◌≡◌, refl, sym}
 use mathlib.Core.Bool.{Bool, true, false, not}
 use lib.Dec.{eqb}
 use Rattle.lists.specs.Tests.{every}
-use Rattle.lists.proofs.Judged.{Judged, judged-every, judged-eqb, judged-not}
+use Rattle.lists.proofs.Judged.{Judged, judged_every, judged_eqb, judged_not}
 use Rattle.lists.proofs.Orders.{onto}
 
 pub record Twice (f : ℕ → ℕ) (n : ℕ) : Type 0 where
@@ -22,11 +22,11 @@ module _ (n : ℕ) (f : ℕ → ℕ) (into : (i : ℕ) → i ≤ n → f i < n) 
   apart? : Bool
   apart? = every (λ j. every (λ i. not (eqb (f i) (f j))) j) (suc n)
 
-  judged-apart : Judged ((j : ℕ) → j < suc n → (i : ℕ) → i < j → f i ≡ f j → ⊥) ((j : ℕ) × (j < suc n) × ((i : ℕ) × (i < j) × (f i ≡ f j))) apart?
+  judged_apart : Judged ((j : ℕ) → j < suc n → (i : ℕ) → i < j → f i ≡ f j → ⊥) ((j : ℕ) × (j < suc n) × ((i : ℕ) × (i < j) × (f i ≡ f j))) apart?
   unfolding apart?
-  judged-apart =
-      judged-every (λ j. (i : ℕ) → i < j → f i ≡ f j → ⊥) (λ j. (i : ℕ) × (i < j) × (f i ≡ f j)) (λ j. every (λ i. not (eqb (f i) (f j))) j)
-      (λ j. judged-every (λ i. f i ≡ f j → ⊥) (λ i. f i ≡ f j) (λ i. not (eqb (f i) (f j))) (λ i. judged-not (judged-eqb (f i) (f j))) j) (suc n)
+  judged_apart =
+      judged_every (λ j. (i : ℕ) → i < j → f i ≡ f j → ⊥) (λ j. (i : ℕ) × (i < j) × (f i ≡ f j)) (λ j. every (λ i. not (eqb (f i) (f j))) j)
+      (λ j. judged_every (λ i. f i ≡ f j → ⊥) (λ i. f i ≡ f j) (λ i. not (eqb (f i) (f j))) (λ i. judged_not (judged_eqb (f i) (f j))) j) (suc n)
 
   none_apart : ((j : ℕ) → j < suc n → (i : ℕ) → i < j → f i ≡ f j → ⊥) → ⊥
   none_apart p =
@@ -44,5 +44,5 @@ module _ (n : ℕ) (f : ℕ → ℕ) (into : (i : ℕ) → i ≤ n → f i < n) 
   holes = go apart? refl
     where
       go : (b : Bool) → apart? ≡ b → Twice f n
-      go true h = absurd (none_apart (judged-apart.passed h))
-      go false h = let x = judged-apart.failed h in record { lo = x.2.0; hi = x.0; less = x.2.1; within = omega (arith, x.1); same = x.2.2 }
+      go true h = absurd (none_apart (judged_apart.passed h))
+      go false h = let x = judged_apart.failed h in record { lo = x.2.0; hi = x.0; less = x.2.1; within = omega (arith, x.1); same = x.2.2 }

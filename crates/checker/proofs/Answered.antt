@@ -6,32 +6,32 @@ use mathlib.Core.Option.{none}
 use lib.ListN.{length}
 use borrow.Author.Tests.{lt-ltb}
 use Rattle.narrowing.specs.Windows.{Win}
-use Rattle.narrowing.proofs.TooShort.{finds-too-short}
+use Rattle.narrowing.proofs.TooShort.{finds_too_short}
 use Rattle.joblist.specs.Limits.{jobs}
 use Rattle.answers.specs.Said.{Word, said}
-use Rattle.journal.specs.Journal.{roomOf, records}
-use Rattle.timetable.specs.Table.{Call, Admitted, TooShort, AllLong, refusalOf}
-use Rattle.timetable.proofs.Good.{durations-sized}
+use Rattle.journal.specs.Journal.{room_of, records}
+use Rattle.timetable.specs.Table.{Call, Admitted, TooShort, AllLong, refusal_of}
+use Rattle.timetable.proofs.Good.{durations_sized}
 use Rattle.replay.specs.declared.Ended.{Ended}
-use Rattle.checks.specs.Replay.{Verdict, holds, clashes, rejected, replay, verdictOn, Checked, finds, judged, refuses, rows, checked}
+use Rattle.checks.specs.Replay.{Verdict, holds, clashes, rejected, replay, verdict_on, Checked, finds, judged, refuses, rows, checked}
 use Rattle.checks.specs.Promise.{Claimed, Checks}
-use Rattle.exam.specs.Lent.{jobsIn}
+use Rattle.exam.specs.Lent.{jobs_in}
 use Rattle.replay.specs.Ended.{verdict}
 use Rattle.checks.proofs.Meaning.{checks}
-use Rattle.checks.proofs.Rows.{claimed-judged}
-use Rattle.checks.proofs.TooShort.{too-short-unclaimed, too-short-claimed}
+use Rattle.checks.proofs.Rows.{claimed_judged}
+use Rattle.checks.proofs.TooShort.{too_short_unclaimed, too_short_claimed}
 
 -- ---- the end of a replay that left the windows U
 
 module _ (c : Call) (count : ℕ) (v : Verdict) (r : Ended) (U : Win) (h : verdict r U ≡ v) where
-  pub row-holds : (W : Win) → W ≡ U → r ≡ Ended.Holds → finds (said Word.holds (count ∷ [])) W ≡ judged c count v
-  row-holds W e q = let z : holds U ≡ v = rw q at h in rw (← z, e)
+  pub row_holds : (W : Win) → W ≡ U → r ≡ Ended.Holds → finds (said Word.holds (count ∷ [])) W ≡ judged c count v
+  row_holds W e q = let z : holds U ≡ v = rw q at h in rw (← z, e)
 
-  pub row-clash : (j : ℕ) → r ≡ Ended.Clashes j → finds (said Word.clash (count ∷ j ∷ [])) c.win ≡ judged c count v
-  row-clash j q = let z : clashes j ≡ v = rw q at h in rw (← z)
+  pub row_clash : (j : ℕ) → r ≡ Ended.Clashes j → finds (said Word.clash (count ∷ j ∷ [])) c.win ≡ judged c count v
+  row_clash j q = let z : clashes j ≡ v = rw q at h in rw (← z)
 
-  pub row-rejected : (i k : ℕ) → r ≡ Ended.Rejected i k → finds (said Word.rejected (i ∷ k ∷ [])) c.win ≡ judged c count v
-  row-rejected i k q = let z : rejected i k ≡ v = rw q at h in rw (← z)
+  pub row_rejected : (i k : ℕ) → r ≡ Ended.Rejected i k → finds (said Word.rejected (i ∷ k ∷ [])) c.win ≡ judged c count v
+  row_rejected i k q = let z : rejected i k ≡ v = rw q at h in rw (← z)
 
 -- ---- the tests before it
 
@@ -40,24 +40,24 @@ module _ (c : Call) (count : ℕ) where
   pub promised : (a : Checked) → a ≡ checked c count → Checks c count a
   promised a e = subst (Checks c count) (sym e) (checks c count)
 
-  pub row-refused : (k : ℕ) → (k ≡ 0 → ⊥) → k ≡ refusalOf c → refuses c k ≡ checked c count
+  pub row_refused : (k : ℕ) → (k ≡ 0 → ⊥) → k ≡ refusal_of c → refuses c k ≡ checked c count
   unfolding checked rows
-  row-refused zero f e = absurd (f refl)
-  row-refused (suc k) f e = rw (← e)
+  row_refused zero f e = absurd (f refl)
+  row_refused (suc k) f e = rw (← e)
 
-  pub row-six : refusalOf c ≡ 0 → roomOf c.log < count → refuses c 6 ≡ checked c count
+  pub row_six : refusal_of c ≡ 0 → room_of c.log < count → refuses c 6 ≡ checked c count
   unfolding checked rows
-  row-six e h = rw (e, lt-ltb (roomOf c.log) count h)
+  row_six e h = rw (e, lt-ltb (room_of c.log) count h)
 
   -- a window is too short
-  pub row-short-claimed : (j : ℕ) → Admitted c → TooShort c j → 0 < count → count ≤ roomOf c.log → finds (said Word.rejected (0 ∷ 20 ∷ [])) c.win ≡ checked c count
-  row-short-claimed j g s b r = sym (too-short-claimed c count (checked c count) (checks c count) g j s b r)
+  pub row_short_claimed : (j : ℕ) → Admitted c → TooShort c j → 0 < count → count ≤ room_of c.log → finds (said Word.rejected (0 ∷ 20 ∷ [])) c.win ≡ checked c count
+  row_short_claimed j g s b r = sym (too_short_claimed c count (checked c count) (checks c count) g j s b r)
 
-  pub row-short-unclaimed : (j : ℕ) → Admitted c → TooShort c j → count ≡ 0 → finds (said Word.clash (0 ∷ j ∷ [])) c.win ≡ checked c count
-  row-short-unclaimed j g s e = sym (too-short-unclaimed c count (checked c count) (checks c count) g j s e)
+  pub row_short_unclaimed : (j : ℕ) → Admitted c → TooShort c j → count ≡ 0 → finds (said Word.clash (0 ∷ j ∷ [])) c.win ≡ checked c count
+  row_short_unclaimed j g s e = sym (too_short_unclaimed c count (checked c count) (checks c count) g j s e)
 
   -- no window is too short: the verdict is the replay's
-  pub row-judged : Claimed c count → AllLong c
-      → judged c count (replay (jobsIn (length c.p) c.p c.r c.cap) c.win 0 (records c.log 0 count)) ≡ checked c count
-  unfolding verdictOn
-  row-judged g L = rw (durations-sized g.0.0, claimed-judged c count g, finds-too-short (jobs c.win) c.p c.win none L)
+  pub row_judged : Claimed c count → AllLong c
+      → judged c count (replay (jobs_in (length c.p) c.p c.r c.cap) c.win 0 (records c.log 0 count)) ≡ checked c count
+  unfolding verdict_on
+  row_judged g L = rw (durations_sized g.0.0, claimed_judged c count g, finds_too_short (jobs c.win) c.p c.win none L)

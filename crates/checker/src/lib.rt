@@ -2,12 +2,12 @@
 // the log holds.
 ghost use Rattle.std.specs.Prelude.{◌≡◌, [], ◌≤◌, length};
 ghost use Rattle.narrowing.specs.Windows.{win};
-ghost use Rattle.answers.specs.Said.{saysCheck};
-ghost use Rattle.journal.specs.Journal.{roomOf, records};
+ghost use Rattle.answers.specs.Said.{says_check};
+ghost use Rattle.journal.specs.Journal.{room_of, records};
 ghost use Rattle.timetable.specs.Table.{call, Good};
 ghost use Rattle.checks.specs.Replay.{replay, finds, judged};
 ghost use Rattle.checks.specs.Promise.{Checks};
-ghost use Rattle.exam.specs.Lent.{jobsIn};
+ghost use Rattle.exam.specs.Lent.{jobs_in};
 
 use answers::CheckAnswer;
 use replay::Ended;
@@ -22,8 +22,8 @@ fn on_copies(
     log: &[u32],
     count: usize,
 ) -> CheckAnswer
-    requires { Good (call (win est.old lct.old) dur.now dem.now cap []) × (count ≤ roomOf log.now) }
-    ensures { finds (saysCheck result) (win est.new lct.new) ≡ judged (call (win est.old lct.old) dur.now dem.now cap log.now) count (replay (jobsIn (length dur.now) dur.now dem.now cap) (win est.old lct.old) 0 (records log.now 0 count)) }
+    requires { Good (call (win est.old lct.old) dur.now dem.now cap []) × (count ≤ room_of log.now) }
+    ensures { finds (says_check result) (win est.new lct.new) ≡ judged (call (win est.old lct.old) dur.now dem.now cap log.now) count (replay (jobs_in (length dur.now) dur.now dem.now cap) (win est.old lct.old) 0 (records log.now 0 count)) }
 {
     let n = est.len();
     let mut starts = [0u32; screen::MOST_JOBS];
@@ -55,13 +55,13 @@ pub fn check_log(
     log: &[u32],
     count: usize,
 ) -> CheckAnswer
-    ensures { Checks (call (win est.old lct.old) dur.now dem.now cap log.now) count (finds (saysCheck result) (win est.new lct.new)) }
+    ensures { Checks (call (win est.old lct.old) dur.now dem.now cap log.now) count (finds (says_check result) (win est.new lct.new)) }
 {
     let number = admission::refusal(est, lct, dur, dem, cap, log);
     if number != 0 {
         return CheckAnswer::Refused(number);
     }
-    if logbook::room(log) < count {
+    if logs::room(log) < count {
         return CheckAnswer::Refused(6);
     }
     let short = windows::lowest_too_short(est, lct, dur);

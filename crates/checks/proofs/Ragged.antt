@@ -6,14 +6,14 @@ use mathlib.Core.List.{[], ◌∷◌}
 use mathlib.Core.Logic.{◌↔◌}
 use Rattle.answers.specs.Said.{Word, said}
 use Rattle.journal.specs.Journal.{Ragged}
-use Rattle.timetable.specs.Table.{Call, jobsOf, asks, Good}
+use Rattle.timetable.specs.Table.{Call, jobs_of, asks, Good}
 use Rattle.verdicts.proofs.Ragged as general
 use Rattle.checks.specs.Replay.{trial, Checked, refuses}
 use Rattle.checks.specs.Promise.{Exactly}
 
 module _ (c : Call) (count : ℕ) (a : Checked) (x : Exactly c count a) where
-  pub ragged-exactly : (a.says ≡ said Word.refused (7 ∷ [])) ↔ (Good c × Ragged c.log)
-  ragged-exactly = general.ragged-exactly (trial (jobsOf c)) (asks c) count a x
+  pub ragged_exactly : (a.says ≡ said Word.refused (7 ∷ [])) ↔ (Good c × Ragged c.log)
+  ragged_exactly = general.ragged_exactly (trial (jobs_of c)) (asks c) count a x
 
-  pub ragged-row : Good c → Ragged c.log → a ≡ refuses c 7
-  ragged-row = general.ragged-row (trial (jobsOf c)) (asks c) count a x
+  pub ragged_row : Good c → Ragged c.log → a ≡ refuses c 7
+  ragged_row = general.ragged_row (trial (jobs_of c)) (asks c) count a x

@@ -7,15 +7,15 @@ use mathlib.Core.Path.{◌≡◌, refl, ◌∙◌}
 use mathlib.Core.List.{[], ◌∷◌}
 use mathlib.Core.Logic.{inl}
 use Rattle.answers.specs.Said.{Word, said}
-use Rattle.journal.specs.Journal.{roomOf}
+use Rattle.journal.specs.Journal.{room_of}
 use Rattle.timetable.specs.Table.{Call, Admitted, TooShort}
 use Rattle.checks.specs.Replay.{clashes, rejected, Checked, finds}
 use Rattle.checks.specs.Promise.{Checks}
-use Rattle.checks.proofs.Rows.{fate-answers}
+use Rattle.checks.proofs.Rows.{fate_answers}
 
 module _ (c : Call) (count : ℕ) (a : Checked) (h : Checks c count a) (g : Admitted c) (j : ℕ) (s : TooShort c j) where
-  pub too-short-unclaimed : count ≡ 0 → a ≡ finds (said Word.clash (0 ∷ j ∷ [])) c.win
-  too-short-unclaimed e = fate-answers c count a h (clashes j) (g, omega arith) (rw e s) ∙ rw e
+  pub too_short_unclaimed : count ≡ 0 → a ≡ finds (said Word.clash (0 ∷ j ∷ [])) c.win
+  too_short_unclaimed e = fate_answers c count a h (clashes j) (g, omega arith) (rw e s) ∙ rw e
 
-  pub too-short-claimed : 0 < count → count ≤ roomOf c.log → a ≡ finds (said Word.rejected (0 ∷ 20 ∷ [])) c.win
-  too-short-claimed b r = fate-answers c count a h (rejected 0 20) (g, r) (b, inl (j, s, refl))
+  pub too_short_claimed : 0 < count → count ≤ room_of c.log → a ≡ finds (said Word.rejected (0 ∷ 20 ∷ [])) c.win
+  too_short_claimed b r = fate_answers c count a h (rejected 0 20) (g, r) (b, inl (j, s, refl))

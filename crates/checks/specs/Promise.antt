@@ -1,9 +1,9 @@
 -- What the checker promises, of a call, the number of claimed records, and what it finds (the mission's demand 2; document 02, Items 3, 7 and 10).
 use Rattle.std.specs.Prelude.{ℕ, ◌<◌, ◌≡◌, List, [], ◌∷◌}
 use Rattle.answers.specs.Said.{Word, said}
-use Rattle.timetable.specs.Table.{Call, call, jobsOf, asks, After}
+use Rattle.timetable.specs.Table.{Call, call, jobs_of, asks, After}
 use Rattle.timetable.specs.Promise.{Scheduled, Narrows}
-pub use Rattle.verdicts.specs.Promise.{takenBy, taken}
+pub use Rattle.verdicts.specs.Promise.{taken_by, taken}
 use Rattle.verdicts.specs.Promise as promise
 use Rattle.checks.specs.Replay.{ReasonedOn, trial, Checked, finds, checked}
 use Rattle.checks.specs.Fate.{nth, reached}
@@ -11,11 +11,11 @@ use Rattle.checks.specs.Fate.{nth, reached}
 -- record i implies its own change from the facts that it names, for any whole starts; the facts hold of all starts in the windows reached; and it names
 -- no member that it could do without
 abbrev pub Reasoned : Call → ℕ → Type 0
-Reasoned c i = ReasonedOn (jobsOf c) (reached c i) (nth c i)
+Reasoned c i = ReasonedOn (jobs_of c) (reached c i) (nth c i)
 
 -- each answer exactly when the paper says so, in facts of the log, and the windows that it leaves; refusal k's row
 abbrev pub Exactly : Call → ℕ → Checked → Type 0
-Exactly c = promise.Exactly (trial (jobsOf c)) (asks c)
+Exactly c = promise.Exactly (trial (jobs_of c)) (asks c)
 
 abbrev pub RefusedRow : Call → ℕ → ℕ → Type 0
 RefusedRow c = promise.RefusedRow (asks c)

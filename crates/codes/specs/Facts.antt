@@ -3,20 +3,20 @@
 use Rattle.std.specs.Prelude.{ℕ, ◌+◌, ◌≤◌, ◌<◌, ◌≡◌, true, List}
 use Rattle.lists.specs.Lists.{◌!◌}
 use Rattle.narrowing.specs.Windows.{Win, Side, early, late, side_of}
-use Rattle.joblist.specs.Limits.{mostTime}
-use Rattle.journal.specs.Journal.{sideWord, job_of, timeOf, isMember}
+use Rattle.joblist.specs.Limits.{most_time}
+use Rattle.journal.specs.Journal.{side_word, job_of, time_of, is_member}
 use Rattle.timetable.specs.Time.{Jobs, Sure}
 use Rattle.timetable.specs.Reason.{Counted, Exceeds, Lean}
 
 -- a record's side
 abbrev pub side : List ℕ → Side
-side x = side_of (x ! sideWord)
+side x = side_of (x ! side_word)
 
 -- 21: job in the list, side at most 1, time at most its limit
 pub record InRange (J : Jobs) (x : List ℕ) : Type 0 where
   pub job : job_of x < J.n
-  pub side : x ! sideWord ≤ 1
-  pub time : timeOf x ≤ mostTime
+  pub side : x ! side_word ≤ 1
+  pub time : time_of x ≤ most_time
 
 -- a job can take part: it is in the list, with a duration and a demand
 pub record TakesPart (J : Jobs) (k : ℕ) : Type 0 where
@@ -28,7 +28,7 @@ pub record TakesPart (J : Jobs) (k : ℕ) : Type 0 where
 pub record Partners (J : Jobs) (x : List ℕ) : Type 0 where
   pub lasts : 1 ≤ J.p ! job_of x
   pub takes : 1 ≤ J.r ! job_of x
-  pub members : (k : ℕ) → isMember x k ≡ true → TakesPart J k × (k ≡ job_of x → ⊥)
+  pub members : (k : ℕ) → is_member x k ≡ true → TakesPart J k × (k ≡ job_of x → ⊥)
 
 -- 23, 24 and 27 ask for facts of the record alone: `Counted`, `Exceeds` and `Lean` (`timetable: Reason`)
 
@@ -39,8 +39,8 @@ OwnTrue p W j late t = W.l ! j ≤ t + p ! j
 
 -- 25: the stated facts are true of the windows W: each member starts no earlier than t - p + 1 and no later than t
 pub record StatedTrue (J : Jobs) (W : Win) (x : List ℕ) : Type 0 where
-  pub own : OwnTrue J.p W (job_of x) (side x) (timeOf x)
-  pub members : (k : ℕ) → isMember x k ≡ true → Sure J.p W k (timeOf x)
+  pub own : OwnTrue J.p W (job_of x) (side x) (time_of x)
+  pub members : (k : ℕ) → is_member x k ≡ true → Sure J.p W k (time_of x)
 
 -- 26: the change tightens
 abbrev pub Tightens : Win → ℕ → Side → ℕ → Type 0
@@ -49,12 +49,12 @@ Tightens W j late t = t < W.l ! j
 
 -- the facts of 21 to 26: all that a record's change needs
 pub record Passes (J : Jobs) (W : Win) (x : List ℕ) : Type 0 where
-  pub in-range : InRange J x
+  pub in_range : InRange J x
   pub partners : Partners J x
   pub counted : Counted x
   pub exceeds : Exceeds J x
   pub stated : StatedTrue J W x
-  pub tightens : Tightens W (job_of x) (side x) (timeOf x)
+  pub tightens : Tightens W (job_of x) (side x) (time_of x)
 
 -- a good record
 pub record GoodRecord (J : Jobs) (W : Win) (x : List ℕ) : Type 0 where

@@ -11,44 +11,44 @@ use borrow.Author.Tests.{ne_eqb}
 use Rattle.lists.specs.Lists.{◌!◌}
 use Rattle.lists.specs.Tests.{both, only}
 use Rattle.lists.specs.Sets.{Set, total_of}
-use Rattle.lists.proofs.Tests.{true-both}
-use Rattle.lists.proofs.Sums.{total-le, placed-le}
+use Rattle.lists.proofs.Tests.{true_both}
+use Rattle.lists.proofs.Sums.{total_le, placed_le}
 use Rattle.narrowing.specs.Windows.{Win, Side, early, late, Long, Respects}
 use Rattle.narrowing.specs.Rules.{Stable}
 use Rattle.joblist.specs.Limits.{jobs}
-use Rattle.journal.specs.Journal.{records, job_of, timeOf, isMember}
+use Rattle.journal.specs.Journal.{records, job_of, time_of, is_member}
 use Rattle.timetable.specs.Time.{Jobs, sure, load, Crowded, bound}
-use Rattle.timetable.specs.Table.{Call, jobsOf}
+use Rattle.timetable.specs.Table.{Call, jobs_of}
 use Rattle.timetable.specs.Promise.{StableIn, NoneIn}
-use Rattle.timetable.proofs.Facts.{yes-sure}
+use Rattle.timetable.proofs.Facts.{yes_sure}
 use Rattle.codes.specs.Facts.{side, OwnTrue}
 use Rattle.checks.specs.Replay.{changed}
 use Rattle.checks.specs.Fate.{nth, reached, Takes, Shut}
 use Rattle.verdicts.specs.Fate as fate
-use Rattle.conflicts.specs.Marks.{markedBy}
+use Rattle.conflicts.specs.Marks.{marked_by}
 use Rattle.conflicts.specs.Apart.{Among}
-use Rattle.conflicts.proofs.Narrower.{Narrower, moved-narrower}
-use Rattle.conflicts.proofs.Marks.{marked_more, marked-members, marked-own}
-use Rattle.conflicts.proofs.Shut.{shut-takes}
+use Rattle.conflicts.proofs.Narrower.{Narrower, moved_narrower}
+use Rattle.conflicts.proofs.Marks.{marked_more, marked_members, marked_own}
+use Rattle.conflicts.proofs.Shut.{shut_takes}
 
-module _ (c d : Call) (π : ℕ → ℕ) (count j : ℕ) (among : Among (markedBy j (records c.log 0 count)) c d π) (Y : Win) (fine : StableIn d Y) where
+module _ (c d : Call) (π : ℕ → ℕ) (count j : ℕ) (among : Among (marked_by j (records c.log 0 count)) c d π) (Y : Win) (fine : StableIn d Y) where
   abbrev J : Jobs
-  J = jobsOf c
+  J = jobs_of c
 
   abbrev K : Jobs
-  K = jobsOf d
+  K = jobs_of d
 
   -- those whom the records from i on mark, m of them; they are marked at the end
   abbrev ahead : ℕ → ℕ → Set
-  ahead i m = markedBy j (records c.log i m)
+  ahead i m = marked_by j (records c.log i m)
 
   one_more : (i m k : ℕ) → ahead (suc i) m k ≡ true → ahead i (suc m) k ≡ true
   unfolding records
   one_more i m k h = marked_more j (nth c i) (records c.log (suc i) m) k h
 
-  its-members : (i m k : ℕ) → ahead (suc i) m (job_of (nth c i)) ≡ true → isMember (nth c i) k ≡ true → ahead i (suc m) k ≡ true
+  its_members : (i m k : ℕ) → ahead (suc i) m (job_of (nth c i)) ≡ true → is_member (nth c i) k ≡ true → ahead i (suc m) k ≡ true
   unfolding records
-  its-members i m k e h = marked-members j (nth c i) (records c.log (suc i) m) k e h
+  its_members i m k e h = marked_members j (nth c i) (records c.log (suc i) m) k e h
 
   at-end : (i m k : ℕ) → i + m ≡ count → ahead i m k ≡ true → ahead 0 count k ≡ true
   at-end zero m k e h = let z : m ≡ count = omega arith in subst (λ (n : ℕ). ahead 0 n k ≡ true) z h
@@ -64,74 +64,74 @@ module _ (c d : Call) (π : ℕ → ℕ) (count j : ℕ) (among : Among (markedB
     abbrev own : ℕ
     own = job_of (nth c i)
 
-    own-listed : own < J.n
-    own-listed = good.passes.in-range.job
+    own_listed : own < J.n
+    own_listed = good.passes.in_range.job
 
-    own-marked : ahead 0 count own ≡ true
-    own-marked = at-end (suc i) m own here kept
+    own_marked : ahead 0 count own ≡ true
+    own_marked = at-end (suc i) m own here kept
 
-    member-marked : (k : ℕ) → isMember x k ≡ true → ahead 0 count k ≡ true
-    member-marked k h = at-end i (suc m) k (omega arith) (its-members i m k kept h)
+    member_marked : (k : ℕ) → is_member x k ≡ true → ahead 0 count k ≡ true
+    member_marked k h = at-end i (suc m) k (omega arith) (its_members i m k kept h)
 
-    own-there : Narrower Y (π own) (reached c i) own
-    own-there = so_far own own-listed (one_more i m own kept)
+    own_there : Narrower Y (π own) (reached c i) own
+    own_there = so_far own own_listed (one_more i m own kept)
 
     -- what a job of d draws at the record's time, beside the moved one
     abbrev beside : ℕ → Bool
-    beside q = both (not (eqb q (π own))) (sure K.p Y q (timeOf x))
+    beside q = both (not (eqb q (π own))) (sure K.p Y q (time_of x))
 
     -- the members' sure parts in Y hold that time
-    member-beside : (k : ℕ) → k < J.n → isMember x k ≡ true → beside (π k) ≡ true
-    member-beside k b h =
+    member_beside : (k : ℕ) → k < J.n → is_member x k ≡ true → beside (π k) ≡ true
+    member_beside k b h =
         let s = good.passes.stated.members k h in
-        let w = so_far k b (its-members i m k kept h) in
-        let p = among.lasts k b (member-marked k h) in
-        let ne : π k ≡ π own → ⊥ = λ e. (good.passes.partners.members k h).1 (among.apart k own b own-listed (member-marked k h) own-marked e) in
-        true-both (not (eqb (π k) (π own))) (sure K.p Y (π k) (timeOf x)) (rw (ne_eqb (π k) (π own) ne))
-        (yes-sure K.p Y (π k) (timeOf x) (record { from = omega (arith, s.from, w.late, p); to = omega (arith, s.to, w.early, p) }))
+        let w = so_far k b (its_members i m k kept h) in
+        let p = among.lasts k b (member_marked k h) in
+        let ne : π k ≡ π own → ⊥ = λ e. (good.passes.partners.members k h).1 (among.apart k own b own_listed (member_marked k h) own_marked e) in
+        true_both (not (eqb (π k) (π own))) (sure K.p Y (π k) (time_of x)) (rw (ne_eqb (π k) (π own) ne))
+        (yes_sure K.p Y (π k) (time_of x) (record { from = omega (arith, s.from, w.late, p); to = omega (arith, s.to, w.early, p) }))
 
-    members-load : total_of J.n J.r (isMember x) ≤ load K Y (π own) (timeOf x)
+    members_load : total_of J.n J.r (is_member x) ≤ load K Y (π own) (time_of x)
     unfolding total_of load
-    members-load =
+    members_load =
         let f : ℕ → ℕ = λ q. only (beside q) (K.r ! q) in
         omega (
           arith,
-          total-le (λ k. only (isMember x k) (J.r ! k)) (λ k. only (isMember x k) (f (π k))) J.n (λ k b. by k b (isMember x k) refl),
-          placed-le (isMember x) π J.n K.n
-              (λ k b h. among.listed k b (member-marked k h))
-              (λ a k b e h g. among.apart a k b e (member-marked a h) (member-marked k g))
+          total_le (λ k. only (is_member x k) (J.r ! k)) (λ k. only (is_member x k) (f (π k))) J.n (λ k b. by k b (is_member x k) refl),
+          placed_le (is_member x) π J.n K.n
+              (λ k b h. among.listed k b (member_marked k h))
+              (λ a k b e h g. among.apart a k b e (member_marked a h) (member_marked k g))
               f,
         )
       where
-        by : (k : ℕ) → k < J.n → (y : Bool) → isMember x k ≡ y → only y (J.r ! k) ≤ only y (only (beside (π k)) (K.r ! π k))
-        by k b true h = rw (member-beside k b h) (among.takes k b (member-marked k h))
+        by : (k : ℕ) → k < J.n → (y : Bool) → is_member x k ≡ y → only y (J.r ! k) ≤ only y (only (beside (π k)) (K.r ! π k))
+        by k b true h = rw (member_beside k b h) (among.takes k b (member_marked k h))
         by k b false h = omega arith
 
-    crowded-there : Crowded K Y (π own) (timeOf x)
-    crowded-there =
-        let r = among.takes own own-listed own-marked in
+    crowded_there : Crowded K Y (π own) (time_of x)
+    crowded_there =
+        let r = among.takes own own_listed own_marked in
         record {
-          lasts = omega (arith, good.passes.partners.lasts, among.lasts own own-listed own-marked);
+          lasts = omega (arith, good.passes.partners.lasts, among.lasts own own_listed own_marked);
           takes = omega (arith, good.passes.partners.takes, r);
-          over = omega (arith, r, members-load, good.passes.exceeds, among.supply);
+          over = omega (arith, r, members_load, good.passes.exceeds, among.supply);
         }
 
     -- so Y, to which no rule applies, respects the record's bound
-    respected : (v : Side) → OwnTrue J.p (reached c i) own v (timeOf x) → Respects Y (π own) v (bound v (timeOf x))
+    respected : (v : Side) → OwnTrue J.p (reached c i) own v (time_of x) → Respects Y (π own) v (bound v (time_of x))
     unfolding Stable
     respected early o =
-        elim (dec_lt (timeOf x) (Y.e ! π own)) [
+        elim (dec_lt (time_of x) (Y.e ! π own)) [
           | yes h ↦ h
           | no h ↦
-              absurd (fine.stable (π own) early (suc (timeOf x)) (among.listed own own-listed own-marked)
-              (record { from = omega arith; to = omega (arith, own-there.early, among.lasts own own-listed own-marked); crowded = crowded-there }))
+              absurd (fine.stable (π own) early (suc (time_of x)) (among.listed own own_listed own_marked)
+              (record { from = omega arith; to = omega (arith, own_there.early, among.lasts own own_listed own_marked); crowded = crowded_there }))
         ]
     respected late o =
-        elim (dec_le (Y.l ! π own) (timeOf x)) [
+        elim (dec_le (Y.l ! π own) (time_of x)) [
           | yes h ↦ h
           | no h ↦
-              absurd (fine.stable (π own) late (timeOf x) (among.listed own own-listed own-marked)
-              (record { from = omega (arith, own-there.late, among.lasts own own-listed own-marked); to = omega arith; crowded = crowded-there }))
+              absurd (fine.stable (π own) late (time_of x) (among.listed own own_listed own_marked)
+              (record { from = omega (arith, own_there.late, among.lasts own own_listed own_marked); to = omega arith; crowded = crowded_there }))
         ]
 
   -- ---- the records one after the other
@@ -152,9 +152,9 @@ module _ (c d : Call) (π : ℕ → ℕ) (count j : ℕ) (among : Among (markedB
   within_step : (i : ℕ) → Takes c i → Within i → Within (suc i)
   unfolding fate.reached changed
   within_step i good so_far m e k b h =
-      moved-narrower Y (reached c i) (π k) (job_of (nth c i)) k (side (nth c i)) (bound (side (nth c i)) (timeOf (nth c i)))
+      moved_narrower Y (reached c i) (π k) (job_of (nth c i)) k (side (nth c i)) (bound (side (nth c i)) (time_of (nth c i)))
       (so_far (suc m) (omega arith) k b (one_more i m k h))
-      (λ q. subst (λ (y : ℕ). Respects Y (π y) (side (nth c i)) (bound (side (nth c i)) (timeOf (nth c i)))) (sym q)
+      (λ q. subst (λ (y : ℕ). Respects Y (π y) (side (nth c i)) (bound (side (nth c i)) (time_of (nth c i)))) (sym q)
       (respected i m e good (subst (λ (y : ℕ). ahead (suc i) m y ≡ true) q h) (so_far (suc m) (omega arith)) (side (nth c i)) good.passes.stated.own))
 
   within : (i : ℕ) → ((h : ℕ) → h < i → Takes c h) → Within i
@@ -162,11 +162,11 @@ module _ (c d : Call) (π : ℕ → ℕ) (count j : ℕ) (among : Among (markedB
   within (suc i) t = within_step i (t i (omega arith)) (within i (λ h q. t h (omega arith)))
 
 -- a log that the checker takes to a clash
-pub marked-none : (c d : Call) (π : ℕ → ℕ) (count j : ℕ) → Shut c count j → Among (markedBy j (records c.log 0 count)) c d π → NoneIn d
+pub marked_none : (c d : Call) (π : ℕ → ℕ) (count j : ℕ) → Shut c count j → Among (marked_by j (records c.log 0 count)) c d π → NoneIn d
 unfolding Long fate.reached
-marked-none c d π zero j x among Y fine =
+marked_none c d π zero j x among Y fine =
     let b = x.listed in
-    let q = marked-own j (records c.log 0 0) in
+    let q = marked_own j (records c.log 0 0) in
     let i = among.listed j b q in
     omega (
       arith,
@@ -178,12 +178,12 @@ marked-none c d π zero j x among Y fine =
       fine.long (π j) i,
       x.shorter,
     )
-marked-none c d π (suc h) j (x, e) among Y fine =
+marked_none c d π (suc h) j (x, e) among Y fine =
     let own = job_of (nth c h) in
-    let b : own < jobs c.win = x.takes.passes.in-range.job in
+    let b : own < jobs c.win = x.takes.passes.in_range.job in
     let z : suc h + 0 ≡ suc h = omega arith in
-    let q : markedBy j (records c.log (suc h) 0) own ≡ true =
-    subst (λ (y : ℕ). markedBy j (records c.log (suc h) 0) y ≡ true) e (marked-own j (records c.log (suc h) 0)) in
-    let w = within c d π (suc h) j among Y fine (suc h) (shut-takes c (suc h) j (x, e)) 0 z own b q in
+    let q : marked_by j (records c.log (suc h) 0) own ≡ true =
+    subst (λ (y : ℕ). marked_by j (records c.log (suc h) 0) y ≡ true) e (marked_own j (records c.log (suc h) 0)) in
+    let w = within c d π (suc h) j among Y fine (suc h) (shut_takes c (suc h) j (x, e)) 0 z own b q in
     let end = at-end c d π (suc h) j among Y fine (suc h) 0 own z q in
     omega (arith, w.early, w.late, among.lasts own b end, fine.long (π own) (among.listed own b end), x.closed)

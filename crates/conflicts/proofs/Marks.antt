@@ -10,95 +10,95 @@ use mathlib.Core.Logic.{◌⊎◌, inl, inr, ◌↔◌}
 use lib.ListN.{length, length-drop}
 use borrow.Author.Tests.{eq-eqb, ne_eqb, eqb-true}
 use Rattle.lists.specs.Tests.{both}
-use Rattle.lists.proofs.Tests.{both_true, true-both, both_false, either_left, either-right, either_true}
-use Rattle.members.specs.Members.{setWords, has, setOf}
-use Rattle.members.proofs.Sets.{setOf-length, has-setOf, has-past}
-use Rattle.joblist.specs.Limits.{mostJobs}
-use Rattle.journal.specs.Journal.{headWords, roomOf, records, AreRecords, job_of, isMember, setOfRecord}
-use Rattle.journal.proofs.Records.{record-length}
-use Rattle.conflicts.specs.Marks.{markedBy, Traced}
-use Rattle.conflicts.specs.Table.{marksOf}
+use Rattle.lists.proofs.Tests.{both_true, true_both, both_false, either_left, either_right, either_true}
+use Rattle.members.specs.Members.{set_words, has, setOf}
+use Rattle.members.proofs.Sets.{set_of_length, has_set_of, has_past}
+use Rattle.joblist.specs.Limits.{most_jobs}
+use Rattle.journal.specs.Journal.{head_words, room_of, records, AreRecords, job_of, is_member, set_of_record}
+use Rattle.journal.proofs.Records.{record_length}
+use Rattle.conflicts.specs.Marks.{marked_by, Traced}
+use Rattle.conflicts.specs.Table.{marks_of}
 
 -- ---- one more record in front
 
 module _ (j : ℕ) (x : List ℕ) (xs : List (List ℕ)) (k : ℕ) where
-  pub marked_more : markedBy j xs k ≡ true → markedBy j (x ∷ xs) k ≡ true
-  unfolding markedBy
-  marked_more h = either_left (markedBy j xs k) _ h
+  pub marked_more : marked_by j xs k ≡ true → marked_by j (x ∷ xs) k ≡ true
+  unfolding marked_by
+  marked_more h = either_left (marked_by j xs k) _ h
 
-  pub marked-members : markedBy j xs (job_of x) ≡ true → isMember x k ≡ true → markedBy j (x ∷ xs) k ≡ true
-  unfolding markedBy
-  marked-members e h = either-right (markedBy j xs k) _ (true-both (markedBy j xs (job_of x)) (isMember x k) e h)
+  pub marked_members : marked_by j xs (job_of x) ≡ true → is_member x k ≡ true → marked_by j (x ∷ xs) k ≡ true
+  unfolding marked_by
+  marked_members e h = either_right (marked_by j xs k) _ (true_both (marked_by j xs (job_of x)) (is_member x k) e h)
 
-  pub marked-cases : markedBy j (x ∷ xs) k ≡ true → (markedBy j xs k ≡ true) ⊎ ((markedBy j xs (job_of x) ≡ true) × (isMember x k ≡ true))
-  unfolding markedBy
-  marked-cases h =
-      elim (either_true (markedBy j xs k) (both (markedBy j xs (job_of x)) (isMember x k)) h) [
+  pub marked_cases : marked_by j (x ∷ xs) k ≡ true → (marked_by j xs k ≡ true) ⊎ ((marked_by j xs (job_of x) ≡ true) × (is_member x k ≡ true))
+  unfolding marked_by
+  marked_cases h =
+      elim (either_true (marked_by j xs k) (both (marked_by j xs (job_of x)) (is_member x k)) h) [
         | inl a ↦ inl a
-        | inr a ↦ inr (both_true (markedBy j xs (job_of x)) (isMember x k) a)
+        | inr a ↦ inr (both_true (marked_by j xs (job_of x)) (is_member x k) a)
       ]
 
 -- the job of the clash is always marked
-pub marked-own : (j : ℕ) (xs : List (List ℕ)) → markedBy j xs j ≡ true
-unfolding markedBy
-marked-own j [] = eq-eqb j j refl
-marked-own j (x ∷ xs) = marked_more j x xs j (marked-own j xs)
+pub marked_own : (j : ℕ) (xs : List (List ℕ)) → marked_by j xs j ≡ true
+unfolding marked_by
+marked_own j [] = eq-eqb j j refl
+marked_own j (x ∷ xs) = marked_more j x xs j (marked_own j xs)
 
 -- with no record nobody else is
-pub marked-alone : (j k : ℕ) → (markedBy j [] k ≡ true) ↔ (k ≡ j)
-unfolding markedBy
-marked-alone j k = (eqb-true k j, λ e. eq-eqb k j e)
+pub marked_alone : (j k : ℕ) → (marked_by j [] k ≡ true) ↔ (k ≡ j)
+unfolding marked_by
+marked_alone j k = (eqb-true k j, λ e. eq-eqb k j e)
 
 -- the closing record's are its job and its members
-pub marked-closing : (x : List ℕ) (k : ℕ) → (markedBy (job_of x) (x ∷ []) k ≡ true) ↔ ((k ≡ job_of x) ⊎ (isMember x k ≡ true))
-marked-closing x k = (λ h. there (marked-cases (job_of x) x [] k h), back)
+pub marked_closing : (x : List ℕ) (k : ℕ) → (marked_by (job_of x) (x ∷ []) k ≡ true) ↔ ((k ≡ job_of x) ⊎ (is_member x k ≡ true))
+marked_closing x k = (λ h. there (marked_cases (job_of x) x [] k h), back)
   where
-    there : (markedBy (job_of x) [] k ≡ true) ⊎ ((markedBy (job_of x) [] (job_of x) ≡ true) × (isMember x k ≡ true)) → (k ≡ job_of x) ⊎ (isMember x k ≡ true)
-    there (inl h) = inl ((marked-alone (job_of x) k).0 h)
+    there : (marked_by (job_of x) [] k ≡ true) ⊎ ((marked_by (job_of x) [] (job_of x) ≡ true) × (is_member x k ≡ true)) → (k ≡ job_of x) ⊎ (is_member x k ≡ true)
+    there (inl h) = inl ((marked_alone (job_of x) k).0 h)
     there (inr h) = inr h.1
 
-    back : (k ≡ job_of x) ⊎ (isMember x k ≡ true) → markedBy (job_of x) (x ∷ []) k ≡ true
-    back (inl e) = marked_more (job_of x) x [] k ((marked-alone (job_of x) k).1 e)
-    back (inr h) = marked-members (job_of x) x [] k (marked-own (job_of x) []) h
+    back : (k ≡ job_of x) ⊎ (is_member x k ≡ true) → marked_by (job_of x) (x ∷ []) k ≡ true
+    back (inl e) = marked_more (job_of x) x [] k ((marked_alone (job_of x) k).1 e)
+    back (inr h) = marked_members (job_of x) x [] k (marked_own (job_of x) []) h
 
 -- ---- marked exactly if traced
 
-traced-marked : (j : ℕ) (xs : List (List ℕ)) (k : ℕ) → Traced j xs k → markedBy j xs k ≡ true
-traced-marked j xs k (Traced.own) = marked-own j xs
-traced-marked j (x ∷ xs) k (Traced.behind t) = marked_more j x xs k (traced-marked j xs k t)
-traced-marked j (x ∷ xs) k (Traced.through t h) = marked-members j x xs k (traced-marked j xs (job_of x) t) h
+traced_marked : (j : ℕ) (xs : List (List ℕ)) (k : ℕ) → Traced j xs k → marked_by j xs k ≡ true
+traced_marked j xs k (Traced.own) = marked_own j xs
+traced_marked j (x ∷ xs) k (Traced.behind t) = marked_more j x xs k (traced_marked j xs k t)
+traced_marked j (x ∷ xs) k (Traced.through t h) = marked_members j x xs k (traced_marked j xs (job_of x) t) h
 
-marked-is-traced : (j : ℕ) (xs : List (List ℕ)) (k : ℕ) → markedBy j xs k ≡ true → Traced j xs k
-marked-is-traced j [] k h = let e : k ≡ j = (marked-alone j k).0 h in rw e Traced.own
-marked-is-traced j (x ∷ xs) k h =
-    elim (marked-cases j x xs k h) [ inl a ↦ Traced.behind (marked-is-traced j xs k a) | inr a ↦ Traced.through (marked-is-traced j xs (job_of x) a.0) a.1 ]
+marked_is_traced : (j : ℕ) (xs : List (List ℕ)) (k : ℕ) → marked_by j xs k ≡ true → Traced j xs k
+marked_is_traced j [] k h = let e : k ≡ j = (marked_alone j k).0 h in rw e Traced.own
+marked_is_traced j (x ∷ xs) k h =
+    elim (marked_cases j x xs k h) [ inl a ↦ Traced.behind (marked_is_traced j xs k a) | inr a ↦ Traced.through (marked_is_traced j xs (job_of x) a.0) a.1 ]
 
-pub marked-traced : (j : ℕ) (xs : List (List ℕ)) (k : ℕ) → (markedBy j xs k ≡ true) ↔ Traced j xs k
-marked-traced j xs k = (marked-is-traced j xs k, traced-marked j xs k)
+pub marked_traced : (j : ℕ) (xs : List (List ℕ)) (k : ℕ) → (marked_by j xs k ≡ true) ↔ Traced j xs k
+marked_traced j xs k = (marked_is_traced j xs k, traced_marked j xs k)
 
 -- ---- as a member set
 
 -- no number beyond the words is marked
-marked-past : (j : ℕ) (xs : List (List ℕ)) (k : ℕ) → AreRecords xs → j < mostJobs → mostJobs ≤ k → markedBy j xs k ≡ false
-unfolding markedBy
-marked-past j [] k r low h = ne_eqb k j (λ e. omega arith)
-marked-past j (x ∷ xs) k r low h =
-    let long : length (setOfRecord x) ≡ setWords = length-drop headWords x ∙ rw r.0 in
-    rw (marked-past j xs k r.1 low h, has-past (setOfRecord x) k (omega arith)) (both_false (markedBy j xs (job_of x)))
+marked_past : (j : ℕ) (xs : List (List ℕ)) (k : ℕ) → AreRecords xs → j < most_jobs → most_jobs ≤ k → marked_by j xs k ≡ false
+unfolding marked_by
+marked_past j [] k r low h = ne_eqb k j (λ e. omega arith)
+marked_past j (x ∷ xs) k r low h =
+    let long : length (set_of_record x) ≡ set_words = length-drop head_words x ∙ rw r.0 in
+    rw (marked_past j xs k r.1 low h, has_past (set_of_record x) k (omega arith)) (both_false (marked_by j xs (job_of x)))
 
-pub records-are : (log : List ℕ) (m i : ℕ) → i + m ≤ roomOf log → AreRecords (records log i m)
+pub records_are : (log : List ℕ) (m i : ℕ) → i + m ≤ room_of log → AreRecords (records log i m)
 unfolding records
-records-are log zero i b = tt
-records-are log (suc m) i b = (record-length log i (omega arith), records-are log m (suc i) (omega arith))
+records_are log zero i b = tt
+records_are log (suc m) i b = (record_length log i (omega arith), records_are log m (suc i) (omega arith))
 
 -- the set tells of any number whether it is marked
-pub set_tells : (j : ℕ) (xs : List (List ℕ)) → AreRecords xs → j < mostJobs → (k : ℕ) → has (setOf setWords (markedBy j xs)) k ≡ markedBy j xs k
+pub set_tells : (j : ℕ) (xs : List (List ℕ)) → AreRecords xs → j < most_jobs → (k : ℕ) → has (setOf set_words (marked_by j xs)) k ≡ marked_by j xs k
 set_tells j xs r low k =
-    elim (dec_lt k mostJobs) [
-      | yes c ↦ has-setOf setWords (markedBy j xs) k c
-      | no c ↦ has-past (setOf setWords (markedBy j xs)) k (omega (arith, setOf-length setWords (markedBy j xs))) ∙ sym (marked-past j xs k r low (omega arith))
+    elim (dec_lt k most_jobs) [
+      | yes c ↦ has_set_of set_words (marked_by j xs) k c
+      | no c ↦ has_past (setOf set_words (marked_by j xs)) k (omega (arith, set_of_length set_words (marked_by j xs))) ∙ sym (marked_past j xs k r low (omega arith))
     ]
 
-pub marks-tell : (log : List ℕ) (count j : ℕ) → count ≤ roomOf log → j < mostJobs → (k : ℕ) → has (marksOf log count j) k ≡ markedBy j (records log 0 count) k
-unfolding marksOf
-marks-tell log count j b low k = set_tells j (records log 0 count) (records-are log count 0 (omega arith)) low k
+pub marks_tell : (log : List ℕ) (count j : ℕ) → count ≤ room_of log → j < most_jobs → (k : ℕ) → has (marks_of log count j) k ≡ marked_by j (records log 0 count) k
+unfolding marks_of
+marks_tell log count j b low k = set_tells j (records log 0 count) (records_are log count 0 (omega arith)) low k

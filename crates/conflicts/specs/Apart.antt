@@ -5,18 +5,18 @@ use Rattle.lists.specs.Sets.{Set}
 use Rattle.lists.specs.Picked.{picked}
 use Rattle.narrowing.specs.Windows.{Win, win}
 use Rattle.joblist.specs.Limits.{jobs}
-use Rattle.timetable.specs.Time.{Jobs, drawnBy}
+use Rattle.timetable.specs.Time.{Jobs, drawn_by}
 use Rattle.timetable.specs.Table.{Call, call}
 
 -- starts of the jobs of M by themselves: each within its window, and at every time their demands add up to at most the capacity; no other job counts
 pub record Together (J : Jobs) (M : Set) (W : Win) (s : List ℕ) : Type 0 where
   pub from : (k : ℕ) → k < J.n → M k ≡ true → W.e ! k ≤ s ! k
   pub to : (k : ℕ) → k < J.n → M k ≡ true → s ! k + J.p ! k ≤ W.l ! k
-  pub fits : (t : ℕ) → drawnBy J M s t ≤ J.cap
+  pub fits : (t : ℕ) → drawn_by J M s t ≤ J.cap
 
 -- the list of the jobs of M alone, in their order, with the same capacity and any log
-abbrev pub onlyOf : Set → Call → List ℕ → Call
-onlyOf M c log = call (win (picked M c.win.e) (picked M c.win.l)) (picked M c.p) (picked M c.r) c.cap log
+abbrev pub only_of : Set → Call → List ℕ → Call
+only_of M c log = call (win (picked M c.win.e) (picked M c.win.l)) (picked M c.p) (picked M c.r) c.cap log
 
 -- c's jobs of M are among those of d, whatever d's others are: each at a place of its own, in no wider a window, no shorter and with no less demand;
 -- and there is no more capacity

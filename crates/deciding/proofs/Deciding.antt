@@ -8,19 +8,19 @@ use mathlib.Core.Logic.{inl, inr}
 use lib.ListN.{length}
 use lib.Seq.{get_or-take}
 use Rattle.lists.specs.Lists.{◌!◌}
-use Rattle.joblist.specs.Limits.{mostTime, mostJobs}
+use Rattle.joblist.specs.Limits.{most_time, most_jobs}
 use Rattle.chains.specs.Paths.{Below, Longer, weight}
-use Rattle.chains.proofs.Chains.{chain-map}
+use Rattle.chains.proofs.Chains.{chain_map}
 use Rattle.texts.specs.Readings.{Read, bad}
-use Rattle.projects.specs.Projects.{Project, pairsOf}
+use Rattle.projects.specs.Projects.{Project, pairs_of}
 use Rattle.parsing.specs.Parsed.{Parsing, ParsedSays}
 use Rattle.parsing.specs.declared.Shape.{Shape}
 use Rattle.parsing.specs.declared.Parsed.{Parsed}
-use Rattle.parsing.proofs.Parsing.{parsing-range, parsing-few}
+use Rattle.parsing.proofs.Parsing.{parsing_range, parsing_few}
 use Rattle.precedence.specs.Chains.{OrderSays}
-use Rattle.exchange.specs.Calls.{Lent, Order, durationOf}
+use Rattle.exchange.specs.Calls.{Lent, Order, duration_of}
 use Rattle.exchange.specs.Tests.{ListsFit, Unfit, Met, Refusal, TooLong}
-use Rattle.exchange.proofs.Tests.{none-tested, refusal-of}
+use Rattle.exchange.proofs.Tests.{none_tested, refusal_of_lem}
 use Rattle.exchange.proofs.Asked.{asked}
 use Rattle.lent.specs.declared.Sizes.{Sizes}
 use Rattle.lent.specs.Parts.{RoomSays}
@@ -28,46 +28,46 @@ use Rattle.deciding.specs.Decided.{LongAs, Accepted}
 
 -- a horizon above its limit, and a refusal that the text itself meets
 module _ (t : Read Project) (res h : ℕ) (L : Lent) where
-  pub too_far : mostTime < h → Refusal (asked t res h L) 31
+  pub too_far : most_time < h → Refusal (asked t res h L) 31
   too_far far = inl (far, refl)
 
-  pub text-refused : h ≤ mostTime → (k : ℕ) → t ≡ bad k → Refusal (asked t res h L) k
-  text-refused near k e = inr (near, subst (λ (r : Read Project). Met r res h L k) (sym e) refl)
+  pub text_refused : h ≤ most_time → (k : ℕ) → t ≡ bad k → Refusal (asked t res h L) k
+  text_refused near k e = inr (near, subst (λ (r : Read Project). Met r res h L k) (sym e) refl)
 
 -- a text that says x
 module _ (s : List ℕ) (res : ℕ) (durs dems : List ℕ) (z : Shape) (x : Project) (p : Parsing s res durs dems z x) where
   pub range : Below z.n (Order x)
-  range = parsing-range s res durs dems z x p
+  range = parsing_range s res durs dems z x p
 
-  pub duration-at : (j : ℕ) → j < z.n → durs ! j ≡ durationOf x j
-  duration-at j b = sym (get_or-take z.n durs j 0 b) ∙ ap (λ (l : List ℕ). l ! j) (sym p.durs-are)
+  pub duration_at : (j : ℕ) → j < z.n → durs ! j ≡ duration_of x j
+  duration_at j b = sym (get_or-take z.n durs j 0 b) ∙ ap (λ (l : List ℕ). l ! j) (sym p.durs_are)
 
-  longer-out : (h : ℕ) → Longer (Order x) z.n (weight durs) h → TooLong x h
-  longer-out h l = record {
+  longer_out : (h : ℕ) → Longer (Order x) z.n (weight durs) h → TooLong x h
+  longer_out h l = record {
     last = l.last;
     job = omega (arith, l.job, p.jobs);
     before = l.before;
-    chain = chain-map (Order x) (Order x) (weight durs) (durationOf x) (λ a b q. (q, duration-at a (range a b q).0)) l.chain;
-    over = omega (arith, l.over, duration-at l.last l.job);
+    chain = chain_map (Order x) (Order x) (weight durs) (duration_of x) (λ a b q. (q, duration_at a (range a b q).0)) l.chain;
+    over = omega (arith, l.over, duration_at l.last l.job);
   }
 
-  longer-in : (h : ℕ) → TooLong x h → Longer (Order x) z.n (weight durs) h
-  longer-in h l =
+  longer_in : (h : ℕ) → TooLong x h → Longer (Order x) z.n (weight durs) h
+  longer_in h l =
       let b : l.last < z.n = omega (arith, l.job, p.jobs) in
       record {
         last = l.last;
         job = b;
         before = l.before;
-        chain = chain-map (Order x) (Order x) (durationOf x) (weight durs) (λ a b q. (q, sym (duration-at a (range a b q).0))) l.chain;
-        over = omega (arith, l.over, duration-at l.last b);
+        chain = chain_map (Order x) (Order x) (duration_of x) (weight durs) (λ a b q. (q, sym (duration_at a (range a b q).0))) l.chain;
+        over = omega (arith, l.over, duration_at l.last b);
       }
 
 -- a text that is read has few jobs
-pub few-jobs : (t : Read Project) (s : List ℕ) (res : ℕ) (durs dems : List ℕ) (g : Parsed) (z : Shape) → g ≡ Parsed.Read z → ParsedSays t s res durs dems g → z.n ≤ mostJobs
-few-jobs t s res durs dems g z e says = let u = rw e at says in parsing-few _ _ _ _ _ _ u.2
+pub few_jobs : (t : Read Project) (s : List ℕ) (res : ℕ) (durs dems : List ℕ) (g : Parsed) (z : Shape) → g ≡ Parsed.Read z → ParsedSays t s res durs dems g → z.n ≤ most_jobs
+few_jobs t s res durs dems g z e says = let u = rw e at says in parsing_few _ _ _ _ _ _ u.2
 
 -- the tests of such a text, in lists of these lengths
-module _ (t : Read Project) (res h : ℕ) (L : Lent) (m : Sizes) (long : LongAs L m) (near : h ≤ mostTime) (s durs dems : List ℕ) (z : Shape)
+module _ (t : Read Project) (res h : ℕ) (L : Lent) (m : Sizes) (long : LongAs L m) (near : h ≤ most_time) (s durs dems : List ℕ) (z : Shape)
     (u : ParsedSays t s res durs dems (Parsed.Read z)) where
   abbrev x : Project
   x = u.0
@@ -75,8 +75,8 @@ module _ (t : Read Project) (res h : ℕ) (L : Lent) (m : Sizes) (long : LongAs 
   abbrev p : Parsing s res durs dems z u.0
   p = u.2
 
-  pub no-resource : z.k ≤ res → Refusal (asked t res h L) 37
-  no-resource b = refusal-of (asked t res h L) x [] u.1 37 near (inl (omega (arith, p.resources), refl))
+  pub no_resource : z.k ≤ res → Refusal (asked t res h L) 37
+  no_resource b = refusal_of_lem (asked t res h L) x [] u.1 37 near (inl (omega (arith, p.resources), refl))
 
   module _ (chosen : res < z.k) where
     pick : res < length x.capacities
@@ -85,26 +85,26 @@ module _ (t : Read Project) (res h : ℕ) (L : Lent) (m : Sizes) (long : LongAs 
     pub no_room : RoomSays m z.n z.pairs false → Refusal (asked t res h L) 38
     no_room f =
         let unfit : Unfit x L = rw (p.jobs, p.count, long.est, long.lct, long.dur, long.dem, long.jobs, long.successors) f in
-        refusal-of (asked t res h L) x [] u.1 38 near (inr (pick, inl (unfit, refl)))
+        refusal_of_lem (asked t res h L) x [] u.1 38 near (inr (pick, inl (unfit, refl)))
 
     module _ (r : RoomSays m z.n z.pairs true) (heads tails : List ℕ) where
       fits : ListsFit x L
       fits = rw (p.jobs, p.count, long.est, long.lct, long.dur, long.dem, long.jobs, long.successors) r
 
-      pub no-order : (c : ℕ) → (c ≡ 0 → ⊥) → OrderSays (pairsOf x) z.n durs h heads tails c → Refusal (asked t res h L) c
-      no-order zero f o = absurd (f refl)
-      no-order (suc c) f (inl q) = refusal-of (asked t res h L) x [] u.1 (suc c) near (inr (pick, inr (fits, inl (q.1, q.0))))
-      no-order (suc c) f (inr q) = refusal-of (asked t res h L) x [] u.1 (suc c) near (inr (pick, inr (fits, inr (q.1, inl (longer-out s res durs dems z x p h q.2, q.0)))))
+      pub no_order : (c : ℕ) → (c ≡ 0 → ⊥) → OrderSays (pairs_of x) z.n durs h heads tails c → Refusal (asked t res h L) c
+      no_order zero f o = absurd (f refl)
+      no_order (suc c) f (inl q) = refusal_of_lem (asked t res h L) x [] u.1 (suc c) near (inr (pick, inr (fits, inl (q.1, q.0))))
+      no_order (suc c) f (inr q) = refusal_of_lem (asked t res h L) x [] u.1 (suc c) near (inr (pick, inr (fits, inr (q.1, inl (longer_out s res durs dems z x p h q.2, q.0)))))
 
-      pub all-passed : (c : ℕ) → c ≡ 0 → OrderSays (pairsOf x) z.n durs h heads tails c
+      pub all_passed : (c : ℕ) → c ≡ 0 → OrderSays (pairs_of x) z.n durs h heads tails c
           → Accepted (asked t res h L) s (record { heads = heads; tails = tails; dur = durs; dem = dems }) z
-      all-passed c none says =
+      all_passed c none says =
           let o = rw none at says in
-          let short : TooLong x h → ⊥ = λ l. o.short (longer-in s res durs dems z x p h l) in
+          let short : TooLong x h → ⊥ = λ l. o.short (longer_in s res durs dems z x p h l) in
           record {
             x = x;
             text = u.1;
             parsing = p;
-            refusal = refusal-of (asked t res h L) x [] u.1 0 near (none-tested x res h L (record { chosen = pick; fits = fits; acyclic = o.acyclic; short = short }));
+            refusal = refusal_of_lem (asked t res h L) x [] u.1 0 near (none_tested x res h L (record { chosen = pick; fits = fits; acyclic = o.acyclic; short = short }));
             chains = o;
           }

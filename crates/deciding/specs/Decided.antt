@@ -1,7 +1,7 @@
 -- What is decided of a project text before a lent word is written: the number of the refusal, or that no test fails, and what the lists are filled from.
 use Rattle.std.specs.Prelude.{ℕ, ◌≡◌, List, [], length}
 use Rattle.texts.specs.Readings.{good}
-use Rattle.projects.specs.Projects.{Project, pairsOf}
+use Rattle.projects.specs.Projects.{Project, pairs_of}
 use Rattle.parsing.specs.declared.Shape.{Shape}
 use Rattle.parsing.specs.declared.Parsed.{Parsed}
 use Rattle.parsing.specs.Parsed.{Parsing}
@@ -26,7 +26,7 @@ pub record Accepted (c : TextCall) (s : List ℕ) (d : Draft) (z : Shape) : Type
   pub text : c.text ≡ good x []
   pub parsing : Parsing s c.resource d.dur d.dem z x
   pub refusal : Refusal c 0
-  pub chains : ChainsFound (pairsOf x) z.n d.dur c.horizon d.heads d.tails
+  pub chains : ChainsFound (pairs_of x) z.n d.dur c.horizon d.heads d.tails
 
 -- by the answer: taken, or the number of the first test that fails
 abbrev pub DecidedSays : TextCall → List ℕ → Draft → Parsed → Type 0

@@ -3,7 +3,7 @@
 // written, by reading the text again (docs/DECISIONS.md says why).
 ghost use Rattle.std.specs.Prelude.{◌≡◌, List, ℕ, ◌≤◌, length, replicate};
 ghost use Rattle.lists.specs.Lists.{◌!◌};
-ghost use Rattle.joblist.specs.Limits.{mostTime, mostJobs};
+ghost use Rattle.joblist.specs.Limits.{most_time, most_jobs};
 ghost use Rattle.texts.specs.Readings.{Read};
 ghost use Rattle.projects.specs.Projects.{Project};
 ghost use Rattle.projects.specs.Patterson.{patterson};
@@ -35,12 +35,12 @@ fn accept(
     tails: &mut [u32; screen::MOST_JOBS],
 ) -> Parsed
     requires dur_len { ((r : Read Project) × (q : List ℕ) × ParsedSays r text.now resource dur.now q parsed)
-        × (length dur.now ≡ mostJobs) × (heads.old ≡ replicate mostJobs 0) × (tails.old ≡ replicate mostJobs 0) }
-    requires by_index { (j : ℕ) → dur.now ! j ≤ mostTime }
+        × (length dur.now ≡ most_jobs) × (heads.old ≡ replicate most_jobs 0) × (tails.old ≡ replicate most_jobs 0) }
+    requires by_index { (j : ℕ) → dur.now ! j ≤ most_time }
     ensures { ((r : Read Project) (q : List ℕ) → ParsedSays r text.entry.now resource dur.now q parsed → (L : Lent) → LongAs L sizes → DecidedSays
         (record { text = r; resource = resource; horizon = horizon; lent = L }) text.entry.now
         (record { heads = heads.exit.now; tails = tails.new; dur = dur.now; dem = q }) result)
-        × (length heads.exit.now ≡ mostJobs) × (length tails.new ≡ mostJobs) }
+        × (length heads.exit.now ≡ most_jobs) × (length tails.new ≡ most_jobs) }
 {
     if screen::MOST_TIME < horizon {
         return Parsed::Refused(31);

@@ -8,4 +8,4 @@ unfoldable pub use Rattle.checks.specs.Replay.{changed, checked}
 pub use Rattle.checks.specs.Replay.{ReasonedOn, trial}
 pub use Rattle.checks.specs.Fate.{nth, reached, Takes, Open, Shut, Fate}
 pub use Rattle.checks.specs.Promise.{Reasoned, RefusedRow, Claimed, Exactly, TakesLogs, Checks}
-pub use Rattle.verdicts.specs.Promise.{takenBy, taken}
+pub use Rattle.verdicts.specs.Promise.{taken_by, taken}

@@ -8,18 +8,18 @@ pub use Rattle.narrowing.specs.Rules.{Family, Candidate, Largest, NoCandidate}
 pub use Rattle.narrowing.specs.Schedules.{Schedule}
 pub use Rattle.narrowing.specs.Renumbered.{SameWin}
 pub use Rattle.narrowing.specs.Search.{Search, Move, move, after}
-pub use Rattle.narrowing.specs.Run.{reachedBy}
+pub use Rattle.narrowing.specs.Run.{reached_by}
 pub use Rattle.narrowing.specs.Rounds.{place_of, Passed, Choice, Chosen}
 pub use Rattle.narrowing.specs.Led.{SameLengths, Led, Closes, Clashed}
 pub use Rattle.promises.specs.Reasons.{Logged, Settles, Clashes}
-unfoldable pub use Rattle.timetable.specs.Time.{runsAt, drawnBy, drawn, Fits, sure, load}
+unfoldable pub use Rattle.timetable.specs.Time.{runs_at, drawn_by, drawn, Fits, sure, load}
 pub use Rattle.timetable.specs.Time.{Jobs, Runs, Overdrawn, Sure, Crowded, Early, Late, bound, Applies}
-unfoldable pub use Rattle.timetable.specs.Search.{crowded, best, member, leanMember, naming}
+unfoldable pub use Rattle.timetable.specs.Search.{crowded, best, member, lean_member, naming}
 pub use Rattle.timetable.specs.Search.{search, Member, entry}
-unfoldable pub use Rattle.timetable.specs.Reason.{namedDrawn}
+unfoldable pub use Rattle.timetable.specs.Reason.{named_drawn}
 pub use Rattle.timetable.specs.Reason.{OwnFact, Stated, Implied, Changed, StartsWithin, named, Counted, Exceeds, Lean, LeanRecord}
-pub use Rattle.timetable.specs.Table.{Call, call, jobsOf, asks, Good, Admitted, AllLong, TooShort, Workable, narrowed}
+pub use Rattle.timetable.specs.Table.{Call, call, jobs_of, asks, Good, Admitted, AllLong, TooShort, Workable, narrowed}
 pub use Rattle.promises.specs.Table.{After, leaves}
 pub use Rattle.timetable.specs.Promise.{Scheduled, StableIn, LargestIn, NoneIn, AllFixed, HasRoom, needs, Room, RefusedRow, Exactly, Kept, Narrowest, Narrows}
-pub use Rattle.timetable.specs.Reasons.{Reasons, Shortens, Shortened, fullyNamed, Unmoved}
+pub use Rattle.timetable.specs.Reasons.{Reasons, Shortens, Shortened, fully_named, Unmoved}
 pub use Rattle.timetable.specs.Reordered.{SameCall}

@@ -4,8 +4,8 @@ pub use Rattle.lists.specs.Sets.{Ends, Latest}
 pub use Rattle.lists.specs.Bounds.{Begins, Soonest}
 unfoldable pub use Rattle.lists.specs.Bounds.{lead, latest, soonest}
 pub use Rattle.heads.specs.Precedences.{Overlap, Apart, ComesFirst, StartsAfter, EndsBefore, Detects}
-unfoldable pub use Rattle.heads.specs.Search.{comesFirst, bound, detect}
-pub use Rattle.heads.specs.Search.{firsts, nexts, earlyBound, lateBound, search}
+unfoldable pub use Rattle.heads.specs.Search.{comes_first, bound, detect}
+pub use Rattle.heads.specs.Search.{firsts, nexts, early_bound, late_bound, search}
 unfoldable pub use Rattle.heads.specs.Promise.{sequenced}
-pub use Rattle.heads.specs.Promise.{Left, left, headAsk, GoodHead, FarthestChoice, Farthest, Sequences}
+pub use Rattle.heads.specs.Promise.{Left, left, head_ask, GoodHead, FarthestChoice, Farthest, Sequences}
 pub use Rattle.heads.specs.Reordered.{SameReads}

@@ -3,7 +3,7 @@
 // declared.
 pub use checker::check_log;
 pub use layouts::{read_patterson, read_psplib};
-pub use logbook::show_record;
+pub use logs::show_record;
 pub use planner::narrow;
 pub use readhead::overload;
 pub use sequencer::sequence;

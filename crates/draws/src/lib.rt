@@ -5,10 +5,10 @@ ghost use Rattle.lists.specs.Lists.{◌!◌};
 ghost use Rattle.lists.specs.Tests.{both, only};
 ghost use Rattle.lists.specs.Sets.{total_of};
 ghost use Rattle.members.specs.Members.{has};
-ghost use Rattle.journal.specs.Journal.{recordWords, job_of, isMember};
+ghost use Rattle.journal.specs.Journal.{record_words, job_of, is_member};
 ghost use Rattle.timetable.specs.Reason.{named};
 ghost use Rattle.codes.specs.Codes.{lean};
-ghost use Rattle.exam.specs.Lent.{jobsIn, Drawn, LetThrough};
+ghost use Rattle.exam.specs.Lent.{jobs_in, Drawn, LetThrough};
 
 // What job k adds to the demands of the members.
 fn share(dem: &[u32], set: &[u32], k: usize) -> u32
@@ -23,10 +23,10 @@ fn share(dem: &[u32], set: &[u32], k: usize) -> u32
 
 // The demands of the members.
 fn members_draw(dem: &[u32], words: &[u32]) -> u32
-    requires { Drawn dem.now × (length words.now ≡ recordWords) }
-    ensures { result ≡ total_of (length dem.now) dem.now (isMember words.now) }
+    requires { Drawn dem.now × (length words.now ≡ record_words) }
+    ensures { result ≡ total_of (length dem.now) dem.now (is_member words.now) }
 {
-    let set = logbook::set_of(words);
+    let set = logs::set_of(words);
     let mut sum: u32 = 0;
     let mut k = 0;
     while k < dem.len() {
@@ -38,17 +38,17 @@ fn members_draw(dem: &[u32], words: &[u32]) -> u32
 
 // The demands named, members' and moved job's together.
 fn named(dem: &[u32], words: &[u32]) -> u32
-    requires { Drawn dem.now × (length words.now ≡ recordWords) × (job_of words.now < length dem.now) }
-    ensures { result ≡ named (jobsIn (length dem.now) [] dem.now 0) words.now }
+    requires { Drawn dem.now × (length words.now ≡ record_words) × (job_of words.now < length dem.now) }
+    ensures { result ≡ named (jobs_in (length dem.now) [] dem.now 0) words.now }
 {
     let sum = members_draw(dem, words);
-    sum + dem[words[logbook::JOB_WORD] as usize]
+    sum + dem[words[logs::JOB_WORD] as usize]
 }
 
 // 24: they exceed the capacity.
 pub fn exceeds(dem: &[u32], cap: u32, words: &[u32]) -> bool
-    requires { Drawn dem.now × (length words.now ≡ recordWords) × (job_of words.now < length dem.now) }
-    ensures { result ≡ ltb cap (named (jobsIn (length dem.now) [] dem.now 0) words.now) }
+    requires { Drawn dem.now × (length words.now ≡ record_words) × (job_of words.now < length dem.now) }
+    ensures { result ≡ ltb cap (named (jobs_in (length dem.now) [] dem.now 0) words.now) }
 {
     cap < named(dem, words)
 }
@@ -67,10 +67,10 @@ fn spare(dem: &[u32], cap: u32, set: &[u32], k: usize, all: u32) -> bool
 // 27: no member is spare. Every bit of the set is looked at.
 pub fn lean(dem: &[u32], cap: u32, words: &[u32]) -> bool
     requires { Drawn dem.now × LetThrough (length dem.now) words.now }
-    ensures { result ≡ lean (jobsIn (length dem.now) [] dem.now cap) words.now }
+    ensures { result ≡ lean (jobs_in (length dem.now) [] dem.now cap) words.now }
 {
     let all = named(dem, words);
-    let set = logbook::set_of(words);
+    let set = logs::set_of(words);
     let mut k = 0;
     while k < bits::BITS * set.len() {
         if spare(dem, cap, set, k, all) {

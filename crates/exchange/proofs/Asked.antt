@@ -4,7 +4,7 @@ use mathlib.Core.Path.{◌≡◌, refl, sym, subst}
 use mathlib.Core.List.{[], ◌∷◌}
 use mathlib.Core.Logic.{inl, inr}
 use Rattle.answers.specs.Said.{Word, said}
-use Rattle.joblist.specs.Limits.{mostTime}
+use Rattle.joblist.specs.Limits.{most_time}
 use Rattle.texts.specs.Readings.{Read, bad}
 use Rattle.projects.specs.Projects.{Project}
 use Rattle.exchange.specs.Calls.{Lent, TextCall, TextAfter}
@@ -24,10 +24,10 @@ module _ (t : Read Project) (res h : ℕ) (L : Lent) where
   pub answer : (k : ℕ) → Refusal (asked t res h L) (suc k) → Answered (asked t res h L) (refused L (suc k))
   answer k q = record { number = suc k; refusal = q; leaves = refl }
 
-  pub far : mostTime < h → Answered (asked t res h L) (refused L 31)
+  pub far : most_time < h → Answered (asked t res h L) (refused L 31)
   far b = answer 30 (inl (b, refl))
 
-  module _ (near : h ≤ mostTime) where
+  module _ (near : h ≤ most_time) where
     pub broken : (d : ℕ) → t ≡ bad d → (d ≡ 0 → ⊥) → Answered (asked t res h L) (refused L d)
     broken zero e f = absurd (f refl)
     broken (suc d) e f = answer d (inr (near, subst (λ (r : Read Project). Met r res h L (suc d)) (sym e) refl))

@@ -8,35 +8,35 @@ use mathlib.Core.Logic.{◌↔◌}
 use lib.ListN.{length, length-map}
 use Rattle.answers.specs.Said.{Word}
 use Rattle.chains.specs.Paths.{Precedes, Cycle}
-use Rattle.chains.proofs.Listed.{paired-length, paired-jobs, paired-successors}
+use Rattle.chains.proofs.Listed.{paired_length, paired_jobs, paired_successors}
 use Rattle.texts.specs.Readings.{good}
-use Rattle.texts.proofs.Readings.{good-one}
-use Rattle.projects.specs.Projects.{Row, Project, pairsOf}
+use Rattle.texts.proofs.Readings.{good_one}
+use Rattle.projects.specs.Projects.{Row, Project, pairs_of}
 use Rattle.projects.specs.Patterson.{patterson}
 use Rattle.exchange.specs.Calls.{Lent, TextAfter}
 use Rattle.exchange.specs.Table.{Answered}
-use Rattle.exchange.specs.Write.{WriteCall, WriteAfter, SaysSame, textLeft, GivenBack, readAgain, TakenAgain}
+use Rattle.exchange.specs.Write.{WriteCall, WriteAfter, SaysSame, text_left, GivenBack, read_again, TakenAgain}
 use Rattle.exchange.specs.WriteWhen.{WritePassed}
-use Rattle.exchange.proofs.Tests.{none-tested, refusal-of, refusal-none}
+use Rattle.exchange.proofs.Tests.{none_tested, refusal_of_lem, refusal_none}
 use Rattle.exchange.proofs.Meaning.{read_taken}
-use Rattle.exchange.proofs.When.{read-exactly}
+use Rattle.exchange.proofs.When.{read_exactly}
 
-module _ (c : WriteCall) (a : WriteAfter) (p : WritePassed c) (x : Project) (text : patterson (textLeft a) ≡ good x []) (same : SaysSame c x) (horizon : ℕ) (L : Lent) (b : TextAfter)
-    (r : Answered (readAgain a horizon L) b) where
-  count : length (pairsOf x) ≡ length c.jobs
-  count = ap length same.pairs ∙ paired-length c.jobs c.successors p.even
+module _ (c : WriteCall) (a : WriteAfter) (p : WritePassed c) (x : Project) (text : patterson (text_left a) ≡ good x []) (same : SaysSame c x) (horizon : ℕ) (L : Lent) (b : TextAfter)
+    (r : Answered (read_again a horizon L) b) where
+  count : length (pairs_of x) ≡ length c.jobs
+  count = ap length same.pairs ∙ paired_length c.jobs c.successors p.even
 
   pub given_back : b.says.word ≡ Word.read → GivenBack c L b
   given_back e =
-      let t = (read_taken (readAgain a horizon L) b r e).0 in
-      let q : t.x ≡ x = (good-one (patterson (textLeft a)) t.x x t.rest [] t.text text).0 in
+      let t = (read_taken (read_again a horizon L) b r e).0 in
+      let q : t.x ≡ x = (good_one (patterson (text_left a)) t.x x t.rest [] t.text text).0 in
       let f = rw q at t.filled in
       record {
         says = t.says ∙ rw (q, same.capacity, count);
         dur = f.dur ∙ same.durations;
         dem = f.dem ∙ same.demands;
-        jobs = f.jobs ∙ rw (count, same.pairs, paired-jobs c.jobs c.successors p.even);
-        successors = f.successors ∙ rw (count, same.pairs, paired-successors c.jobs c.successors p.even);
+        jobs = f.jobs ∙ rw (count, same.pairs, paired_jobs c.jobs c.successors p.even);
+        successors = f.successors ∙ rw (count, same.pairs, paired_successors c.jobs c.successors p.even);
       }
 
   -- ---- when such a text is read
@@ -44,18 +44,18 @@ module _ (c : WriteCall) (a : WriteAfter) (p : WritePassed c) (x : Project) (tex
   rows_are : length x.rows ≡ length c.dur
   rows_are = sym (length-map x.rows (λ (y : Row). y.duration)) ∙ ap length same.durations
 
-  pub taken-exactly : (b.says.word ≡ Word.read) ↔ TakenAgain c horizon L
-  taken-exactly = (
+  pub taken_exactly : (b.says.word ≡ Word.read) ↔ TakenAgain c horizon L
+  taken_exactly = (
     (λ e.
-        let n = refusal-none (readAgain a horizon L) x [] text ((read-exactly (readAgain a horizon L) b r).0 e) in
+        let n = refusal_none (read_again a horizon L) x [] text ((read_exactly (read_again a horizon L) b r).0 e) in
         (n.0, rw (← rows_are, ← count) n.1.fits, rw (← rows_are, ← same.pairs, ← same.durations) n.1.short)),
     (λ q.
-        (read-exactly (readAgain a horizon L) b r).1
-        (refusal-of (readAgain a horizon L) x [] text 0 q.0 (none-tested x 0 horizon L (record { chosen = one; fits = rw (rows_are, count) q.1; acyclic = none; short = rw (rows_are, same.pairs, same.durations) q.2 })))),
+        (read_exactly (read_again a horizon L) b r).1
+        (refusal_of_lem (read_again a horizon L) x [] text 0 q.0 (none_tested x 0 horizon L (record { chosen = one; fits = rw (rows_are, count) q.1; acyclic = none; short = rw (rows_are, same.pairs, same.durations) q.2 })))),
   )
     where
       one : 0 < length x.capacities
       one = omega (arith, ap length same.capacity)
 
-      none : Cycle (Precedes (pairsOf x)) → ⊥
+      none : Cycle (Precedes (pairs_of x)) → ⊥
       none = rw same.pairs p.acyclic

@@ -4,7 +4,7 @@ use Rattle.std.specs.Prelude.{ℕ, List}
 use Rattle.answers.specs.Said.{Said}
 use Rattle.chains.specs.Paths.{Precedes, weight}
 use Rattle.texts.specs.Readings.{Read}
-use Rattle.projects.specs.Projects.{Project, pairsOf, durations}
+use Rattle.projects.specs.Projects.{Project, pairs_of, durations}
 
 -- the lent lists: earliest starts, latest ends, durations, demands; jobs and successors of the pairs
 pub record Lent : Type 0 where
@@ -29,8 +29,8 @@ pub record TextAfter : Type 0 where
 
 -- the project's precedences
 abbrev pub Order : Project → ℕ → ℕ → Type 0
-Order x = Precedes (pairsOf x)
+Order x = Precedes (pairs_of x)
 
 -- its jobs' durations
-abbrev pub durationOf : Project → ℕ → ℕ
-durationOf x = weight (durations x.rows)
+abbrev pub duration_of : Project → ℕ → ℕ
+duration_of x = weight (durations x.rows)

@@ -1,10 +1,10 @@
 -- The tests of a reader (document 02, Items 1 and 13), in facts and in their order: the horizon's limit, then what the text meets, then 37, 38, 33, 34.
 use Rattle.std.specs.Prelude.{ℕ, ◌≤◌, ◌<◌, ◌≡◌, ◌⊎◌, length}
-use Rattle.joblist.specs.Limits.{mostTime}
+use Rattle.joblist.specs.Limits.{most_time}
 use Rattle.chains.specs.Paths.{Cycle, Longer}
 use Rattle.texts.specs.Readings.{Read, bad, good}
-use Rattle.projects.specs.Projects.{Project, pairsOf}
-use Rattle.exchange.specs.Calls.{Lent, TextCall, Order, durationOf}
+use Rattle.projects.specs.Projects.{Project, pairs_of}
+use Rattle.exchange.specs.Calls.{Lent, TextCall, Order, duration_of}
 
 -- four lists of e, l, d and q numbers are as long as there are n jobs, and lists of j and s numbers have room for m pairs
 pub record Fitting (n m e l d q j s : ℕ) : Type 0 where
@@ -21,14 +21,14 @@ Misfit n m e l d q j s = (e ≡ n → ⊥) ⊎ ((l ≡ n → ⊥) ⊎ ((d ≡ n 
 
 -- the lent lists fit the project, or do not
 abbrev pub ListsFit : Project → Lent → Type 0
-ListsFit x L = Fitting (length x.rows) (length (pairsOf x)) (length L.est) (length L.lct) (length L.dur) (length L.dem) (length L.jobs) (length L.successors)
+ListsFit x L = Fitting (length x.rows) (length (pairs_of x)) (length L.est) (length L.lct) (length L.dur) (length L.dem) (length L.jobs) (length L.successors)
 
 abbrev pub Unfit : Project → Lent → Type 0
-Unfit x L = Misfit (length x.rows) (length (pairsOf x)) (length L.est) (length L.lct) (length L.dur) (length L.dem) (length L.jobs) (length L.successors)
+Unfit x L = Misfit (length x.rows) (length (pairs_of x)) (length L.est) (length L.lct) (length L.dur) (length L.dem) (length L.jobs) (length L.successors)
 
 -- the horizon is shorter than the longest chain
 abbrev pub TooLong : Project → ℕ → Type 0
-TooLong x horizon = Longer (Order x) (length x.rows) (durationOf x) horizon
+TooLong x horizon = Longer (Order x) (length x.rows) (duration_of x) horizon
 
 -- a test in facts: its number where the fault is there, else what comes next
 abbrev pub Unless : ℕ → Type 0 → Type 0 → (ℕ → Type 0) → ℕ → Type 0
@@ -53,4 +53,4 @@ Met (good x rest) resource horizon L c = Tested x resource horizon L c
 
 -- the number of the first test that fails, and 0 where none does
 abbrev pub Refusal : TextCall → ℕ → Type 0
-Refusal c = Unless 31 (c.horizon ≤ mostTime) (mostTime < c.horizon) (Met c.text c.resource c.horizon c.lent)
+Refusal c = Unless 31 (c.horizon ≤ most_time) (most_time < c.horizon) (Met c.text c.resource c.horizon c.lent)

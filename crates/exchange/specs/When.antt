@@ -1,6 +1,6 @@
 -- When a reader refuses by each number, or reads, in facts (proofs/When.antt): of a call whose text says x, and of one whose text meets a refusal.
 use Rattle.std.specs.Prelude.{ℕ, ◌≤◌, ◌<◌, ◌≡◌, List, ◌⊎◌, length}
-use Rattle.joblist.specs.Limits.{mostTime}
+use Rattle.joblist.specs.Limits.{most_time}
 use Rattle.chains.specs.Paths.{Cycle}
 use Rattle.texts.specs.Tokens.{Token}
 use Rattle.texts.specs.Readings.{bad, good}
@@ -10,16 +10,16 @@ use Rattle.exchange.specs.Tests.{ListsFit, Unfit, TooLong}
 
 -- the horizon is within its limit, and the text meets k
 pub record Meets (c : TextCall) (k : ℕ) : Type 0 where
-  pub near : c.horizon ≤ mostTime
+  pub near : c.horizon ≤ most_time
   pub text : c.text ≡ bad k
 
 -- the horizon is above its limit, or the text meets a number above one
 abbrev pub AboveLimit : TextCall → Type 0
-AboveLimit c = (mostTime < c.horizon) ⊎ Meets c 31
+AboveLimit c = (most_time < c.horizon) ⊎ Meets c 31
 
 -- the horizon is within its limit, and the text says x
 pub record Says (c : TextCall) : Type 0 where
-  pub near : c.horizon ≤ mostTime
+  pub near : c.horizon ≤ most_time
   pub x : Project
   pub rest : List Token
   pub text : c.text ≡ good x rest

@@ -14,14 +14,14 @@ behind b [] = []
 behind b (c ∷ s) = cond (eqb c b) s (behind b s)
 
 -- the text behind its first line
-abbrev pub nextLine : List ℕ → List ℕ
-nextLine s = behind 10 s
+abbrev pub next_line : List ℕ → List ℕ
+next_line s = behind 10 s
 
 -- the text behind so many lines
-unfoldable pub behindLines : ℕ → List ℕ → List ℕ
+unfoldable pub behind_lines : ℕ → List ℕ → List ℕ
 unfolding behind
-behindLines zero s = s
-behindLines (suc m) s = behindLines m (nextLine s)
+behind_lines zero s = s
+behind_lines (suc m) s = behind_lines m (next_line s)
 
 -- the number behind the first colon of the line: 30 where none stands there, 31 where it is above `top`
 unfoldable pub counted : ℕ → List ℕ → Read ℕ

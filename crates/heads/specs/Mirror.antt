@@ -10,6 +10,6 @@ pub record Mirror (n K : ℕ) (W U : Win) : Type 0 where
   pub late : (k : ℕ) → k < n → U.l ! k + W.e ! k ≡ K
 
 -- M less a number, if there is one
-abbrev pub lessFrom : ℕ → Option ℕ → Option ℕ
-lessFrom M none = none
-lessFrom M (some b) = some (M - b)
+abbrev pub less_from : ℕ → Option ℕ → Option ℕ
+less_from M none = none
+less_from M (some b) = some (M - b)

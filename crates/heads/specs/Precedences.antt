@@ -14,11 +14,11 @@ use Rattle.narrowing.specs.Rules.{Family}
 pub record Overlap (n : ℕ) (p s : List ℕ) : Type 0 where
   pub i : ℕ
   pub j : ℕ
-  pub listed-i : i < n
-  pub listed-j : j < n
+  pub listed_i : i < n
+  pub listed_j : j < n
   pub two : i ≡ j → ⊥
-  pub lasts-i : 1 ≤ p ! i
-  pub lasts-j : 1 ≤ p ! j
+  pub lasts_i : 1 ≤ p ! i
+  pub lasts_j : 1 ≤ p ! j
   pub before : s ! i < s ! j + p ! j
   pub after : s ! j < s ! i + p ! i
 
@@ -31,8 +31,8 @@ Apart n p s = Overlap n p s → ⊥
 -- job j comes before job i: e + p of i exceeds l - p of j
 pub record ComesFirst (p : List ℕ) (W : Win) (j i : ℕ) : Type 0 where
   pub other : j ≡ i → ⊥
-  pub lasts-j : 1 ≤ p ! j
-  pub lasts-i : 1 ≤ p ! i
+  pub lasts_j : 1 ≤ p ! j
+  pub lasts_i : 1 ≤ p ! i
   pub exceeds : W.l ! j < W.e ! i + p ! i + p ! j
 
 -- side 0: i cannot start before b, the least e plus total p of a non-empty set of jobs that come before it
@@ -43,7 +43,7 @@ pub record StartsAfter (n : ℕ) (p : List ℕ) (W : Win) (i b : ℕ) : Type 0 w
   pub tightens : W.e ! i < b
 
 -- side 1: i cannot end after b, the greatest l less total p of a non-empty set of jobs that it comes before; where that lies below zero b is 0, which
--- closes the window too (`below-zero-closes`)
+-- closes the window too (`below_zero_closes`)
 pub record EndsBefore (n : ℕ) (p : List ℕ) (W : Win) (i b : ℕ) : Type 0 where
   pub T : Set
   pub last : (k : ℕ) → k < n → T k ≡ true → ComesFirst p W i k

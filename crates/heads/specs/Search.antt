@@ -10,16 +10,16 @@ use Rattle.narrowing.specs.Windows.{Win, Side, early, late}
 use Rattle.narrowing.specs.Search.{Search}
 
 -- the test of `ComesFirst`
-unfoldable pub comesFirst : List ℕ → Win → ℕ → ℕ → Bool
-comesFirst p W j i =
+unfoldable pub comes_first : List ℕ → Win → ℕ → ℕ → Bool
+comes_first p W j i =
     both (not (eqb j i)) (both (leb 1 (p ! j)) (both (leb 1 (p ! i)) (ltb (W.l ! j) (W.e ! i + p ! i + p ! j))))
 
 -- the jobs that come before i, and those that i comes before
 abbrev pub firsts : List ℕ → Win → ℕ → Set
-firsts p W i k = comesFirst p W k i
+firsts p W i k = comes_first p W k i
 
 abbrev pub nexts : List ℕ → Win → ℕ → Set
-nexts p W i k = comesFirst p W i k
+nexts p W i k = comes_first p W i k
 
 -- the bound that a choice stands for
 unfoldable pub bound : ℕ → List ℕ → Side → ℕ → ℕ
@@ -29,11 +29,11 @@ bound n p late c = c - lead n p
 
 -- i's greatest new earliest start, 0 where no job comes first; its least new latest end, plus the lead, and the present one where it comes before no job or no
 -- set goes below it
-abbrev pub earlyBound : ℕ → List ℕ → Win → ℕ → ℕ
-earlyBound n p W i = latest n W.e p (firsts p W i) 0
+abbrev pub early_bound : ℕ → List ℕ → Win → ℕ → ℕ
+early_bound n p W i = latest n W.e p (firsts p W i) 0
 
-abbrev pub lateBound : ℕ → List ℕ → Win → ℕ → ℕ
-lateBound n p W i = soonest n W.l p (nexts p W i) (W.l ! i + lead n p)
+abbrev pub late_bound : ℕ → List ℕ → Win → ℕ → ℕ
+late_bound n p W i = soonest n W.l p (nexts p W i) (W.l ! i + lead n p)
 
 -- b where the test passes
 abbrev pub when : Bool → ℕ → Option ℕ
@@ -42,9 +42,9 @@ when false b = none
 
 -- the choice for a job's side, where it tightens
 unfoldable pub detect : ℕ → List ℕ → Win → ℕ → Side → Option ℕ
-unfolding latest soonest comesFirst
-detect n p W i early = let b = earlyBound n p W i in when (ltb (W.e ! i) b) b
-detect n p W i late = let c = lateBound n p W i in when (ltb c (W.l ! i + lead n p)) c
+unfolding latest soonest comes_first
+detect n p W i early = let b = early_bound n p W i in when (ltb (W.e ! i) b) b
+detect n p W i late = let c = late_bound n p W i in when (ltb c (W.l ! i + lead n p)) c
 
 abbrev pub search : ℕ → List ℕ → Search
 search n p = record { n = n; p = p; best = detect n p; bound = bound n p }

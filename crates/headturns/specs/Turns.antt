@@ -3,7 +3,7 @@ use Rattle.std.specs.Prelude.{ℕ, ◌+◌, ◌≤◌, ◌<◌, ◌≡◌, true,
 use Rattle.std.proofs.Math.Option.{none, some}
 use Rattle.lists.specs.Lists.{◌!◌}
 use Rattle.narrowing.specs.Windows.{Win, Side, early, moved, closes}
-use Rattle.joblist.specs.Limits.{mostTime}
+use Rattle.joblist.specs.Limits.{most_time}
 use Rattle.heads.specs.Search.{bound, detect}
 use Rattle.mirrors.specs.Back.{told}
 use Rattle.ahead.specs.Ready.{Ready}
@@ -17,8 +17,8 @@ pub record HeadLists : Type 0 where
   pub fore : List ℕ
   pub rear : List ℕ
 
-abbrev pub headLists : List ℕ → List ℕ → List ℕ → List ℕ → HeadLists
-headLists starts ends fore rear = record { starts = starts; ends = ends; fore = fore; rear = rear }
+abbrev pub head_lists : List ℕ → List ℕ → List ℕ → List ℕ → HeadLists
+head_lists starts ends fore rear = record { starts = starts; ends = ends; fore = fore; rear = rear }
 
 abbrev pub windows : HeadLists → Win
 windows A = told A.starts A.ends
@@ -32,9 +32,9 @@ pub record Both (n : ℕ) (p : List ℕ) (A : HeadLists) : Type 0 where
 abbrev pub TurnOn : List ℕ → List ℕ → List ℕ → List ℕ → ℕ → List ℕ → List ℕ → Turn → Type 0
 TurnOn starts ends p o j starts' o' Rests = (detect (length starts) p (told starts ends) j early ≡ none) × (starts' ≡ starts) × (o' ≡ o)
 TurnOn starts ends p o j starts' o' Moved =
-    (b : ℕ) × (detect (length starts) p (told starts ends) j early ≡ some b) × (b + p ! j + ends ! j ≤ mostTime) × (starts' ≡ set starts j b) × Ready (length starts) starts' ends p o'
+    (b : ℕ) × (detect (length starts) p (told starts ends) j early ≡ some b) × (b + p ! j + ends ! j ≤ most_time) × (starts' ≡ set starts j b) × Ready (length starts) starts' ends p o'
 TurnOn starts ends p o j starts' o' Closed =
-    (b : ℕ) × (detect (length starts) p (told starts ends) j early ≡ some b) × (mostTime < b + p ! j + ends ! j) × (starts' ≡ starts) × (o' ≡ o)
+    (b : ℕ) × (detect (length starts) p (told starts ends) j early ≡ some b) × (most_time < b + p ! j + ends ! j) × (starts' ≡ starts) × (o' ≡ o)
 
 -- the windows after job j's side s is moved by the choice c
 abbrev pub then : ℕ → List ℕ → HeadLists → ℕ → Side → ℕ → Win

@@ -3,7 +3,7 @@
 ghost use Rattle.std.specs.Prelude.{◌<◌, length};
 ghost use Rattle.narrowing.specs.Windows.{side_of};
 ghost use Rattle.ahead.specs.Ready.{Ready};
-ghost use Rattle.headturns.specs.Turns.{headLists, Both, TurnOn, TurnSays};
+ghost use Rattle.headturns.specs.Turns.{head_lists, Both, TurnOn, TurnSays};
 
 use screen::{MOST_JOBS, MOST_TIME};
 
@@ -47,8 +47,8 @@ pub fn take_turn(
     job: usize,
     side: u32,
 ) -> Turn
-    requires { Both (length starts.old) dur.now (headLists starts.old ends.old fore.old rear.old) × (job < length starts.old) }
-    ensures { TurnSays (length starts.old) dur.now (headLists starts.old ends.old fore.old rear.old) job (side_of side) (headLists starts.new ends.new fore.new rear.new) result }
+    requires { Both (length starts.old) dur.now (head_lists starts.old ends.old fore.old rear.old) × (job < length starts.old) }
+    ensures { TurnSays (length starts.old) dur.now (head_lists starts.old ends.old fore.old rear.old) job (side_of side) (head_lists starts.new ends.new fore.new rear.new) result }
 {
     if side == 0 {
         return turn_on(starts, ends, dur, fore, job);

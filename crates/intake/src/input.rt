@@ -4,7 +4,7 @@
 // value and comes back. What a line lacks or has too much of spoils the cursor: from there on nothing
 // more of that line is taken, and `is_whole` says no at its end.
 ghost use Rattle.std.specs.Prelude.{true, false, ◌≡◌, ◌≤◌, ◌<◌, ◌-◌};
-ghost use Rattle.intake.specs.Line.{lineEnd, at_byte, whole};
+ghost use Rattle.intake.specs.Line.{line_end, at_byte, whole};
 
 use libc::STDIN_FILENO;
 
@@ -99,7 +99,7 @@ pub fn is_digit(c: Cursor) -> bool
 }
 
 pub fn is_line_end(c: Cursor) -> bool
-    ensures value { result ≡ lineEnd c }
+    ensures value { result ≡ line_end c }
     ensures left_nonzero { result ≡ false → 0 < c.left }
 {
     if c.left == 0 {

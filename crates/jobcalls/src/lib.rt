@@ -9,7 +9,7 @@ ghost use Rattle.desk.specs.Conflicts.{blame, Blames};
 ghost use Rattle.desk.specs.Overloads.{Overloads};
 ghost use Rattle.sayings.specs.Sayings.{Tells};
 ghost use Rattle.packed.specs.Packed.{list_of};
-ghost use Rattle.requests.specs.Sizes.{jobEntries};
+ghost use Rattle.requests.specs.Sizes.{job_entries};
 ghost use Rattle.jobcalls.specs.Sequenced.{Sequenced};
 
 use requests::{JOBS, Task};
@@ -17,7 +17,7 @@ use sayings::{Saying, checking, marking, narrowing, overloading};
 
 // Room for a list of jobs. The `ensures` gives only the length, which lending the array as a slice needs.
 fn room() -> [u32; JOBS]
-    ensures { jobEntries ≡ length result }
+    ensures { job_entries ≡ length result }
 {
     [0; JOBS]
 }

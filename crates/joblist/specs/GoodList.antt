@@ -3,7 +3,7 @@
 use Rattle.std.specs.Prelude.{ℕ, zero, suc, ◌≤◌, ◌<◌, ◌≡◌, Bool, true, List, [], ◌∷◌, ◌++◌, ◌⊎◌, length, eqb, leb}
 use Rattle.lists.specs.Lists.{◌!◌, Every}
 use Rattle.lists.specs.Tests.{both, unless}
-use Rattle.joblist.specs.Limits.{Column, mostJobs}
+use Rattle.joblist.specs.Limits.{Column, most_jobs}
 
 -- ---- facts
 
@@ -18,7 +18,7 @@ Within c = (k : ℕ) → c.list ! k ≤ c.most
 -- a good list of n jobs: `columns` are the lists of the call, `alone` the numbers that stand beside them
 pub record GoodList (n : ℕ) (columns alone : List Column) : Type 0 where
   pub sized : Every (Sized n) columns
-  pub few : n ≤ mostJobs
+  pub few : n ≤ most_jobs
   pub within : Every Within columns
   pub beside : Every Within alone
 
@@ -39,8 +39,8 @@ Unequal n columns = Any (λ c. Sized n c → ⊥) columns
 abbrev pub Given : ℕ → ℕ → List Column → List Column → Type 0
 Given zero n columns alone = GoodList n columns alone
 Given (suc zero) n columns alone = Unequal n columns
-Given (suc (suc zero)) n columns alone = Every (Sized n) columns × (mostJobs < n)
-Given (suc (suc (suc zero))) n columns alone = Every (Sized n) columns × (n ≤ mostJobs) × Any Above (columns ++ alone)
+Given (suc (suc zero)) n columns alone = Every (Sized n) columns × (most_jobs < n)
+Given (suc (suc (suc zero))) n columns alone = Every (Sized n) columns × (n ≤ most_jobs) × Any Above (columns ++ alone)
 Given (suc (suc (suc (suc k)))) n columns alone = ⊥
 
 -- ---- tests
@@ -64,5 +64,5 @@ unfoldable pub refusal : ℕ → List Column → List Column → ℕ
 unfolding sized within
 refusal n columns alone =
     unless (sized n columns) 1
-    (unless (leb n mostJobs) 2
+    (unless (leb n most_jobs) 2
     (unless (both (within columns) (within alone)) 3 0))

@@ -10,54 +10,54 @@ use lib.ListN.{length}
 use Rattle.lists.specs.Lists.{◌!◌}
 use Rattle.lists.specs.Tests.{unless}
 use Rattle.narrowing.specs.Windows.{Win, win}
-use Rattle.members.specs.Members.{onesOf}
-use Rattle.journal.specs.Journal.{countWord, recordWords, setOfRecord, job_of, timeOf}
+use Rattle.members.specs.Members.{ones_of}
+use Rattle.journal.specs.Journal.{count_word, record_words, set_of_record, job_of, time_of}
 use Rattle.timetable.specs.Reason.{named}
 use Rattle.timetable.specs.Table.{call, Good}
 use Rattle.codes.specs.Facts.{side, InRange}
-use Rattle.codes.specs.Codes.{in_range, takesPart, partners, statedTrue, tightens, lean, code}
-use Rattle.exam.specs.Lent.{jobsIn, Timed, Drawn, LetThrough}
-use Rattle.codes.proofs.Codes.{range-judged, partners-judged}
+use Rattle.codes.specs.Codes.{in_range, takes_part, partners, stated_true, tightens, lean, code}
+use Rattle.exam.specs.Lent.{jobs_in, Timed, Drawn, LetThrough}
+use Rattle.codes.proofs.Codes.{range_judged, partners_judged}
 
 -- ---- the chain from each code on, each test over what it looks at
 
 module _ (cap : ℕ) (W : Win) (p r x : List ℕ) where
   abbrev pub from27 : ℕ
-  from27 = unless (lean (jobsIn (length r) [] r cap) x) 27 0
+  from27 = unless (lean (jobs_in (length r) [] r cap) x) 27 0
 
   abbrev pub from26 : ℕ
-  from26 = unless (tightens W (job_of x) (side x) (timeOf x)) 26 from27
+  from26 = unless (tightens W (job_of x) (side x) (time_of x)) 26 from27
 
   abbrev pub from25 : ℕ
-  from25 = unless (statedTrue (jobsIn 0 p [] 0) W x) 25 from26
+  from25 = unless (stated_true (jobs_in 0 p [] 0) W x) 25 from26
 
   abbrev pub from24 : ℕ
-  from24 = unless (ltb cap (named (jobsIn (length r) [] r 0) x)) 24 from25
+  from24 = unless (ltb cap (named (jobs_in (length r) [] r 0) x)) 24 from25
 
   abbrev pub from23 : ℕ
-  from23 = unless (eqb (x ! countWord) (onesOf (setOfRecord x))) 23 from24
+  from23 = unless (eqb (x ! count_word) (ones_of (set_of_record x))) 23 from24
 
   abbrev pub from22 : ℕ
-  from22 = unless (partners (jobsIn (length p) p r 0) x) 22 from23
+  from22 = unless (partners (jobs_in (length p) p r 0) x) 22 from23
 
   abbrev pub from21 : ℕ
-  from21 = unless (in_range (jobsIn (length p) [] [] 0) x) 21 from22
+  from21 = unless (in_range (jobs_in (length p) [] [] 0) x) 21 from22
 
-  pub code_is : length r ≡ length p → code (jobsIn (length p) p r cap) W x ≡ from21
-  unfolding code in_range partners takesPart statedTrue lean
+  pub code_is : length r ≡ length p → code (jobs_in (length p) p r cap) W x ≡ from21
+  unfolding code in_range partners takes_part stated_true lean
   code_is e = rw e
 
 -- ---- after 21 and 22
 
-pub ranged : (n : ℕ) (x : List ℕ) → in_range (jobsIn n [] [] 0) x ≡ true → InRange (jobsIn n [] [] 0) x
-ranged n x h = (range-judged (jobsIn n [] [] 0) (win [] []) x).passed h
+pub ranged : (n : ℕ) (x : List ℕ) → in_range (jobs_in n [] [] 0) x ≡ true → InRange (jobs_in n [] [] 0) x
+ranged n x h = (range_judged (jobs_in n [] [] 0) (win [] []) x).passed h
 
-pub placed : (n : ℕ) (p r x : List ℕ) → in_range (jobsIn n [] [] 0) x ≡ true → partners (jobsIn n p r 0) x ≡ true → length x ≡ recordWords → LetThrough n x
+pub placed : (n : ℕ) (p r x : List ℕ) → in_range (jobs_in n [] [] 0) x ≡ true → partners (jobs_in n p r 0) x ≡ true → length x ≡ record_words → LetThrough n x
 placed n p r x h q w = record {
   words = w;
   job = (ranged n x h).job;
   time = (ranged n x h).time;
-  members = λ k m. (((partners-judged (jobsIn n p r 0) (win [] []) x).passed q).members k m).0.listed;
+  members = λ k m. (((partners_judged (jobs_in n p r 0) (win [] []) x).passed q).members k m).0.listed;
 }
 
 -- the demands of a good list

@@ -7,43 +7,43 @@ use lib.ListN.{length, take}
 use lib.Seq.{get_or-take, length-take-le}
 use Rattle.lists.specs.Lists.{◌!◌}
 use Rattle.answers.specs.Said.{Word, said}
-use Rattle.answers.proofs.Same.{not-said}
-use Rattle.joblist.specs.Limits.{mostJobs}
+use Rattle.answers.proofs.Same.{not_said}
+use Rattle.joblist.specs.Limits.{most_jobs}
 use Rattle.chains.specs.Paths.{Longest, Back, weight}
-use Rattle.chains.proofs.Chains.{chain-map}
-use Rattle.texts.proofs.Readings.{good-same}
-use Rattle.projects.specs.Projects.{Project, pairsOf, WithinLimits}
+use Rattle.chains.proofs.Chains.{chain_map}
+use Rattle.texts.proofs.Readings.{good_same}
+use Rattle.projects.specs.Projects.{Project, pairs_of, WithinLimits}
 use Rattle.walking.specs.Comes.{comes, rows_at}
 use Rattle.parsing.specs.declared.Shape.{Shape}
 use Rattle.parsing.specs.declared.Parsed.{Parsed}
-use Rattle.parsing.proofs.Parsing.{parsing-few}
-use Rattle.exchange.specs.Calls.{Lent, TextCall, TextAfter, Order, durationOf}
+use Rattle.parsing.proofs.Parsing.{parsing_few}
+use Rattle.exchange.specs.Calls.{Lent, TextCall, TextAfter, Order, duration_of}
 use Rattle.exchange.specs.Tests.{Fitting, ListsFit, Refusal}
 use Rattle.exchange.specs.Table.{Filled}
 use Rattle.exchange.specs.Promise.{Reads}
-use Rattle.exchange.proofs.Tests.{refusal-none}
+use Rattle.exchange.proofs.Tests.{refusal_none}
 use Rattle.exchange.proofs.Asked.{refused}
 use Rattle.exchange.proofs.Meaning.{reads_of}
 use Rattle.lent.specs.declared.Draft.{Draft}
 use Rattle.lent.specs.Parts.{Drafted, FilledFrom, Roomy, Wrote}
 use Rattle.deciding.specs.Decided.{Accepted, DecidedSays}
-use Rattle.deciding.proofs.Deciding.{range, duration-at}
+use Rattle.deciding.proofs.Deciding.{range, duration_at}
 
-longest-weights : (R : ℕ → ℕ → Type 0) (w u : ℕ → ℕ) → ((a b : ℕ) → R a b → w a ≡ u a) → {j L : ℕ} → Longest R w j L → Longest R u j L
-longest-weights R w u f l = record {
-  one = chain-map R R w u (λ a b r. (r, f a b r)) l.one;
-  most = λ M c. l.most M (chain-map R R u w (λ a b r. (r, sym (f a b r))) c);
+longest_weights : (R : ℕ → ℕ → Type 0) (w u : ℕ → ℕ) → ((a b : ℕ) → R a b → w a ≡ u a) → {j L : ℕ} → Longest R w j L → Longest R u j L
+longest_weights R w u f l = record {
+  one = chain_map R R w u (λ a b r. (r, f a b r)) l.one;
+  most = λ M c. l.most M (chain_map R R u w (λ a b r. (r, sym (f a b r))) c);
 }
 
 -- by what was decided
-pub accepted-of : (c : TextCall) (s : List ℕ) (d : Draft) (g : Parsed) (z : Shape) → g ≡ Parsed.Read z → DecidedSays c s d g → Accepted c s d z
-accepted-of c s d g z e says = rw e at says
+pub accepted_of : (c : TextCall) (s : List ℕ) (d : Draft) (g : Parsed) (z : Shape) → g ≡ Parsed.Read z → DecidedSays c s d g → Accepted c s d z
+accepted_of c s d g z e says = rw e at says
 
 -- a text that is refused: every lent word as it was
-pub refused-reads : (c : TextCall) (k : ℕ) → Refusal c k × (k ≡ 0 → ⊥) → Reads c (refused c.lent k)
-refused-reads c zero q = absurd (q.1 refl)
-refused-reads c (suc k) q =
-    let unread : Word.refused ≡ Word.read → ⊥ = not-said Word.refused Word.read (λ z. omega arith) in
+pub refused_reads : (c : TextCall) (k : ℕ) → Refusal c k × (k ≡ 0 → ⊥) → Reads c (refused c.lent k)
+refused_reads c zero q = absurd (q.1 refl)
+refused_reads c (suc k) q =
+    let unread : Word.refused ≡ Word.read → ⊥ = not_said Word.refused Word.read (λ z. omega arith) in
     record {
       answered = record { number = suc k; refusal = q.0; leaves = refl };
       good = λ e. absurd (unread e);
@@ -61,42 +61,42 @@ module _ (c : TextCall) (s : List ℕ) (d : Draft) (z : Shape) (a : Accepted c s
   x = a.x
 
   fits : ListsFit x L
-  fits = (refusal-none c x [] a.text a.refusal).1.fits
+  fits = (refusal_none c x [] a.text a.refusal).1.fits
 
-  pub few : z.n ≤ mostJobs
-  few = parsing-few s c.resource d.dur d.dem z x a.parsing
+  pub few : z.n ≤ most_jobs
+  few = parsing_few s c.resource d.dur d.dem z x a.parsing
 
   -- the lists have the lengths that are wanted, and room
   pub fitting : Fitting z.n z.pairs (length L.est) (length L.lct) (length L.dur) (length L.dem) (length L.jobs) (length L.successors)
   fitting = rw (← a.parsing.jobs, ← a.parsing.count) fits
 
-  pub pair-room : Roomy (comes z.n z.table s (rows_at z.at)) L.jobs L.successors
-  pair-room = record { ps = pairsOf x; end = a.parsing.end; come = a.parsing.come; jobs = fits.jobs; successors = fits.successors }
+  pub pair_room : Roomy (comes z.n z.table s (rows_at z.at)) L.jobs L.successors
+  pair_room = record { ps = pairs_of x; end = a.parsing.end; come = a.parsing.come; jobs = fits.jobs; successors = fits.successors }
 
   module _ (K : Lent) (drafted : Drafted d) (f : FilledFrom d c.horizon L.est L.lct L.dur L.dem K.est K.lct K.dur K.dem)
       (w : Wrote (comes z.n z.table s (rows_at z.at)) L.jobs L.successors K.jobs K.successors) where
-    abbrev weighs : (j : ℕ) → j < z.n → d.dur ! j ≡ durationOf x j
-    weighs = duration-at s c.resource d.dur d.dem z x a.parsing
+    abbrev weighs : (j : ℕ) → j < z.n → d.dur ! j ≡ duration_of x j
+    weighs = duration_at s c.resource d.dur d.dem z x a.parsing
 
-    abbrev jobs-below : (i j : ℕ) → Order x i j → (i < z.n) × (j < z.n)
-    jobs-below = range s c.resource d.dur d.dem z x a.parsing
+    abbrev jobs_below : (i j : ℕ) → Order x i j → (i < z.n) × (j < z.n)
+    jobs_below = range s c.resource d.dur d.dem z x a.parsing
 
     filled : Filled x c.resource c.horizon L K
     filled =
-        let pairs = w.are (pairsOf x) a.parsing.end a.parsing.come in
+        let pairs = w.are (pairs_of x) a.parsing.end a.parsing.come in
         record {
-          est-long = ap length f.est ∙ length-take-le (length L.est) d.heads (omega (arith, fitting.est, few, drafted.heads)) ∙ fits.est;
-          lct-long = f.lct.long ∙ fits.lct;
+          est_long = ap length f.est ∙ length-take-le (length L.est) d.heads (omega (arith, fitting.est, few, drafted.heads)) ∙ fits.est;
+          lct_long = f.lct.long ∙ fits.lct;
           est = λ j b.
               let at : K.est ! j ≡ d.heads ! j = ap (λ (l : List ℕ). l ! j) f.est ∙ get_or-take (length L.est) d.heads j 0 (omega (arith, fits.est)) in
-              rw at (longest-weights (Order x) (weight d.dur) (durationOf x) (λ i k q. weighs i (jobs-below i k q).0) (a.chains.before j));
+              rw at (longest_weights (Order x) (weight d.dur) (duration_of x) (λ i k q. weighs i (jobs_below i k q).0) (a.chains.before j));
           lct = λ j b. (
             d.tails ! j,
-            longest-weights (Back (Order x)) (weight d.dur) (durationOf x) (λ i k q. weighs i (jobs-below k i q).1) (a.chains.after j),
+            longest_weights (Back (Order x)) (weight d.dur) (duration_of x) (λ i k q. weighs i (jobs_below k i q).1) (a.chains.after j),
             f.lct.each j (omega (arith, fits.lct)),
           );
-          dur = f.dur ∙ ap (λ (m : ℕ). take m d.dur) fitting.dur ∙ sym a.parsing.durs-are;
-          dem = f.dem ∙ ap (λ (m : ℕ). take m d.dem) fitting.dem ∙ sym a.parsing.dems-are;
+          dur = f.dur ∙ ap (λ (m : ℕ). take m d.dur) fitting.dur ∙ sym a.parsing.durs_are;
+          dem = f.dem ∙ ap (λ (m : ℕ). take m d.dem) fitting.dem ∙ sym a.parsing.dems_are;
           jobs = pairs.0;
           successors = pairs.1;
         }
@@ -106,7 +106,7 @@ module _ (c : TextCall) (s : List ℕ) (d : Draft) (z : Shape) (a : Accepted c s
 
     pub taken : Reads c after
     taken =
-        reads_of c (λ y rest e. subst WithinLimits (good-same x y [] rest (sym a.text ∙ e)).0 a.parsing.limits) after (record {
+        reads_of c (λ y rest e. subst WithinLimits (good_same x y [] rest (sym a.text ∙ e)).0 a.parsing.limits) after (record {
           number = 0;
           refusal = a.refusal;
           leaves = record { x = x; rest = []; text = a.text; says = rw (a.parsing.cap, a.parsing.count); filled = filled };

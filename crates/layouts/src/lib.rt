@@ -1,6 +1,6 @@
 // Project texts read (document 02, Items 1 and 13): a job list and its precedence pairs are made of a partner's text. What is decided is decided before
 // (`deciding`), and the lent lists are filled behind the last refusal. The readers differ in their layouts alone.
-ghost use Rattle.answers.specs.Said.{saysRead};
+ghost use Rattle.answers.specs.Said.{says_read};
 ghost use Rattle.projects.specs.Patterson.{patterson};
 ghost use Rattle.psplib.specs.Psplib.{psplib};
 ghost use Rattle.exchange.specs.Promise.{Reads};
@@ -23,7 +23,7 @@ pub fn read_patterson(
 ) -> ReadAnswer
     ensures { Reads
         (record { text = patterson text.entry.now; resource = resource; horizon = horizon; lent = record { est = est.entry.now; lct = lct.old; dur = dur.old; dem = dem.old; jobs = jobs.old; successors = successors.old } })
-        (record { says = saysRead result; lent = record { est = est.exit.now; lct = lct.new; dur = dur.new; dem = dem.new; jobs = jobs.new; successors = successors.new } }) }
+        (record { says = says_read result; lent = record { est = est.exit.now; lct = lct.new; dur = dur.new; dem = dem.new; jobs = jobs.new; successors = successors.new } }) }
 {
     let sizes = Sizes {
         est: est.len(),
@@ -61,7 +61,7 @@ pub fn read_psplib(
 ) -> ReadAnswer
     ensures { Reads
         (record { text = psplib text.entry.now; resource = resource; horizon = horizon; lent = record { est = est.entry.now; lct = lct.old; dur = dur.old; dem = dem.old; jobs = jobs.old; successors = successors.old } })
-        (record { says = saysRead result; lent = record { est = est.exit.now; lct = lct.new; dur = dur.new; dem = dem.new; jobs = jobs.new; successors = successors.new } }) }
+        (record { says = says_read result; lent = record { est = est.exit.now; lct = lct.new; dur = dur.new; dem = dem.new; jobs = jobs.new; successors = successors.new } }) }
 {
     let sizes = Sizes {
         est: est.len(),

@@ -37,40 +37,40 @@ pub record Midway (js₀ ss₀ js ss : List ℕ) (now : Read (List Pair)) (i : �
   pub all : ps ≡ done ++ rest
   pub long : length done ≡ i
   pub ahead : now ≡ good rest end
-  pub js-are : js ≡ map (λ (p : Pair). p.job) done ++ drop i js₀
-  pub ss-are : ss ≡ map (λ (p : Pair). p.successor) done ++ drop i ss₀
+  pub js_are : js ≡ map (λ (p : Pair). p.job) done ++ drop i js₀
+  pub ss_are : ss ≡ map (λ (p : Pair). p.successor) done ++ drop i ss₀
 
 pub record Writing (n : ℕ) (table : Table) (s : List ℕ) (at : ℕ) (js₀ ss₀ js ss : List ℕ) (w : Walk) (i : ℕ) : Type 0 where
   pub fit : Fit n w
-  pub long-js : length js ≡ length js₀
-  pub long-ss : length ss ≡ length ss₀
+  pub long_js : length js ≡ length js₀
+  pub long_ss : length ss ≡ length ss₀
   pub mid : (ps : List Pair) (end : List Token) → comes n table s (rows_at at) ≡ good ps end → Midway js₀ ss₀ js ss (comes n table s w) i ps end
 
 module _ (n : ℕ) (table : Table) (s : List ℕ) (at : ℕ) (js₀ ss₀ : List ℕ) where
   pub writing_start : Writing n table s at js₀ ss₀ js₀ ss₀ (rows_at at) 0
   writing_start = record {
     fit = record { begun = omega arith; owned = omega arith };
-    long-js = refl;
-    long-ss = refl;
-    mid = λ ps end e. record { done = []; rest = ps; all = refl; long = refl; ahead = e; js-are = refl; ss-are = refl };
+    long_js = refl;
+    long_ss = refl;
+    mid = λ ps end e. record { done = []; rest = ps; all = refl; long = refl; ahead = e; js_are = refl; ss_are = refl };
   }
 
   module _ (js ss : List ℕ) (w : Walk) (i : ℕ) (g : Writing n table s at js₀ ss₀ js ss w i) where
-    pub writing-end : PullSays n table s w NoMore → Wrote (comes n table s (rows_at at)) js₀ ss₀ js ss
-    writing-end t = record {
+    pub writing_end : PullSays n table s w NoMore → Wrote (comes n table s (rows_at at)) js₀ ss₀ js ss
+    writing_end t = record {
       are = λ ps end e.
           let m = g.mid ps end e in
           let z : ps ≡ m.done = m.all ∙ ap (λ (l : List Pair). m.done ++ l) (t m.rest end m.ahead) ∙ append-nil m.done in
           let y : length ps ≡ i = ap length z ∙ m.long in
-          rw (y, z) (m.js-are, m.ss-are);
+          rw (y, z) (m.js_are, m.ss_are);
     }
 
     module _ (a b : ℕ) (u : Walk) (t : PullSays n table s w (Next a b u)) where
       pub writing_step : i < length js → i < length ss → Writing n table s at js₀ ss₀ (set js i a) (set ss i b) u (i + 1)
       writing_step h₁ h₂ = record {
         fit = t.1;
-        long-js = length-set js i a ∙ g.long-js;
-        long-ss = length-set ss i b ∙ g.long-ss;
+        long_js = length-set js i a ∙ g.long_js;
+        long_ss = length-set ss i b ∙ g.long_ss;
         mid = λ ps end e.
             let m = g.mid ps end e in
             let d = t.0 m.rest end m.ahead in
@@ -80,8 +80,8 @@ module _ (n : ℕ) (table : Table) (s : List ℕ) (at : ℕ) (js₀ ss₀ : List
               all = m.all ∙ ap (λ (l : List Pair). m.done ++ l) d.1 ∙ sym (append_assoc m.done (pair a b ∷ []) d.0);
               long = omega (arith, m.long, length-append m.done (pair a b ∷ []));
               ahead = d.2;
-              js-are = write_step (λ (p : Pair). p.job) m.done i js js₀ (pair a b) m.long g.long-js h₁ m.js-are;
-              ss-are = write_step (λ (p : Pair). p.successor) m.done i ss ss₀ (pair a b) m.long g.long-ss h₂ m.ss-are;
+              js_are = write_step (λ (p : Pair). p.job) m.done i js js₀ (pair a b) m.long g.long_js h₁ m.js_are;
+              ss_are = write_step (λ (p : Pair). p.successor) m.done i ss ss₀ (pair a b) m.long g.long_ss h₂ m.ss_are;
             };
       }
 

@@ -1,7 +1,7 @@
 -- What the readers' inner functions say: the lengths that are wanted; the lists written.
 use Rattle.std.specs.Prelude.{ℕ, ◌+◌, ◌≤◌, ◌<◌, ◌≡◌, Bool, true, false, List, ◌++◌, map, length, drop, take}
 use Rattle.lists.specs.Lists.{◌!◌}
-use Rattle.joblist.specs.Limits.{mostJobs}
+use Rattle.joblist.specs.Limits.{most_jobs}
 use Rattle.chains.specs.Paths.{Pair}
 use Rattle.texts.specs.Tokens.{Token}
 use Rattle.texts.specs.Readings.{Read, good}
@@ -21,10 +21,10 @@ pub record Lessened (tails : List ℕ) (h : ℕ) (to to' : List ℕ) : Type 0 wh
 
 -- four arrays
 pub record Drafted (d : Draft) : Type 0 where
-  pub heads : length d.heads ≡ mostJobs
-  pub tails : length d.tails ≡ mostJobs
-  pub dur : length d.dur ≡ mostJobs
-  pub dem : length d.dem ≡ mostJobs
+  pub heads : length d.heads ≡ most_jobs
+  pub tails : length d.tails ≡ most_jobs
+  pub dur : length d.dur ≡ most_jobs
+  pub dem : length d.dem ≡ most_jobs
 
 -- the four lists of the jobs filled from them
 pub record FilledFrom (f : Draft) (h : ℕ) (e l d q e' l' d' q' : List ℕ) : Type 0 where

@@ -1,7 +1,7 @@
 // The lists that a reader of project texts is lent (document 02, Item 1): whether their lengths fit, and how they are filled.
 ghost use Rattle.std.specs.Prelude.{◌≡◌, ℕ, ◌≤◌, length};
 ghost use Rattle.lists.specs.Lists.{◌!◌};
-ghost use Rattle.joblist.specs.Limits.{mostJobs};
+ghost use Rattle.joblist.specs.Limits.{most_jobs};
 ghost use Rattle.walking.specs.Comes.{comes, rows_at};
 ghost use Rattle.lent.specs.Parts.{RoomSays, Lessened, Drafted, FilledFrom, Roomy, Wrote};
 
@@ -57,7 +57,7 @@ pub fn roomy(sizes: Sizes, n: u32, m: usize) -> bool
 
 // The horizon less each chain.
 fn latest(tails: &[u32; screen::MOST_JOBS], h: u32, to: &mut [u32])
-    requires { (length tails.now ≡ mostJobs) × (length to.old ≤ mostJobs) × ((j : ℕ) → tails.now ! j ≤ h) }
+    requires { (length tails.now ≡ most_jobs) × (length to.old ≤ most_jobs) × ((j : ℕ) → tails.now ! j ≤ h) }
     ensures { Lessened tails.now h to.old to.new }
 {
     let mut i: usize = 0;
@@ -77,7 +77,7 @@ pub fn fill(
     dem: &mut [u32],
 )
     requires { Drafted draft × ((j : ℕ) → draft.tails ! j ≤ h)
-        × (length est.old ≤ mostJobs) × (length lct.old ≤ mostJobs) × (length dur.old ≤ mostJobs) × (length dem.old ≤ mostJobs) }
+        × (length est.old ≤ most_jobs) × (length lct.old ≤ most_jobs) × (length dur.old ≤ most_jobs) × (length dem.old ≤ most_jobs) }
     ensures { FilledFrom draft h est.old lct.old dur.old dem.old
         est.new lct.new dur.new dem.new }
 {
@@ -93,7 +93,7 @@ pub fn fill(
 
 // The pairs of the text, in its order, where there is room for them. Each turn takes a token.
 pub fn write_pairs(text: &[u8], n: u32, table: Table, at: usize, js: &mut [u32], ss: &mut [u32])
-    requires { (n ≤ mostJobs) × Roomy (comes n table text.now (rows_at at)) js.old ss.old }
+    requires { (n ≤ most_jobs) × Roomy (comes n table text.now (rows_at at)) js.old ss.old }
     ensures { Wrote (comes n table text.now (rows_at at)) js.old ss.old js.new ss.new }
 {
     let mut w = Walk {

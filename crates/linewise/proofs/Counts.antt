@@ -6,22 +6,22 @@ use mathlib.Core.List.{List}
 use lib.ListN.{drop, take}
 use Rattle.texts.specs.Tokens.{tokens}
 use Rattle.texts.specs.Readings.{one}
-use Rattle.headings.specs.Lines.{behind, nextLine, behindLines, counted}
+use Rattle.headings.specs.Lines.{behind, next_line, behind_lines, counted}
 use Rattle.linewise.specs.Says.{LineTo}
 
 -- on the part of the text that ends with the line
-pub counted-part : (top : ℕ) (s : List ℕ) (at end from : ℕ) → LineTo s at end → drop from (take end s) ≡ behind 58 (drop at (take end s))
+pub counted_part : (top : ℕ) (s : List ℕ) (at end from : ℕ) → LineTo s at end → drop from (take end s) ≡ behind 58 (drop at (take end s))
     → counted top (drop at s) ≡ one top 31 (tokens (drop from (take end s)))
 unfolding counted
-counted-part top s at end from l e = ap (λ (t : List ℕ). one top 31 (tokens t)) (sym (e ∙ ap (behind 58) l.same))
+counted_part top s at end from l e = ap (λ (t : List ℕ). one top 31 (tokens t)) (sym (e ∙ ap (behind 58) l.same))
 
 -- ---- lines
 
-pub lines_none : (m : ℕ) (s : List ℕ) → m ≡ 0 → s ≡ behindLines m s
-unfolding behindLines
+pub lines_none : (m : ℕ) (s : List ℕ) → m ≡ 0 → s ≡ behind_lines m s
+unfolding behind_lines
 lines_none m s e = rw e
 
-pub lines_step : (m : ℕ) (s t : List ℕ) → 0 < m → t ≡ nextLine s → behindLines m s ≡ behindLines (m - 1) t
-unfolding behindLines
+pub lines_step : (m : ℕ) (s t : List ℕ) → 0 < m → t ≡ next_line s → behind_lines m s ≡ behind_lines (m - 1) t
+unfolding behind_lines
 lines_step zero s t h e = absurd (omega arith)
 lines_step (suc m) s t h e = let z : suc m - 1 ≡ m = omega arith in rw (z, e)

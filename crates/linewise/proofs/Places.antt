@@ -18,23 +18,23 @@ use Rattle.linewise.specs.Says.{LineTo}
 -- ---- bytes compared
 
 module _ (word s : List ℕ) (i : ℕ) where
-  pub starts-step : i < length word → i < length s → starts_with (drop i word) (drop i s) ≡ both (eqb (s ! i) (word ! i)) (starts_with (drop (i + 1) word) (drop (i + 1) s))
+  pub starts_step : i < length word → i < length s → starts_with (drop i word) (drop i s) ≡ both (eqb (s ! i) (word ! i)) (starts_with (drop (i + 1) word) (drop (i + 1) s))
   unfolding starts_with
-  starts-step h k = rw (add-one, drop-cons word i 0, drop-cons s i 0)
+  starts_step h k = rw (add-one, drop-cons word i 0, drop-cons s i 0)
 
-  pub starts-short : i < length word → length s ≤ i → starts_with (drop i word) (drop i s) ≡ false
+  pub starts_short : i < length word → length s ≤ i → starts_with (drop i word) (drop i s) ≡ false
   unfolding starts_with
-  starts-short h k = rw (drop-cons word i 0, drop_of_length-le s k)
+  starts_short h k = rw (drop-cons word i 0, drop_of_length-le s k)
 
-  pub starts-end : length word ≤ i → starts_with (drop i word) (drop i s) ≡ true
+  pub starts_end : length word ≤ i → starts_with (drop i word) (drop i s) ≡ true
   unfolding starts_with
-  starts-end h = rw (drop_of_length-le word h)
+  starts_end h = rw (drop_of_length-le word h)
 
 -- behind the end no bytes stand
-pub starts-past : (word s : List ℕ) (at : ℕ) → length s ≤ at → eqb (length word) 0 ≡ starts_with word (drop at s)
+pub starts_past : (word s : List ℕ) (at : ℕ) → length s ≤ at → eqb (length word) 0 ≡ starts_with word (drop at s)
 unfolding starts_with
-starts-past [] s at h = refl
-starts-past (w ∷ ws) s at h = rw (eqb-suc-zero (length ws), drop_of_length-le s h)
+starts_past [] s at h = refl
+starts_past (w ∷ ws) s at h = rw (eqb-suc-zero (length ws), drop_of_length-le s h)
 
 -- a part up to the end
 pub part-rest : (s : List ℕ) (at : ℕ) → take (length s - at) (drop at s) ≡ drop at s
@@ -43,47 +43,47 @@ part-rest s at = take_all (length s - at) (drop at s) (omega (arith, length-drop
 -- ---- the first byte of a kind
 
 module _ (s : List ℕ) (i : ℕ) where
-  pub unspaced-end : length s ≤ i → drop i s ≡ unspaced (drop i s)
+  pub unspaced_end : length s ≤ i → drop i s ≡ unspaced (drop i s)
   unfolding unspaced
-  unspaced-end h = rw (drop_of_length-le s h)
+  unspaced_end h = rw (drop_of_length-le s h)
 
-  pub behind-end : (b : ℕ) → length s ≤ i → drop i s ≡ behind b (drop i s)
+  pub behind_end : (b : ℕ) → length s ≤ i → drop i s ≡ behind b (drop i s)
   unfolding behind
-  behind-end b h = rw (drop_of_length-le s h)
+  behind_end b h = rw (drop_of_length-le s h)
 
   module _ (h : i < length s) where
-    pub unspaced-space : s ! i ≡ 32 → unspaced (drop i s) ≡ unspaced (drop (i + 1) s)
+    pub unspaced_space : s ! i ≡ 32 → unspaced (drop i s) ≡ unspaced (drop (i + 1) s)
     unfolding unspaced
-    unspaced-space e = rw (add-one, drop-cons s i 0 h, eq-eqb _ _ e)
+    unspaced_space e = rw (add-one, drop-cons s i 0 h, eq-eqb _ _ e)
 
-    pub unspaced-stop : (s ! i ≡ 32 → ⊥) → drop i s ≡ unspaced (drop i s)
+    pub unspaced_stop : (s ! i ≡ 32 → ⊥) → drop i s ≡ unspaced (drop i s)
     unfolding unspaced
-    unspaced-stop e = rw (drop-cons s i 0 h, ne_eqb _ _ e)
+    unspaced_stop e = rw (drop-cons s i 0 h, ne_eqb _ _ e)
 
-    pub behind-other : (b : ℕ) → (s ! i ≡ b → ⊥) → behind b (drop i s) ≡ behind b (drop (i + 1) s)
+    pub behind_other : (b : ℕ) → (s ! i ≡ b → ⊥) → behind b (drop i s) ≡ behind b (drop (i + 1) s)
     unfolding behind
-    behind-other b e = rw (add-one, drop-cons s i 0 h, ne_eqb _ _ e)
+    behind_other b e = rw (add-one, drop-cons s i 0 h, ne_eqb _ _ e)
 
-    pub behind-here : (b : ℕ) → s ! i ≡ b → drop (i + 1) s ≡ behind b (drop i s)
+    pub behind_here : (b : ℕ) → s ! i ≡ b → drop (i + 1) s ≡ behind b (drop i s)
     unfolding behind
-    behind-here b e = rw (add-one, drop-cons s i 0 h, eq-eqb _ _ e)
+    behind_here b e = rw (add-one, drop-cons s i 0 h, eq-eqb _ _ e)
 
 -- ---- the rest of a line
 
 module _ (s : List ℕ) (i : ℕ) where
-  pub line-over : length s ≤ i → LineTo s i (length s)
+  pub line_over : length s ≤ i → LineTo s i (length s)
   unfolding line
-  line-over h = record { from = λ k. k; inside = omega arith; same = rw (take_all (length s) s (omega arith), drop_of_length-le s h) }
+  line_over h = record { from = λ k. k; inside = omega arith; same = rw (take_all (length s) s (omega arith), drop_of_length-le s h) }
 
   module _ (h : i < length s) where
-    pub line-stop : s ! i ≡ 10 → LineTo s i i
+    pub line_stop : s ! i ≡ 10 → LineTo s i i
     unfolding line
-    line-stop e = record { from = λ k. omega arith; inside = omega arith; same = rw (slice_empty i s, drop-cons s i 0 h, eq-eqb _ _ e) }
+    line_stop e = record { from = λ k. omega arith; inside = omega arith; same = rw (slice_empty i s, drop-cons s i 0 h, eq-eqb _ _ e) }
 
     -- wherever the line from the next byte on ends, the line from here on ends
-    pub line-onward : (s ! i ≡ 10 → ⊥) → (to : ℕ) → LineTo s (i + 1) to → LineTo s i to
+    pub line_onward : (s ! i ≡ 10 → ⊥) → (to : ℕ) → LineTo s (i + 1) to → LineTo s i to
     unfolding line
-    line-onward e to q =
+    line_onward e to q =
         let k : i < to = omega (arith, q.from (omega arith)) in
         record {
           from = λ b. omega arith;

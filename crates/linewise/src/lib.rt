@@ -1,7 +1,7 @@
 // The lines of a text (document 01, 'Library layouts'): from place to place along them, the place behind so many of them, and the number behind the colon
 // of one.
 ghost use Rattle.std.specs.Prelude.{◌≡◌, drop};
-ghost use Rattle.headings.specs.Lines.{behind, nextLine, behindLines, counted};
+ghost use Rattle.headings.specs.Lines.{behind, next_line, behind_lines, counted};
 ghost use Rattle.headings.specs.Headings.{starts_with, unspaced};
 ghost use Rattle.linewise.specs.Says.{LineTo, CountSays};
 
@@ -71,7 +71,7 @@ fn behind(text: &[u8], at: usize, b: u8) -> usize
 
 // The start of the next line; the text's end where there is none.
 pub fn next_line(text: &[u8], at: usize) -> usize
-    ensures { drop result text.now ≡ nextLine (drop at text.now) }
+    ensures { drop result text.now ≡ next_line (drop at text.now) }
 {
     behind(text, at, b'\n')
 }
@@ -92,7 +92,7 @@ fn line_end(text: &[u8], at: usize) -> usize
 
 // The place behind m lines from `at` on.
 pub fn behind_lines(text: &[u8], at: usize, m: u32) -> usize
-    ensures { drop result text.now ≡ behindLines m (drop at text.now) }
+    ensures { drop result text.now ≡ behind_lines m (drop at text.now) }
 {
     let mut to = at;
     let mut left = m;

@@ -2,7 +2,7 @@
 // there is a cycle along them.
 ghost use Rattle.std.specs.Prelude.{◌≡◌, false, [], ℕ, ◌≤◌, ◌<◌, length, replicate};
 ghost use Rattle.lists.specs.Lists.{◌!◌};
-ghost use Rattle.joblist.specs.Limits.{mostJobs};
+ghost use Rattle.joblist.specs.Limits.{most_jobs};
 ghost use Rattle.chains.specs.Listed.{paired, PairInRange};
 ghost use Rattle.texts.specs.Readings.{good};
 ghost use Rattle.passes.specs.Rounds.{RoundSays};
@@ -58,9 +58,9 @@ pub fn rising(jobs: &[u32], successors: &[u32], n: u32) -> bool
 
 // One round over the pairs: a step counts 1, and n is the limit.
 fn round_listed(jobs: &[u32], successors: &[u32], n: u32, v: &mut [u32; screen::MOST_JOBS]) -> Round
-    requires n_le_most_jobs { (n ≤ mostJobs) × (length successors.now ≡ length jobs.now) × (length v.old ≡ mostJobs) }
+    requires n_le_most_jobs { (n ≤ most_jobs) × (length successors.now ≡ length jobs.now) × (length v.old ≡ most_jobs) }
     requires by_index { ((i : ℕ) → i < length jobs.now → PairInRange n jobs.now successors.now i) × ((j : ℕ) → v.old ! j ≤ n) }
-    ensures { RoundSays (good (paired jobs.now successors.now) []) (replicate mostJobs 1) false n v.old v.new result × (length v.new ≡ mostJobs) }
+    ensures { RoundSays (good (paired jobs.now successors.now) []) (replicate most_jobs 1) false n v.old v.new result × (length v.new ≡ most_jobs) }
 {
     let mut changed = false;
     let mut i: usize = 0;
@@ -86,7 +86,7 @@ fn round_listed(jobs: &[u32], successors: &[u32], n: u32, v: &mut [u32; screen::
 
 // Whether there is a cycle: steps are counted, and without a cycle no chain has as many as there are jobs. The sum of the values rises with each round.
 pub fn has_cycle(jobs: &[u32], successors: &[u32], n: u32) -> bool
-    requires n_le_most_jobs { (n ≤ mostJobs) × (length successors.now ≡ length jobs.now) }
+    requires n_le_most_jobs { (n ≤ most_jobs) × (length successors.now ≡ length jobs.now) }
     requires by_index { (i : ℕ) → i < length jobs.now → PairInRange n jobs.now successors.now i }
     ensures { CycleSays jobs.now successors.now result }
 {

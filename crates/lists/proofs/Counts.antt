@@ -7,24 +7,24 @@ use lib.Dec.{leb, ltb}
 use borrow.Author.Tests.{le-leb, lt-leb, lt-ltb, le-ltb}
 use Rattle.lists.specs.Tests.{both, only}
 use Rattle.lists.specs.Sums.{total}
-use Rattle.lists.proofs.Differences.{total-zeros}
+use Rattle.lists.proofs.Differences.{total_zeros}
 
-pub total-plus : (f g : ℕ → ℕ) (m : ℕ) → total (λ k. f k + g k) m ≡ total f m + total g m
+pub total_plus : (f g : ℕ → ℕ) (m : ℕ) → total (λ k. f k + g k) m ≡ total f m + total g m
 unfolding total
-total-plus f g zero = refl
-total-plus f g (suc m) = omega (arith, total-plus f g m)
+total_plus f g zero = refl
+total_plus f g (suc m) = omega (arith, total_plus f g m)
 
 -- row by row or column by column
-pub total-swap : (f : ℕ → ℕ → ℕ) (n m : ℕ) → total (λ t. total (λ k. f k t) n) m ≡ total (λ k. total (λ t. f k t) m) n
+pub total_swap : (f : ℕ → ℕ → ℕ) (n m : ℕ) → total (λ t. total (λ k. f k t) n) m ≡ total (λ k. total (λ t. f k t) m) n
 unfolding total
-total-swap f n zero = omega (arith, total-zeros n)
-total-swap f n (suc m) = omega (arith, total-swap f n m, total-plus (λ k. total (λ t. f k t) m) (λ k. f k m) n)
+total_swap f n zero = omega (arith, total_zeros n)
+total_swap f n (suc m) = omega (arith, total_swap f n m, total_plus (λ k. total (λ t. f k t) m) (λ k. f k m) n)
 
 -- the numbers from a on, below b
-pub count-from : (a b : ℕ) → total (λ t. only (leb a t) 1) b ≡ b - a
+pub count_from : (a b : ℕ) → total (λ t. only (leb a t) 1) b ≡ b - a
 unfolding total
-count-from a zero = omega arith
-count-from a (suc b) = go (dec_le a b) (count-from a b)
+count_from a zero = omega arith
+count_from a (suc b) = go (dec_le a b) (count_from a b)
   where
     go : Dec (a ≤ b) → total (λ t. only (leb a t) 1) b ≡ b - a → total (λ t. only (leb a t) 1) b + only (leb a b) 1 ≡ suc b - a
     go (yes h) e = rw (le-leb a b h) (omega arith)
@@ -45,5 +45,5 @@ counted s p (suc b) = go (dec_le s b) (dec_lt b (s + p)) (counted s p b)
     go (no h) (yes g) e = let q : b < s = omega arith in rw (lt-leb s b q) (omega arith)
     go (no h) (no g) e = omega arith
 
-pub count-stretch : (s p b : ℕ) → s + p ≤ b → total (λ t. only (both (leb s t) (ltb t (s + p))) 1) b ≡ p
-count-stretch s p b h = omega (arith, counted s p b)
+pub count_stretch : (s p b : ℕ) → s + p ≤ b → total (λ t. only (both (leb s t) (ltb t (s + p))) 1) b ≡ p
+count_stretch s p b h = omega (arith, counted s p b)

@@ -12,10 +12,10 @@ module _ (P : ℕ → Type 0) (f : ℕ → Bool) (sound : (t : ℕ) → f t ≡ 
   failed : (t u : ℕ) → t ≡ u → f u ≡ false → P t → ⊥
   failed t u e h p = let z : ◌≡◌ {A = ℕ} 0 1 = cc (full t p) in omega arith
 
-  pub greatest-is : (a k : ℕ) → Greatest P a k (greatest f a k)
+  pub greatest_is : (a k : ℕ) → Greatest P a k (greatest f a k)
   unfolding greatest
-  greatest-is a zero = λ t i. omega arith
-  greatest-is a (suc k) = go (f (a + k)) refl (greatest f a k) (greatest-is a k)
+  greatest_is a zero = λ t i. omega arith
+  greatest_is a (suc k) = go (f (a + k)) refl (greatest f a k) (greatest_is a k)
     where
       go : (b : Bool) → f (a + k) ≡ b → (x : Option ℕ) → Greatest P a k x → Greatest P a (suc k) (or_else b (a + k) x)
       go true h x d = (record { from = omega arith; to = omega arith; has = sound (a + k) h }, λ u i. omega arith)
@@ -74,19 +74,19 @@ module _ (P : ℕ → Type 0) (a k : ℕ) where
 module _ {P Q : ℕ → Type 0} (there : (t : ℕ) → P t → Q t) (back : (t : ℕ) → Q t → P t) {a b x : ℕ} where
   pub last_as : LastWith P a b x → LastWith Q a b x
   last_as L =
-      record { from = L.from; to = L.to; has = λ t e h. there t (L.has t e h); none-behind = λ t h g q. L.none-behind t h g (back t q) }
+      record { from = L.from; to = L.to; has = λ t e h. there t (L.has t e h); none_behind = λ t h g q. L.none_behind t h g (back t q) }
 
-  pub first-as : FirstWith P a b x → FirstWith Q a b x
-  first-as F = record { from = F.from; to = F.to; has = λ h. there x (F.has h); none_before = λ t h g q. F.none_before t h g (back t q) }
+  pub first_as : FirstWith P a b x → FirstWith Q a b x
+  first_as F = record { from = F.from; to = F.to; has = λ h. there x (F.has h); none_before = λ t h g q. F.none_before t h g (back t q) }
 
 module _ {P : ℕ → Type 0} {a k x : ℕ} where
   pub last_none : LastWith P a (a + k) x → x ≤ a → Greatest P a k none
-  last_none L h t i = L.none-behind t (omega (arith, i.from)) i.to i.has
+  last_none L h t i = L.none_behind t (omega (arith, i.from)) i.to i.has
 
   pub last_some : LastWith P a (a + k) x → (t : ℕ) → suc t ≡ x → a ≤ t → Greatest P a k (some t)
   last_some L t e h = (
     record { from = h; to = omega (arith, L.to); has = L.has t e h },
-    λ u i. elim (dec_lt t u) [ yes d ↦ absurd (L.none-behind u (omega arith) i.to i.has) | no d ↦ omega arith ],
+    λ u i. elim (dec_lt t u) [ yes d ↦ absurd (L.none_behind u (omega arith) i.to i.has) | no d ↦ omega arith ],
   )
 
   pub first-none : FirstWith P a (a + k) x → a + k ≤ x → Least P a k none

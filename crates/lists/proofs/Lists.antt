@@ -9,26 +9,26 @@ use lib.Seq.{ext_get_or}
 use Rattle.lists.specs.Lists.{◌!◌}
 
 -- what holds of the stored number, and of the old one elsewhere, holds after a store
-pub set-any : (P : ℕ → Type 0) (xs : List ℕ) (j a k : ℕ) → (k ≡ j → P a) → P (xs ! k) → P (set xs j a ! k)
-set-any P [] j a k new old = old
-set-any P (x ∷ xs) zero a zero new old = new refl
-set-any P (x ∷ xs) zero a (suc k) new old = old
-set-any P (x ∷ xs) (suc j) a zero new old = old
-set-any P (x ∷ xs) (suc j) a (suc k) new old = set-any P xs j a k (λ q. new (ap suc q)) old
+pub set_any : (P : ℕ → Type 0) (xs : List ℕ) (j a k : ℕ) → (k ≡ j → P a) → P (xs ! k) → P (set xs j a ! k)
+set_any P [] j a k new old = old
+set_any P (x ∷ xs) zero a zero new old = new refl
+set_any P (x ∷ xs) zero a (suc k) new old = old
+set_any P (x ∷ xs) (suc j) a zero new old = old
+set_any P (x ∷ xs) (suc j) a (suc k) new old = set_any P xs j a k (λ q. new (ap suc q)) old
 
 pub beyond : (xs : List ℕ) (k : ℕ) → length xs ≤ k → xs ! k ≡ 0
 beyond xs k h = get_or-eq_default xs 0 h
 
-pub zeros-at : (m k : ℕ) → ◌≡◌ {A = ℕ} (replicate m 0 ! k) 0
-zeros-at zero k = refl
-zeros-at (suc m) zero = refl
-zeros-at (suc m) (suc k) = zeros-at m k
+pub zeros_at : (m k : ℕ) → ◌≡◌ {A = ℕ} (replicate m 0 ! k) 0
+zeros_at zero k = refl
+zeros_at (suc m) zero = refl
+zeros_at (suc m) (suc k) = zeros_at m k
 
 -- m times x, and 0 beyond
-pub replicate-low : (m x top j : ℕ) → x ≤ top → replicate m x ! j ≤ top
-replicate-low zero x top j h = omega arith
-replicate-low (suc m) x top zero h = h
-replicate-low (suc m) x top (suc j) h = replicate-low m x top j h
+pub replicate_low : (m x top j : ℕ) → x ≤ top → replicate m x ! j ≤ top
+replicate_low zero x top j h = omega arith
+replicate_low (suc m) x top zero h = h
+replicate_low (suc m) x top (suc j) h = replicate_low m x top j h
 
 -- a number limited below the length is limited everywhere
 pub everywhere : (xs : List ℕ) (n m : ℕ) → length xs ≡ n → ((j : ℕ) → j < n → xs ! j ≤ m) → (j : ℕ) → xs ! j ≤ m
@@ -41,8 +41,8 @@ front_at (x ∷ xs) ys zero h = refl
 front_at (x ∷ xs) ys (suc i) h = front_at xs ys i (omega arith)
 
 -- lists of n numbers that agree below n are one list
-pub same-list : (n : ℕ) (xs ys : List ℕ) → length xs ≡ n → length ys ≡ n → ((k : ℕ) → k < n → xs ! k ≡ ys ! k) → xs ≡ ys
-same-list n xs ys a b f = ext_get_or 0 xs ys (a ∙ sym b) (λ k c. f k (omega arith))
+pub same_list : (n : ℕ) (xs ys : List ℕ) → length xs ≡ n → length ys ≡ n → ((k : ℕ) → k < n → xs ! k ≡ ys ! k) → xs ≡ ys
+same_list n xs ys a b f = ext_get_or 0 xs ys (a ∙ sym b) (λ k c. f k (omega arith))
 
 -- f 0, .., f (n - 1)
 unfoldable pub listed : ℕ → (ℕ → ℕ) → List ℕ
@@ -55,10 +55,10 @@ listed_at zero f k b = absurd (omega arith)
 listed_at (suc n) f zero b = refl
 listed_at (suc n) f (suc k) b = listed_at n (λ i. f (suc i)) k (omega arith)
 
-pub listed-length : (n : ℕ) (f : ℕ → ℕ) → length (listed n f) ≡ n
+pub listed_length : (n : ℕ) (f : ℕ → ℕ) → length (listed n f) ≡ n
 unfolding listed
-listed-length zero f = refl
-listed-length (suc n) f = ap suc (listed-length n (λ k. f (suc k)))
+listed_length zero f = refl
+listed_length (suc n) f = ap suc (listed_length n (λ k. f (suc k)))
 
 -- sums by places; a list that ends early counts as zeros
 unfoldable pub sums : List ℕ → List ℕ → List ℕ

@@ -12,9 +12,9 @@ use borrow.Author.Tests.{ltb-true, ltb-false}
 use Rattle.lists.specs.Lists.{◌!◌}
 use Rattle.lists.specs.Tests.{both, either, only, pick, some?}
 use Rattle.lists.specs.Sums.{total}
-use Rattle.lists.specs.Sets.{Set, Sub, Empty, Parts, total_of, LeastOf, GreatestOf, bestOf, most, fewest}
-use Rattle.lists.proofs.Tests.{both_true, only-le, only-less}
-use Rattle.lists.proofs.Sums.{total-le, total-less-some}
+use Rattle.lists.specs.Sets.{Set, Sub, Empty, Parts, total_of, LeastOf, GreatestOf, best_of, most, fewest}
+use Rattle.lists.proofs.Tests.{both_true, only_le, only_less}
+use Rattle.lists.proofs.Sums.{total_le, total_less_some}
 
 -- a test that passes and fails
 pub clash : {A : Type 0} (b : Bool) → b ≡ true → b ≡ false → A
@@ -22,43 +22,43 @@ clash b h k = let z : ◌≡◌ {A = ℕ} 0 1 = cc in absurd (omega arith)
 
 -- ---- totals
 
-pub totalOf-sub : (n : ℕ) (p : List ℕ) (T O : Set) → Sub n T O → total_of n p T ≤ total_of n p O
+pub total_of_sub : (n : ℕ) (p : List ℕ) (T O : Set) → Sub n T O → total_of n p T ≤ total_of n p O
 unfolding total_of
-totalOf-sub n p T O h = total-le _ _ n (λ k b. only-le (T k) (O k) (p ! k) (h k b))
+total_of_sub n p T O h = total_le _ _ n (λ k b. only_le (T k) (O k) (p ! k) (h k b))
 
 -- where a set's total is less, it lacks a member of the other
-pub totalOf-beyond : (n : ℕ) (p : List ℕ) (T O : Set) → total_of n p T < total_of n p O → (k : ℕ) × (O k ≡ true) × (T k ≡ false)
+pub total_of_beyond : (n : ℕ) (p : List ℕ) (T O : Set) → total_of n p T < total_of n p O → (k : ℕ) × (O k ≡ true) × (T k ≡ false)
 unfolding total_of
-totalOf-beyond n p T O h =
-    let y = total-less-some (λ k. only (T k) (p ! k)) (λ k. only (O k) (p ! k)) n h in
-    let b = only-less (T y.0) (O y.0) (p ! y.0) y.2 in
+total_of_beyond n p T O h =
+    let y = total_less_some (λ k. only (T k) (p ! k)) (λ k. only (O k) (p ! k)) n h in
+    let b = only_less (T y.0) (O y.0) (p ! y.0) y.2 in
     (y.0, b.1, b.0)
 
-pub totalOf-same : (n : ℕ) (p : List ℕ) (T O : Set) → Sub n T O → Sub n O T → total_of n p T ≡ total_of n p O
-totalOf-same n p T O h g = omega (arith, totalOf-sub n p T O h, totalOf-sub n p O T g)
+pub total_of_same : (n : ℕ) (p : List ℕ) (T O : Set) → Sub n T O → Sub n O T → total_of n p T ≡ total_of n p O
+total_of_same n p T O h g = omega (arith, total_of_sub n p T O h, total_of_sub n p O T g)
 
-pub totalOf-cong : (n : ℕ) (p : List ℕ) (T O : Set) → ((k : ℕ) → k < n → T k ≡ O k) → total_of n p T ≡ total_of n p O
-totalOf-cong n p T O h = totalOf-same n p T O (λ k b q. sym (h k b) ∙ q) (λ k b q. h k b ∙ q)
+pub total_of_cong : (n : ℕ) (p : List ℕ) (T O : Set) → ((k : ℕ) → k < n → T k ≡ O k) → total_of n p T ≡ total_of n p O
+total_of_cong n p T O h = total_of_same n p T O (λ k b q. sym (h k b) ∙ q) (λ k b q. h k b ∙ q)
 
-pub totalOf-none : (n : ℕ) (p : List ℕ) (T : Set) → ((k : ℕ) → k < n → T k ≡ true → p ! k ≡ 0) → total_of n p T ≡ 0
+pub total_of_none : (n : ℕ) (p : List ℕ) (T : Set) → ((k : ℕ) → k < n → T k ≡ true → p ! k ≡ 0) → total_of n p T ≡ 0
 unfolding total_of total
-totalOf-none zero p T f = refl
-totalOf-none (suc m) p T f = go (T m) refl (totalOf-none m p T (λ k b t. f k (omega arith) t))
+total_of_none zero p T f = refl
+total_of_none (suc m) p T f = go (T m) refl (total_of_none m p T (λ k b t. f k (omega arith) t))
   where
     go : (c : Bool) → T m ≡ c → total_of m p T ≡ 0 → total_of m p T + only (T m) (p ! m) ≡ 0
     go true e h = rw e (omega (arith, f m (omega arith) e))
     go false e h = rw e (omega arith)
 
-pub totalOf-empty : (n : ℕ) (p : List ℕ) (T : Set) → Empty n T → total_of n p T ≡ 0
-totalOf-empty n p T f = totalOf-none n p T (λ k b t. absurd (f k b t))
+pub total_of_empty : (n : ℕ) (p : List ℕ) (T : Set) → Empty n T → total_of n p T ≡ 0
+total_of_empty n p T f = total_of_none n p T (λ k b t. absurd (f k b t))
 
-pub totalOf-parts : (n : ℕ) (p : List ℕ) (T L R : Set) → Parts n T L R → total_of n p T ≡ total_of n p L + total_of n p R
+pub total_of_parts : (n : ℕ) (p : List ℕ) (T L R : Set) → Parts n T L R → total_of n p T ≡ total_of n p L + total_of n p R
 unfolding total_of total
-totalOf-parts zero p T L R h = refl
-totalOf-parts (suc m) p T L R h =
+total_of_parts zero p T L R h = refl
+total_of_parts (suc m) p T L R h =
     omega (
       arith,
-      totalOf-parts m p T L R
+      total_of_parts m p T L R
           (record {
             left = λ k b. h.left k (omega arith);
             right = λ k b. h.right k (omega arith);
@@ -87,13 +87,13 @@ module _ (better : ℕ → ℕ → Bool) (O : Set) (f : ℕ → ℕ) (y : ℕ) w
   abbrev One : ℕ → ℕ → Type 0
   One m z = (z ≡ y) ⊎ ((k : ℕ) × (k < m) × (O k ≡ true) × (z ≡ f k))
 
-  best-is : (m : ℕ) → One m (bestOf better O f y m)
-  unfolding bestOf
+  best-is : (m : ℕ) → One m (best_of better O f y m)
+  unfolding best_of
   best-is zero = inl refl
-  best-is (suc m) = go (both (O m) (better (f m) (bestOf better O f y m))) refl (best-is m)
+  best-is (suc m) = go (both (O m) (better (f m) (best_of better O f y m))) refl (best-is m)
     where
-      go : (c : Bool) → both (O m) (better (f m) (bestOf better O f y m)) ≡ c → One m (bestOf better O f y m) → One (suc m) (pick c (f m) (bestOf better O f y m))
-      go true h i = inr (m, omega arith, (both_true (O m) (better (f m) (bestOf better O f y m)) h).0, refl)
+      go : (c : Bool) → both (O m) (better (f m) (best_of better O f y m)) ≡ c → One m (best_of better O f y m) → One (suc m) (pick c (f m) (best_of better O f y m))
+      go true h i = inr (m, omega arith, (both_true (O m) (better (f m) (best_of better O f y m)) h).0, refl)
       go false h (inl q) = inl q
       go false h (inr (k, b, t, q)) = inr (k, omega arith, t, q)
 
@@ -103,13 +103,13 @@ module _ (better : ℕ → ℕ → Bool) (O : Set) (f : ℕ → ℕ) (y : ℕ) w
     abbrev All : ℕ → ℕ → Type 0
     All m z = R z y × ((k : ℕ) → k < m → O k ≡ true → R z (f k))
 
-    best-all : (m : ℕ) → All m (bestOf better O f y m)
-    unfolding bestOf
-    best-all zero = (same y, λ k b. absurd (omega arith))
-    best-all (suc m) = go (O m) refl (better (f m) (bestOf better O f y m)) refl (best-all m)
+    best_all : (m : ℕ) → All m (best_of better O f y m)
+    unfolding best_of
+    best_all zero = (same y, λ k b. absurd (omega arith))
+    best_all (suc m) = go (O m) refl (better (f m) (best_of better O f y m)) refl (best_all m)
       where
         z : ℕ
-        z = bestOf better O f y m
+        z = best_of better O f y m
 
         go : (c : Bool) → O m ≡ c → (d : Bool) → better (f m) z ≡ d → All m z → All (suc m) (pick (both c d) (f m) z)
         go true h true q i = (
@@ -120,46 +120,46 @@ module _ (better : ℕ → ℕ → Bool) (O : Set) (f : ℕ → ℕ) (y : ℕ) w
         go false h d q i = (i.0, λ k b t. elim (ℕ_discrete k m) [ yes r ↦ clash (O m) (rw r at t) h | no r ↦ i.1 k (omega arith) t ])
 
 module _ (O : Set) (f : ℕ → ℕ) (y m : ℕ) where
-  pub most-is : (most O f y m ≡ y) ⊎ ((k : ℕ) × (k < m) × (O k ≡ true) × (most O f y m ≡ f k))
+  pub most_is : (most O f y m ≡ y) ⊎ ((k : ℕ) × (k < m) × (O k ≡ true) × (most O f y m ≡ f k))
   unfolding most
-  most-is = best-is (λ x z. ltb z x) O f y m
+  most_is = best-is (λ x z. ltb z x) O f y m
 
-  pub most-le : (y ≤ most O f y m) × ((k : ℕ) → k < m → O k ≡ true → f k ≤ most O f y m)
+  pub most_le : (y ≤ most O f y m) × ((k : ℕ) → k < m → O k ≡ true → f k ≤ most O f y m)
   unfolding most
-  most-le =
-      best-all (λ x z. ltb z x) O f y (λ a b. b ≤ a) (λ a. omega arith) (λ a b c h g. omega arith) (λ a b h. omega (arith, ltb-true)) (λ a b h. omega (arith, ltb-false)) m
+  most_le =
+      best_all (λ x z. ltb z x) O f y (λ a b. b ≤ a) (λ a. omega arith) (λ a b c h g. omega arith) (λ a b h. omega (arith, ltb-true)) (λ a b h. omega (arith, ltb-false)) m
 
-  pub fewest-is : (fewest O f y m ≡ y) ⊎ ((k : ℕ) × (k < m) × (O k ≡ true) × (fewest O f y m ≡ f k))
+  pub fewest_is : (fewest O f y m ≡ y) ⊎ ((k : ℕ) × (k < m) × (O k ≡ true) × (fewest O f y m ≡ f k))
   unfolding fewest
-  fewest-is = best-is ltb O f y m
+  fewest_is = best-is ltb O f y m
 
-  pub fewest-le : (fewest O f y m ≤ y) × ((k : ℕ) → k < m → O k ≡ true → fewest O f y m ≤ f k)
+  pub fewest_le : (fewest O f y m ≤ y) × ((k : ℕ) → k < m → O k ≡ true → fewest O f y m ≤ f k)
   unfolding fewest
-  fewest-le = best-all ltb O f y (λ a b. a ≤ b) (λ a. omega arith) (λ a b c h g. omega arith) (λ a b h. omega (arith, ltb-true)) (λ a b h. omega (arith, ltb-false)) m
+  fewest_le = best_all ltb O f y (λ a b. a ≤ b) (λ a. omega arith) (λ a b c h g. omega arith) (λ a b h. omega (arith, ltb-true)) (λ a b h. omega (arith, ltb-false)) m
 
 -- a set with a member has a least and a greatest
 module _ (n : ℕ) (x : List ℕ) (T : Set) (k : ℕ) (b : k < n) (t : T k ≡ true) where
-  pub least-of : (a : ℕ) × LeastOf n x T a
-  least-of = (low, go (fewest-is T (λ i. x ! i) (x ! k) n))
+  pub least_of : (a : ℕ) × LeastOf n x T a
+  least_of = (low, go (fewest_is T (λ i. x ! i) (x ! k) n))
     where
       low : ℕ
       low = fewest T (λ i. x ! i) (x ! k) n
 
       all : (i : ℕ) → i < n → T i ≡ true → low ≤ x ! i
-      all = (fewest-le T (λ i. x ! i) (x ! k) n).1
+      all = (fewest_le T (λ i. x ! i) (x ! k) n).1
 
       go : (low ≡ x ! k) ⊎ ((i : ℕ) × (i < n) × (T i ≡ true) × (low ≡ x ! i)) → LeastOf n x T low
       go (inl e) = record { at = k; below = b; member = t; is = sym e; least = all }
       go (inr (i, c, u, e)) = record { at = i; below = c; member = u; is = sym e; least = all }
 
-  pub greatest-of : (a : ℕ) × GreatestOf n x T a
-  greatest-of = (high, go (most-is T (λ i. x ! i) (x ! k) n))
+  pub greatest_of : (a : ℕ) × GreatestOf n x T a
+  greatest_of = (high, go (most_is T (λ i. x ! i) (x ! k) n))
     where
       high : ℕ
       high = most T (λ i. x ! i) (x ! k) n
 
       all : (i : ℕ) → i < n → T i ≡ true → x ! i ≤ high
-      all = (most-le T (λ i. x ! i) (x ! k) n).1
+      all = (most_le T (λ i. x ! i) (x ! k) n).1
 
       go : (high ≡ x ! k) ⊎ ((i : ℕ) × (i < n) × (T i ≡ true) × (high ≡ x ! i)) → GreatestOf n x T high
       go (inl e) = record { at = k; below = b; member = t; is = sym e; greatest = all }
@@ -186,10 +186,10 @@ at_some T (suc m) h = go (T m) refl (λ q. at_some T m q)
     go false e f = let x = f (rw e at h) in (x.0, omega arith, x.2)
 
 -- n numbers of at most c
-pub totalOf-limit : (n : ℕ) (p : List ℕ) (T : Set) (c : ℕ) → ((k : ℕ) → p ! k ≤ c) → total_of n p T ≤ n * c
+pub total_of_limit : (n : ℕ) (p : List ℕ) (T : Set) (c : ℕ) → ((k : ℕ) → p ! k ≤ c) → total_of n p T ≤ n * c
 unfolding total_of total
-totalOf-limit zero p T c h = omega arith
-totalOf-limit (suc m) p T c h = omega (arith, totalOf-limit m p T c h, go (T m), suc-mul m c)
+total_of_limit zero p T c h = omega arith
+total_of_limit (suc m) p T c h = omega (arith, total_of_limit m p T c h, go (T m), suc-mul m c)
   where
     go : (b : Bool) → only b (p ! m) ≤ c
     go true = h m

@@ -9,40 +9,40 @@ use borrow.Author.Tests.{eq-eqb, ne_eqb}
 use Rattle.lists.specs.Tests.{both, only}
 use Rattle.lists.specs.Sums.{total}
 use Rattle.lists.specs.Sets.{Set}
-use Rattle.lists.proofs.Tests.{only-both}
+use Rattle.lists.proofs.Tests.{only_both}
 
 pub total-zero : (f : ℕ → ℕ) → total f 0 ≡ 0
 unfolding total
 total-zero f = refl
 
-pub total-suc : (f : ℕ → ℕ) (m : ℕ) → total f (suc m) ≡ total f m + f m
+pub total_suc : (f : ℕ → ℕ) (m : ℕ) → total f (suc m) ≡ total f m + f m
 unfolding total
-total-suc f m = refl
+total_suc f m = refl
 
-pub total-le : (f g : ℕ → ℕ) (m : ℕ) → ((k : ℕ) → k < m → f k ≤ g k) → total f m ≤ total g m
+pub total_le : (f g : ℕ → ℕ) (m : ℕ) → ((k : ℕ) → k < m → f k ≤ g k) → total f m ≤ total g m
 unfolding total
-total-le f g zero h = omega arith
-total-le f g (suc m) h = omega (arith, total-le f g m (λ k b. h k (omega arith)), h m (omega arith))
+total_le f g zero h = omega arith
+total_le f g (suc m) h = omega (arith, total_le f g m (λ k b. h k (omega arith)), h m (omega arith))
 
-pub total-cong : (f g : ℕ → ℕ) (m : ℕ) → ((k : ℕ) → k < m → f k ≡ g k) → total f m ≡ total g m
+pub total_cong : (f g : ℕ → ℕ) (m : ℕ) → ((k : ℕ) → k < m → f k ≡ g k) → total f m ≡ total g m
 unfolding total
-total-cong f g zero h = refl
-total-cong f g (suc m) h = omega (arith, total-cong f g m (λ k b. h k (omega arith)), h m (omega arith))
+total_cong f g zero h = refl
+total_cong f g (suc m) h = omega (arith, total_cong f g m (λ k b. h k (omega arith)), h m (omega arith))
 
 -- where a sum is less, some term is
-pub total-less-some : (f g : ℕ → ℕ) (m : ℕ) → total f m < total g m → (k : ℕ) × (k < m) × (f k < g k)
+pub total_less_some : (f g : ℕ → ℕ) (m : ℕ) → total f m < total g m → (k : ℕ) × (k < m) × (f k < g k)
 unfolding total
-total-less-some f g zero h = absurd (omega arith)
-total-less-some f g (suc m) h = go (λ q. total-less-some f g m q)
+total_less_some f g zero h = absurd (omega arith)
+total_less_some f g (suc m) h = go (λ q. total_less_some f g m q)
   where
     go : (total f m < total g m → (k : ℕ) × (k < m) × (f k < g k)) → (k : ℕ) × (k < suc m) × (f k < g k)
     go rest = elim (dec_le (g m) (f m)) [ yes d ↦ (let y = rest (omega arith) in (y.0, omega (arith, y.1), y.2)) | no d ↦ (m, omega arith, omega arith) ]
 
 -- one term is at most the sum
-pub total-at : (f : ℕ → ℕ) (m k : ℕ) → k < m → f k ≤ total f m
+pub total_at : (f : ℕ → ℕ) (m k : ℕ) → k < m → f k ≤ total f m
 unfolding total
-total-at f zero k b = absurd (omega arith)
-total-at f (suc m) k b = go (λ q. total-at f m k q)
+total_at f zero k b = absurd (omega arith)
+total_at f (suc m) k b = go (λ q. total_at f m k q)
   where
     go : (k < m → f k ≤ total f m) → f k ≤ total f (suc m)
     go h = elim (ℕ_discrete k m) [ yes e ↦ rw e (omega arith) | no e ↦ omega (arith, h (omega arith)) ]
@@ -52,42 +52,42 @@ total-at f (suc m) k b = go (λ q. total-at f m k q)
 unfoldable pub omitting : (ℕ → ℕ) → ℕ → ℕ → ℕ
 omitting f a i = only (not (eqb i a)) (f i)
 
-pub omitting-same : (f : ℕ → ℕ) (a : ℕ) → omitting f a a ≡ 0
+pub omitting_same : (f : ℕ → ℕ) (a : ℕ) → omitting f a a ≡ 0
 unfolding omitting
-omitting-same f a = rw (eq-eqb a a refl)
+omitting_same f a = rw (eq-eqb a a refl)
 
-pub omitting-other : (f : ℕ → ℕ) (a i : ℕ) → (i ≡ a → ⊥) → omitting f a i ≡ f i
+pub omitting_other : (f : ℕ → ℕ) (a i : ℕ) → (i ≡ a → ⊥) → omitting f a i ≡ f i
 unfolding omitting
-omitting-other f a i h = rw (ne_eqb i a h)
+omitting_other f a i h = rw (ne_eqb i a h)
 
-pub total-omitting : (f : ℕ → ℕ) (a m : ℕ) → a < m → total (omitting f a) m + f a ≡ total f m
+pub total_omitting : (f : ℕ → ℕ) (a m : ℕ) → a < m → total (omitting f a) m + f a ≡ total f m
 unfolding total
-total-omitting f a zero b = omega arith
-total-omitting f a (suc m) b = go (λ q. total-omitting f a m q)
+total_omitting f a zero b = omega arith
+total_omitting f a (suc m) b = go (λ q. total_omitting f a m q)
   where
     go : (a < m → total (omitting f a) m + f a ≡ total f m) → total (omitting f a) (suc m) + f a ≡ total f (suc m)
     go h =
         elim (ℕ_discrete m a) [
-          | yes e ↦ rw e (omega (arith, omitting-same f a, total-cong (omitting f a) f a (λ k b. omitting-other f a k (omega arith))))
-          | no e ↦ omega (arith, h (omega arith), omitting-other f a m e)
+          | yes e ↦ rw e (omega (arith, omitting_same f a, total_cong (omitting f a) f a (λ k b. omitting_other f a k (omega arith))))
+          | no e ↦ omega (arith, h (omega arith), omitting_other f a m e)
         ]
 
 -- the same where each term counts by a test
-pub total-others : (f : ℕ → Bool) (x : ℕ → ℕ) (a m : ℕ) → a < m
+pub total_others : (f : ℕ → Bool) (x : ℕ → ℕ) (a m : ℕ) → a < m
     → total (λ k. only (both (not (eqb k a)) (f k)) (x k)) m + only (f a) (x a) ≡ total (λ k. only (f k) (x k)) m
 unfolding omitting
-total-others f x a m b =
+total_others f x a m b =
     omega (
       arith,
-      total-cong (λ k. only (both (not (eqb k a)) (f k)) (x k)) (omitting (λ k. only (f k) (x k)) a) m (λ k c. only-both (not (eqb k a)) (f k) (x k)),
-      total-omitting (λ k. only (f k) (x k)) a m b,
+      total_cong (λ k. only (both (not (eqb k a)) (f k)) (x k)) (omitting (λ k. only (f k) (x k)) a) m (λ k c. only_both (not (eqb k a)) (f k) (x k)),
+      total_omitting (λ k. only (f k) (x k)) a m b,
     )
 
 -- where a sum is not 0, some term counts and is not 0
-pub total-some-term : (f : ℕ → Bool) (x : ℕ → ℕ) (m : ℕ) → 0 < total (λ k. only (f k) (x k)) m → (j : ℕ) × (j < m) × (1 ≤ x j) × (f j ≡ true)
+pub total_some_term : (f : ℕ → Bool) (x : ℕ → ℕ) (m : ℕ) → 0 < total (λ k. only (f k) (x k)) m → (j : ℕ) × (j < m) × (1 ≤ x j) × (f j ≡ true)
 unfolding total
-total-some-term f x zero h = absurd (omega arith)
-total-some-term f x (suc m) h = go (f m) refl (λ q. total-some-term f x m q)
+total_some_term f x zero h = absurd (omega arith)
+total_some_term f x (suc m) h = go (f m) refl (λ q. total_some_term f x m q)
   where
     wider : (j : ℕ) × (j < m) × (1 ≤ x j) × (f j ≡ true) → (j : ℕ) × (j < suc m) × (1 ≤ x j) × (f j ≡ true)
     wider y = (y.0, omega arith, y.2, y.3)
@@ -105,23 +105,23 @@ module _ (M : Set) (π : ℕ → ℕ) where
   placed f m = total (λ k. only (M k) (f (π k))) m
 
   -- each met once, they are no more than all of them
-  pub placed-le : (m n : ℕ) → ((k : ℕ) → k < m → M k ≡ true → π k < n)
+  pub placed_le : (m n : ℕ) → ((k : ℕ) → k < m → M k ≡ true → π k < n)
       → ((i k : ℕ) → i < m → k < m → M i ≡ true → M k ≡ true → π i ≡ π k → i ≡ k)
       → (f : ℕ → ℕ) → total (λ k. only (M k) (f (π k))) m ≤ total f n
-  placed-le zero n in-it once f = omega (arith, total-zero (λ k. only (M k) (f (π k))))
-  placed-le (suc m) n in-it once f =
-      go (λ g. placed-le m n (λ k b. in-it k (omega arith)) (λ i k b c. once i k (omega arith) (omega arith)) g) (M m) refl
+  placed_le zero n in-it once f = omega (arith, total-zero (λ k. only (M k) (f (π k))))
+  placed_le (suc m) n in-it once f =
+      go (λ g. placed_le m n (λ k b. in-it k (omega arith)) (λ i k b c. once i k (omega arith) (omega arith)) g) (M m) refl
     where
       one : placed f (suc m) ≡ placed f m + only (M m) (f (π m))
-      one = total-suc (λ k. only (M k) (f (π k))) m
+      one = total_suc (λ k. only (M k) (f (π k))) m
 
       same : M m ≡ true → (k : ℕ) → k < m → (b : Bool) → M k ≡ b → only b (f (π k)) ≡ only b (omitting f (π m) (π k))
       same t k c false e = refl
-      same t k c true e = sym (omitting-other f (π m) (π k) (λ q. absurd (omega (arith, once k m (omega arith) (omega arith) e t q))))
+      same t k c true e = sym (omitting_other f (π m) (π k) (λ q. absurd (omega (arith, once k m (omega arith) (omega arith) e t q))))
 
       go : ((g : ℕ → ℕ) → placed g m ≤ total g n) → (b : Bool) → M m ≡ b → placed f (suc m) ≤ total f n
       go rest false e = let z : only (M m) (f (π m)) ≡ 0 = rw e in omega (arith, one, z, rest f)
       go rest true e =
           let z : only (M m) (f (π m)) ≡ f (π m) = rw e in
-          let y = total-cong (λ k. only (M k) (f (π k))) (λ k. only (M k) (omitting f (π m) (π k))) m (λ k c. same e k c (M k) refl) in
-          omega (arith, one, z, y, rest (omitting f (π m)), total-omitting f (π m) n (in-it m (omega arith) e))
+          let y = total_cong (λ k. only (M k) (f (π k))) (λ k. only (M k) (omitting f (π m) (π k))) m (λ k c. same e k c (M k) refl) in
+          omega (arith, one, z, y, rest (omitting f (π m)), total_omitting f (π m) n (in-it m (omega arith) e))

@@ -13,21 +13,21 @@ use lib.Dec.{ltb, eqb}
 use borrow.Author.Tests.{ltb-true, ltb-false, lt-ltb, eqb-true, eq-eqb}
 use Rattle.lists.specs.Lists.{◌!◌}
 use Rattle.lists.specs.Tests.{both, pick}
-use Rattle.lists.specs.Extremes.{foundOr}
+use Rattle.lists.specs.Extremes.{found_or}
 use Rattle.lists.specs.Sets.{Set, Parts, Completes, later}
 use Rattle.lists.specs.Orders.{rank, Ordered}
 use Rattle.lists.specs.Bounds.{latest}
 use Rattle.lists.specs.Sweeps.{advanced, sweep}
-use Rattle.lists.proofs.Tests.{both_true, true-both}
+use Rattle.lists.proofs.Tests.{both_true, true_both}
 use Rattle.lists.proofs.Sets.{clash}
-use Rattle.lists.proofs.Completions.{completes-parts, totalOf-one, completes-one, completes-alike}
-use Rattle.lists.proofs.Orders.{rank_below, rank-apart, rank-rising}
-use Rattle.lists.proofs.Bounds.{latest-most, latest-is}
+use Rattle.lists.proofs.Completions.{completes_parts, total_of_one, completes_one, completes_alike}
+use Rattle.lists.proofs.Orders.{rank_below, rank_apart, rank_rising}
+use Rattle.lists.proofs.Bounds.{latest_most, latest_is}
 
-pub sweep-more : (e p : List ℕ) (O : Set) (o : List ℕ) (m : ℕ)
+pub sweep_more : (e p : List ℕ) (O : Set) (o : List ℕ) (m : ℕ)
     → sweep e p O o (m + 1) ≡ pick (O (o ! m)) (advanced (sweep e p O o m) (e ! (o ! m)) (p ! (o ! m))) (sweep e p O o m)
 unfolding sweep
-sweep-more e p O o m = rw add-one
+sweep_more e p O o m = rw add-one
 
 module _ (n : ℕ) (e p : List ℕ) (O : Set) (o : List ℕ) (ord : Ordered e n o) where
   abbrev pos : ℕ → ℕ
@@ -41,22 +41,22 @@ module _ (n : ℕ) (e p : List ℕ) (O : Set) (o : List ℕ) (ord : Ordered e n 
   here m k = both (O k) (eqb k (o ! m))
 
   at_place : (m k : ℕ) → m < n → k < n → pos k ≡ m → k ≡ o ! m
-  at_place m k b c q = rank-apart e n k (o ! m) c (ord.into m b) (omega (arith, ord.placed m b))
+  at_place m k b c q = rank_apart e n k (o ! m) c (ord.into m b) (omega (arith, ord.placed m b))
 
   parts : (m : ℕ) → m < n → Parts n (done (suc m)) (done m) (here m)
   parts m b =
       record {
-        left = λ k c t. let x = both_true (O k) (ltb (pos k) m) t in true-both (O k) (ltb (pos k) (suc m)) x.0 (omega (arith, lt-ltb, ltb-true (pos k) m x.1));
+        left = λ k c t. let x = both_true (O k) (ltb (pos k) m) t in true_both (O k) (ltb (pos k) (suc m)) x.0 (omega (arith, lt-ltb, ltb-true (pos k) m x.1));
         right = λ k c t.
             let x = both_true (O k) (eqb k (o ! m)) t in
             let q : pos k ≡ m = ap pos (eqb-true k (o ! m) x.1) ∙ ord.placed m b in
-            true-both (O k) (ltb (pos k) (suc m)) x.0 (lt-ltb (pos k) (suc m) (omega arith));
+            true_both (O k) (ltb (pos k) (suc m)) x.0 (lt-ltb (pos k) (suc m) (omega arith));
         each = λ k c t.
             let x = both_true (O k) (ltb (pos k) (suc m)) t in
             let y : pos k < suc m = ltb-true _ _ x.1 in
             elim (ℕ_discrete (pos k) m) [
-              | yes q ↦ inr (true-both (O k) (eqb k (o ! m)) x.0 (eq-eqb k (o ! m) (at_place m k b c q)))
-              | no q ↦ inl (true-both (O k) (ltb (pos k) m) x.0 (lt-ltb (pos k) m (omega arith)))
+              | yes q ↦ inr (true_both (O k) (eqb k (o ! m)) x.0 (eq-eqb k (o ! m) (at_place m k b c q)))
+              | no q ↦ inl (true_both (O k) (ltb (pos k) m) x.0 (lt-ltb (pos k) m (omega arith)))
             ];
         apart = λ k c t u.
             let x = both_true (O k) (ltb (pos k) m) t in
@@ -70,9 +70,9 @@ module _ (n : ℕ) (e p : List ℕ) (O : Set) (o : List ℕ) (ord : Ordered e n 
       let x = both_true (O i) (ltb (pos i) m) t in
       let y = both_true (O k) (eqb k (o ! m)) u in
       let q : pos k ≡ m = ap pos (eqb-true k (o ! m) y.1) ∙ ord.placed m b in
-      rank-rising e n i k c d (omega (arith, ltb-true (pos i) m x.1))
+      rank_rising e n i k c d (omega (arith, ltb-true (pos i) m x.1))
 
-  one_more : (x : Option ℕ) (a q : ℕ) → foundOr 0 (later x (some (a + q)) q) ≡ advanced (foundOr 0 x) a q
+  one_more : (x : Option ℕ) (a q : ℕ) → found_or 0 (later x (some (a + q)) q) ≡ advanced (found_or 0 x) a q
   one_more none a q = go (ltb 0 a) refl
     where
       go : (c : Bool) → ltb 0 a ≡ c → a + q ≡ pick c a 0 + q
@@ -87,25 +87,25 @@ module _ (n : ℕ) (e p : List ℕ) (O : Set) (o : List ℕ) (ord : Ordered e n 
       go false h false g = refl
 
   -- the pass has found the completion of the members at the places that it has passed
-  sweep-done : (m : ℕ) → m ≤ n → (x : Option ℕ) × Completes n e p (done m) x × (sweep e p O o m ≡ foundOr 0 x)
+  sweep_done : (m : ℕ) → m ≤ n → (x : Option ℕ) × Completes n e p (done m) x × (sweep e p O o m ≡ found_or 0 x)
   unfolding sweep
-  sweep-done zero b = (none, λ k c t. omega (arith, ltb-true (pos k) 0 (both_true (O k) (ltb (pos k) 0) t).1), refl)
-  sweep-done (suc m) b = go (O (o ! m)) refl (sweep-done m (omega arith))
+  sweep_done zero b = (none, λ k c t. omega (arith, ltb-true (pos k) 0 (both_true (O k) (ltb (pos k) 0) t).1), refl)
+  sweep_done (suc m) b = go (O (o ! m)) refl (sweep_done m (omega arith))
     where
-      go : (c : Bool) → O (o ! m) ≡ c → (x : Option ℕ) × Completes n e p (done m) x × (sweep e p O o m ≡ foundOr 0 x)
-          → (x : Option ℕ) × Completes n e p (done (suc m)) x × (pick (O (o ! m)) (advanced (sweep e p O o m) (e ! (o ! m)) (p ! (o ! m))) (sweep e p O o m) ≡ foundOr 0 x)
+      go : (c : Bool) → O (o ! m) ≡ c → (x : Option ℕ) × Completes n e p (done m) x × (sweep e p O o m ≡ found_or 0 x)
+          → (x : Option ℕ) × Completes n e p (done (suc m)) x × (pick (O (o ! m)) (advanced (sweep e p O o m) (e ! (o ! m)) (p ! (o ! m))) (sweep e p O o m) ≡ found_or 0 x)
       go true h (x, f, g) =
           let j = o ! m in
           let one : (k : ℕ) → k < n → here m k ≡ true → k ≡ j = λ k c t. eqb-true k j (both_true (O k) (eqb k j) t).1 in
-          let own : here m j ≡ true = true-both (O j) (eqb j j) h (eq-eqb j j refl) in
-          let y = completes-parts n e p (done (suc m)) (done m) (here m) (parts m b) (rising m b) x (some (e ! j + p ! j)) f (completes-one n p (here m) j (ord.into m b) own one e) in (
+          let own : here m j ≡ true = true_both (O j) (eqb j j) h (eq-eqb j j refl) in
+          let y = completes_parts n e p (done (suc m)) (done m) (here m) (parts m b) (rising m b) x (some (e ! j + p ! j)) f (completes_one n p (here m) j (ord.into m b) own one e) in (
             later x (some (e ! j + p ! j)) (p ! j),
-            subst (λ (t : ℕ). Completes n e p (done (suc m)) (later x (some (e ! j + p ! j)) t)) (totalOf-one n p (here m) j (ord.into m b) own one) y,
+            subst (λ (t : ℕ). Completes n e p (done (suc m)) (later x (some (e ! j + p ! j)) t)) (total_of_one n p (here m) j (ord.into m b) own one) y,
             rw (h, g) (sym (one_more x (e ! j) (p ! j))),
           )
       go false h (x, f, g) = (
         x,
-        completes-alike n e p (done m) (done (suc m)) (parts m b).left
+        completes_alike n e p (done m) (done (suc m)) (parts m b).left
             (λ k c t.
             elim ((parts m b).each k c t) [
               | inl q ↦ q
@@ -115,20 +115,20 @@ module _ (n : ℕ) (e p : List ℕ) (O : Set) (o : List ℕ) (ord : Ordered e n 
         rw h g,
       )
 
-  completes-latest : (x : Option ℕ) → Completes n e p O x → latest n e p O 0 ≡ foundOr 0 x
-  completes-latest x f = go x f (dec_lt 0 (latest n e p O 0))
+  completes_latest : (x : Option ℕ) → Completes n e p O x → latest n e p O 0 ≡ found_or 0 x
+  completes_latest x f = go x f (dec_lt 0 (latest n e p O 0))
     where
-      go : (x : Option ℕ) → Completes n e p O x → Dec (0 < latest n e p O 0) → latest n e p O 0 ≡ foundOr 0 x
-      go none f (yes h) = let l = latest-is n e p O 0 h in absurd (f l.ends.least.at l.ends.least.below (l.sub l.ends.least.at l.ends.least.below l.ends.least.member))
+      go : (x : Option ℕ) → Completes n e p O x → Dec (0 < latest n e p O 0) → latest n e p O 0 ≡ found_or 0 x
+      go none f (yes h) = let l = latest_is n e p O 0 h in absurd (f l.ends.least.at l.ends.least.below (l.sub l.ends.least.at l.ends.least.below l.ends.least.member))
       go none f (no h) = omega arith
-      go (some b) f (yes h) = let l = latest-is n e p O 0 h in omega (arith, latest-most n e p O 0 f.T b f.sub f.ends, f.most l.T (latest n e p O 0) l.sub l.ends)
-      go (some b) f (no h) = omega (arith, latest-most n e p O 0 f.T b f.sub f.ends)
+      go (some b) f (yes h) = let l = latest_is n e p O 0 h in omega (arith, latest_most n e p O 0 f.T b f.sub f.ends, f.most l.T (latest n e p O 0) l.sub l.ends)
+      go (some b) f (no h) = omega (arith, latest_most n e p O 0 f.T b f.sub f.ends)
 
-  pub sweep-latest : latest n e p O 0 ≡ sweep e p O o n
-  sweep-latest =
-      let x = sweep-done n (omega arith) in
-      completes-latest x.0
-      (completes-alike n e p (done n) O (λ k c t. (both_true (O k) (ltb (pos k) n) t).0)
-      (λ k c t. true-both (O k) (ltb (pos k) n) t (lt-ltb (pos k) n (rank_below e n k c)))
+  pub sweep_latest : latest n e p O 0 ≡ sweep e p O o n
+  sweep_latest =
+      let x = sweep_done n (omega arith) in
+      completes_latest x.0
+      (completes_alike n e p (done n) O (λ k c t. (both_true (O k) (ltb (pos k) n) t).0)
+      (λ k c t. true_both (O k) (ltb (pos k) n) t (lt-ltb (pos k) n (rank_below e n k c)))
       x.0 x.1)
       ∙ sym x.2

@@ -18,9 +18,9 @@ least f a zero = none
 least f a (suc k) = let rest = least f (suc a) k in or_else (f a) a rest
 
 -- the number found, else m
-abbrev pub foundOr : ℕ → Option ℕ → ℕ
-foundOr m none = m
-foundOr m (some t) = t
+abbrev pub found_or : ℕ → Option ℕ → ℕ
+found_or m none = m
+found_or m (some t) = t
 
 -- t lies in the stretch of k numbers from a, and has P
 pub record In (P : ℕ → Type 0) (a k t : ℕ) : Type 0 where
@@ -43,7 +43,7 @@ pub record LastWith (P : ℕ → Type 0) (a b x : ℕ) : Type 0 where
   pub from : a ≤ x
   pub to : x ≤ b
   pub has : (t : ℕ) → suc t ≡ x → a ≤ t → P t
-  pub none-behind : (t : ℕ) → x ≤ t → t < b → P t → ⊥
+  pub none_behind : (t : ℕ) → x ≤ t → t < b → P t → ⊥
 
 -- where a ≤ b: x is the first t with a ≤ t < b that has P, and b where there is none
 pub record FirstWith (P : ℕ → Type 0) (a b x : ℕ) : Type 0 where

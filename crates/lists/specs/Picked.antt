@@ -15,6 +15,6 @@ picked M [] = []
 picked M (x ∷ xs) = keep (M 0) x (picked (λ k. M (suc k)) xs)
 
 -- how many places of M there are before k: the place of k among them
-unfoldable pub pickedPlace : Set → ℕ → ℕ
+unfoldable pub picked_place : Set → ℕ → ℕ
 unfolding total
-pickedPlace M k = total (λ i. only (M i) 1) k
+picked_place M k = total (λ i. only (M i) 1) k

@@ -75,18 +75,18 @@ abbrev pub above : List ℕ → Set → ℕ → Set
 above e O a k = both (O k) (leb a (e ! k))
 
 -- of y and the f k of the members below m the one that is better than all before it
-unfoldable pub bestOf : (ℕ → ℕ → Bool) → Set → (ℕ → ℕ) → ℕ → ℕ → ℕ
-bestOf better O f y zero = y
-bestOf better O f y (suc m) =
+unfoldable pub best_of : (ℕ → ℕ → Bool) → Set → (ℕ → ℕ) → ℕ → ℕ → ℕ
+best_of better O f y zero = y
+best_of better O f y (suc m) =
     let x = f m in
-    let z = bestOf better O f y m in
+    let z = best_of better O f y m in
     pick (both (O m) (better x z)) x z
 
 -- the greatest, and the least, of y and the f k of the members below m
 unfoldable pub most : Set → (ℕ → ℕ) → ℕ → ℕ → ℕ
-unfolding bestOf
-most = bestOf (λ x z. ltb z x)
+unfolding best_of
+most = best_of (λ x z. ltb z x)
 
 unfoldable pub fewest : Set → (ℕ → ℕ) → ℕ → ℕ → ℕ
-unfolding bestOf
-fewest = bestOf ltb
+unfolding best_of
+fewest = best_of ltb

@@ -36,9 +36,9 @@ unless true k x = x
 unless false k x = k
 
 -- the number k of a test that failed before, else, where k is 0, what comes after
-abbrev pub failedOr : ℕ → ℕ → ℕ
-failedOr zero x = x
-failedOr (suc k) x = suc k
+abbrev pub failed_or : ℕ → ℕ → ℕ
+failed_or zero x = x
+failed_or (suc k) x = suc k
 
 -- the test passes at every k below m
 unfoldable pub every : (ℕ → Bool) → ℕ → Bool

@@ -2,7 +2,7 @@
 // and where a sure part begins or ends, or has done so before a move.
 ghost use Rattle.std.specs.Prelude.{◌≡◌, ◌<◌, ◌≤◌, length};
 ghost use Rattle.narrowing.specs.Windows.{win, moved, side_of, Respects};
-ghost use Rattle.joblist.specs.Limits.{mostTime};
+ghost use Rattle.joblist.specs.Limits.{most_time};
 ghost use Rattle.crowding.specs.Asked.{asked};
 ghost use Rattle.timetable.specs.Table.{Workable};
 ghost use Rattle.loads.specs.Loads.{Spacious, Loaded, LoadedAs};
@@ -49,7 +49,7 @@ pub fn follow(
     ld: &mut [u32],
     kept: Outline,
 ) -> Outline
-    requires { Workable (asked est.now lct.now dur.now dem.now 0) × (job < length dur.now) × Respects (win est.now lct.now) job (side_of side) old × (old ≤ mostTime) × Loaded (moved (win est.now lct.now) job (side_of side) old) dur.now dem.now ts.old ld.old kept }
+    requires { Workable (asked est.now lct.now dur.now dem.now 0) × (job < length dur.now) × Respects (win est.now lct.now) job (side_of side) old × (old ≤ most_time) × Loaded (moved (win est.now lct.now) job (side_of side) old) dur.now dem.now ts.old ld.old kept }
     ensures { LoadedAs ts.old (win est.now lct.now) dur.now dem.now ts.new ld.new result }
 {
     if ts.len() - 2 <= kept.m {

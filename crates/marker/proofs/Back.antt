@@ -11,85 +11,85 @@ use lib.Dec.{eqb}
 use borrow.Author.Tests.{eq-eqb, ne_eqb}
 use Rattle.lists.specs.Tests.{both, either}
 use Rattle.lists.specs.Sets.{Set}
-use Rattle.members.specs.Members.{setWords, has, setOf, inserted, joined, AreWords}
-use Rattle.members.proofs.Sets.{setOf-cong, setOf-unique}
-use Rattle.members.proofs.Inserted.{inserted-length, inserted-words, inserted_same, inserted-other}
-use Rattle.members.proofs.Joined.{joined-set}
-use Rattle.members.proofs.Writing.{zeros-words, zeros-has}
-use Rattle.joblist.specs.Limits.{mostJobs}
-use Rattle.journal.specs.Journal.{headWords, roomOf, recordAt, records, job_of, isMember, setOfRecord}
-use Rattle.conflicts.specs.Marks.{markedBy}
-use Rattle.conflicts.specs.Table.{marksOf}
-use Rattle.conflicts.proofs.Marks.{records-are, set_tells}
+use Rattle.members.specs.Members.{set_words, has, setOf, inserted, joined, AreWords}
+use Rattle.members.proofs.Sets.{set_of_cong, set_of_unique}
+use Rattle.members.proofs.Inserted.{inserted_length, inserted_words, inserted_same, inserted_other}
+use Rattle.members.proofs.Joined.{joined_set}
+use Rattle.members.proofs.Writing.{zeros_words, zeros_has}
+use Rattle.joblist.specs.Limits.{most_jobs}
+use Rattle.journal.specs.Journal.{head_words, room_of, record_at, records, job_of, is_member, set_of_record}
+use Rattle.conflicts.specs.Marks.{marked_by}
+use Rattle.conflicts.specs.Table.{marks_of}
+use Rattle.conflicts.proofs.Marks.{records_are, set_tells}
 
 -- one job put into no words
-alone-set : (j : ℕ) → j < mostJobs → inserted (replicate setWords 0) j ≡ setOf setWords (λ k. eqb k j)
-alone-set j b =
-    let z : List ℕ = replicate setWords 0 in
-    let long : length z ≡ setWords = length-replicate {A = ℕ} setWords 0 in
-    setOf-unique setWords (λ k. eqb k j) (inserted z j) (inserted-length z j ∙ long) (inserted-words z j (zeros-words setWords))
+alone_set : (j : ℕ) → j < most_jobs → inserted (replicate set_words 0) j ≡ setOf set_words (λ k. eqb k j)
+alone_set j b =
+    let z : List ℕ = replicate set_words 0 in
+    let long : length z ≡ set_words = length-replicate {A = ℕ} set_words 0 in
+    set_of_unique set_words (λ k. eqb k j) (inserted z j) (inserted_length z j ∙ long) (inserted_words z j (zeros_words set_words))
     (λ k c.
     elim (ℕ_discrete k j) [
       | yes e ↦ rw e (inserted_same z j (omega (arith, long)) ∙ sym (eq-eqb j j refl))
-      | no ne ↦ inserted-other z j k ne ∙ zeros-has setWords k ∙ sym (ne_eqb k j ne)
+      | no ne ↦ inserted_other z j k ne ∙ zeros_has set_words k ∙ sym (ne_eqb k j ne)
     ])
 
-either-no : (a : Bool) → either a false ≡ a
-either-no true = refl
-either-no false = refl
+either_no : (a : Bool) → either a false ≡ a
+either_no true = refl
+either_no false = refl
 
 -- a record's member words are words
-pub member-words : (x : List ℕ) → AreWords x → AreWords (setOfRecord x)
-member-words x h q = rw (get_or-drop headWords x q 0) (h (headWords + q))
+pub member_words : (x : List ℕ) → AreWords x → AreWords (set_of_record x)
+member_words x h q = rw (get_or-drop head_words x q 0) (h (head_words + q))
 
 -- whom the records from place i on mark
 abbrev pub behind : List ℕ → ℕ → ℕ → ℕ → Set
-behind log count j i = markedBy j (records log i (count - i))
+behind log count j i = marked_by j (records log i (count - i))
 
-module _ (log : List ℕ) (count j : ℕ) (room : count ≤ roomOf log) (low : j < mostJobs) where
+module _ (log : List ℕ) (count j : ℕ) (room : count ≤ room_of log) (low : j < most_jobs) where
   -- before any record
-  pub walk_first : inserted (replicate setWords 0) j ≡ setOf setWords (behind log count j count)
-  unfolding markedBy records
-  walk_first = let e : count - count ≡ 0 = omega arith in rw e (alone-set j low)
+  pub walk_first : inserted (replicate set_words 0) j ≡ setOf set_words (behind log count j count)
+  unfolding marked_by records
+  walk_first = let e : count - count ≡ 0 = omega arith in rw e (alone_set j low)
 
   -- after all
-  pub walk-last : (left : ℕ) → left ≤ 0 → setOf setWords (behind log count j left) ≡ marksOf log count j
-  unfolding marksOf
-  walk-last left b =
+  pub walk_last : (left : ℕ) → left ≤ 0 → setOf set_words (behind log count j left) ≡ marks_of log count j
+  unfolding marks_of
+  walk_last left b =
       let z : left ≡ 0 = omega arith in
       let e : count - 0 ≡ count = omega arith in
       rw (z, e)
 
   -- record i, in front of those from n = i + 1 on
-  module _ (i n : ℕ) (next : n ≡ i + 1) (inside : n ≤ count) (set : List ℕ) (h : set ≡ setOf setWords (behind log count j n)) where
+  module _ (i n : ℕ) (next : n ≡ i + 1) (inside : n ≤ count) (set : List ℕ) (h : set ≡ setOf set_words (behind log count j n)) where
     abbrev x : List ℕ
-    x = recordAt log i
+    x = record_at log i
 
     abbrev later : Set
-    later = markedBy j (records log (suc i) (count - suc i))
+    later = marked_by j (records log (suc i) (count - suc i))
 
-    set-later : set ≡ setOf setWords later
-    set-later = let e : n ≡ suc i = omega arith in rw e at h
+    set_later : set ≡ setOf set_words later
+    set_later = let e : n ≡ suc i = omega arith in rw e at h
 
-    behind-is : (k : ℕ) → behind log count j i k ≡ either (later k) (both (later (job_of x)) (isMember x k))
-    unfolding markedBy records
-    behind-is k = let e : count - i ≡ suc (count - suc i) = omega arith in rw e
+    behind_is : (k : ℕ) → behind log count j i k ≡ either (later k) (both (later (job_of x)) (is_member x k))
+    unfolding marked_by records
+    behind_is k = let e : count - i ≡ suc (count - suc i) = omega arith in rw e
 
-    job-marked : (b : Bool) → has set (job_of x) ≡ b → later (job_of x) ≡ b
-    job-marked b e =
-        sym (set_tells j (records log (suc i) (count - suc i)) (records-are log (count - suc i) (suc i) (omega arith)) low (job_of x))
-        ∙ (rw set-later at e)
+    job_marked : (b : Bool) → has set (job_of x) ≡ b → later (job_of x) ≡ b
+    job_marked b e =
+        sym (set_tells j (records log (suc i) (count - suc i)) (records_are log (count - suc i) (suc i) (omega arith)) low (job_of x))
+        ∙ (rw set_later at e)
 
     -- so the marks with the record are those behind it, and its members where the test passes
-    one_more : (b : Bool) → has set (job_of x) ≡ b → setOf setWords (λ k. either (later k) (both b (isMember x k))) ≡ setOf setWords (behind log count j i)
+    one_more : (b : Bool) → has set (job_of x) ≡ b → setOf set_words (λ k. either (later k) (both b (is_member x k))) ≡ setOf set_words (behind log count j i)
     one_more b e =
-        setOf-cong setWords (λ k. either (later k) (both b (isMember x k))) (behind log count j i) (λ k c. rw (behind-is k, job-marked b e))
+        set_of_cong set_words (λ k. either (later k) (both b (is_member x k))) (behind log count j i) (λ k c. rw (behind_is k, job_marked b e))
 
-    pub back-marked : has set (job_of x) ≡ true → AreWords (setOfRecord x) → joined set (setOfRecord x) ≡ setOf setWords (behind log count j i)
-    back-marked t g = rw set-later (joined-set setWords later (setOfRecord x) g) ∙ one_more true t
+    pub back_marked : has set (job_of x) ≡ true → AreWords (set_of_record x) → joined set (set_of_record x) ≡ setOf set_words (behind log count j i)
+    back_marked t g = rw set_later (joined_set set_words later (set_of_record x) g) ∙ one_more true t
 
-    pub back-passed : has set (job_of x) ≡ false → set ≡ setOf setWords (behind log count j i)
-    back-passed t =
-        set-later
-        ∙ setOf-cong setWords later (λ k. either (later k) (both false (isMember x k))) (λ k b. sym (either-no (later k)))
+    pub back_passed : has set (job_of x) ≡ false → set ≡ setOf set_words (behind log count j i)
+    back_passed t =
+        set_later
+        ∙ set_of_cong set_words later (λ k. either (later k) (both false (is_member x k))) (λ k b. sym (either_no (later k)))
         ∙ one_more false t

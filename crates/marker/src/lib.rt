@@ -1,26 +1,26 @@
 // The marks of a clash log (document 02, Item 14): the walk back from its closing record. Whether the records are good is not looked at here.
 ghost use Rattle.std.specs.Prelude.{◌≡◌, ◌≤◌, ◌<◌};
-ghost use Rattle.answers.specs.Said.{saysConflict};
-ghost use Rattle.joblist.specs.Limits.{mostJobs};
-ghost use Rattle.journal.specs.Journal.{roomOf};
-ghost use Rattle.conflicts.specs.Table.{blame, marksOf, marking};
+ghost use Rattle.answers.specs.Said.{says_conflict};
+ghost use Rattle.joblist.specs.Limits.{most_jobs};
+ghost use Rattle.journal.specs.Journal.{room_of};
+ghost use Rattle.conflicts.specs.Table.{blame, marks_of, marking};
 
 use answers::{Conflict, ConflictAnswer};
 
 // The marks of the walk back over so many records, from the last one to the first: the job of the clash, and the members of each record whose moved job is
 // marked when the walk comes to it.
 fn walk_back(log: &[u32], count: usize, job: usize) -> [u32; bits::WORDS]
-    requires { (count ≤ roomOf log.now) × (job < mostJobs) }
-    ensures { result ≡ marksOf log.now count job }
+    requires { (count ≤ room_of log.now) × (job < most_jobs) }
+    ensures { result ≡ marks_of log.now count job }
 {
     let mut set = bits::empty();
     bits::put(&mut set, job);
     let mut left = count;
     while 0 < left {
         left -= 1;
-        let words = logbook::show_record(log, left);
-        if bits::has(&set, words[logbook::JOB_WORD] as usize) {
-            bits::join(&mut set, logbook::set_of(words));
+        let words = logs::show_record(log, left);
+        if bits::has(&set, words[logs::JOB_WORD] as usize) {
+            bits::join(&mut set, logs::set_of(words));
         }
     }
     set
@@ -28,8 +28,8 @@ fn walk_back(log: &[u32], count: usize, job: usize) -> [u32; bits::WORDS]
 
 // The marks and how many they are.
 pub fn marks(log: &[u32], count: usize, job: usize) -> Conflict
-    requires { (count ≤ roomOf log.now) × (job < mostJobs) }
-    ensures { blame (saysConflict result.answer) result.set ≡ marking log.now count job }
+    requires { (count ≤ room_of log.now) × (job < most_jobs) }
+    ensures { blame (says_conflict result.answer) result.set ≡ marking log.now count job }
 {
     let set = walk_back(log, count, job);
     let ones = bits::count(&set);

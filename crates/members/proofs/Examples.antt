@@ -6,7 +6,7 @@ use mathlib.Core.Bool.{Bool, true, false}
 use mathlib.Core.List.{[], ◌∷◌}
 use lib.Dec.{eqb}
 use Rattle.lists.specs.Tests.{either}
-use Rattle.members.specs.Members.{has, onesOf, setOf, inserted, joined}
+use Rattle.members.specs.Members.{has, ones_of, setOf, inserted, joined}
 
 -- either of two numbers
 abbrev pub pair : ℕ → ℕ → ℕ → Bool
@@ -21,7 +21,7 @@ pub examples : (setOf 8 (pair 1 2) ≡ 6 ∷ 0 ∷ 0 ∷ 0 ∷ 0 ∷ 0 ∷ 0 ∷
     × (joined (setOf 2 (pair 1 31)) (setOf 2 (pair 31 32)) ≡ 2147483650 ∷ 1 ∷ [])
     × (joined (5 ∷ 2 ∷ []) (3 ∷ []) ≡ 7 ∷ 2 ∷ [])
     × (joined (5 ∷ []) (3 ∷ 2 ∷ []) ≡ 7 ∷ [])
-    × (onesOf (6 ∷ 2147483648 ∷ 4294967295 ∷ []) ≡ 35)
-    × (onesOf (setOf 32 (λ k. eqb (k % 2) 0)) ≡ 512)
-unfolding has onesOf setOf inserted joined
+    × (ones_of (6 ∷ 2147483648 ∷ 4294967295 ∷ []) ≡ 35)
+    × (ones_of (setOf 32 (λ k. eqb (k % 2) 0)) ≡ 512)
+unfolding has ones_of setOf inserted joined
 examples = (refl, refl, refl, refl, refl, refl, refl, refl, refl, refl, refl)

@@ -5,16 +5,16 @@ use mathlib.Core.Path.{◌≡◌}
 use mathlib.Core.List.{List}
 use Rattle.lists.specs.Sets.{Set}
 use Rattle.lists.specs.Spares.{amount, NoneSpare}
-use Rattle.lists.proofs.Spares.{exceeds-as, none-spare-as}
+use Rattle.lists.proofs.Spares.{exceeds_as, none_spare_as}
 use Rattle.members.specs.Members.{has, setOf}
-use Rattle.members.proofs.Sets.{has-setOf, has-given}
+use Rattle.members.proofs.Sets.{has_set_of, has_given}
 
 module _ (w n : ℕ) (r : List ℕ) (own limit : ℕ) (f : Set) (few : n ≤ 32 * w) where
   in_words : (k : ℕ) → k < n → has (setOf w f) k ≡ f k
-  in_words k b = has-setOf w f k (omega arith)
+  in_words k b = has_set_of w f k (omega arith)
 
-  pub words-exceed : limit < amount n r own f → limit < amount n r own (has (setOf w f))
-  words-exceed = exceeds-as n r own limit f (has (setOf w f)) in_words
+  pub words_exceed : limit < amount n r own f → limit < amount n r own (has (setOf w f))
+  words_exceed = exceeds_as n r own limit f (has (setOf w f)) in_words
 
-  pub words-none-spare : NoneSpare n r own limit f → NoneSpare n r own limit (has (setOf w f))
-  words-none-spare = none-spare-as n r own limit f (has (setOf w f)) in_words (has-given w f)
+  pub words_none_spare : NoneSpare n r own limit f → NoneSpare n r own limit (has (setOf w f))
+  words_none_spare = none_spare_as n r own limit f (has (setOf w f)) in_words (has_given w f)

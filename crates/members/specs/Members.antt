@@ -6,8 +6,8 @@ use Rattle.lists.specs.Lists.{◌!◌}
 use Rattle.lists.specs.Tests.{only}
 
 -- the number of words of a record's member set
-abbrev pub setWords : ℕ
-setWords = 8
+abbrev pub set_words : ℕ
+set_words = 8
 
 -- k is a member: bit (k mod 32) of word (k div 32), bit 0 lowest
 unfoldable pub has : List ℕ → ℕ → Bool
@@ -18,10 +18,10 @@ abbrev pub places : List ℕ → ℕ
 places ws = 32 * length ws
 
 -- the number of ones in words of 32 bits
-unfoldable pub onesOf : List ℕ → ℕ
+unfoldable pub ones_of : List ℕ → ℕ
 unfolding ones_in
-onesOf [] = 0
-onesOf (x ∷ ws) = ones_in 32 x + onesOf ws
+ones_of [] = 0
+ones_of (x ∷ ws) = ones_in 32 x + ones_of ws
 
 -- the number of m bits that say whether b, b + 1, .. are members, the lowest bit first
 unfoldable pub word : (ℕ → Bool) → ℕ → ℕ → ℕ

@@ -7,37 +7,37 @@ use mathlib.Core.List.{List, [], ◌∷◌}
 use lib.ListN.{length, set, length-map, length-set}
 use lib.Seq.{get_or-set_same, get_or-set_other}
 use Rattle.lists.specs.Lists.{◌!◌}
-use Rattle.lists.proofs.Lists.{same-list, everywhere}
-use Rattle.joblist.specs.Limits.{mostTime}
+use Rattle.lists.proofs.Lists.{same_list, everywhere}
+use Rattle.joblist.specs.Limits.{most_time}
 use Rattle.heads.specs.Mirror.{Mirror}
-use Rattle.mirrors.specs.Back.{countedBack, told}
+use Rattle.mirrors.specs.Back.{counted_back, told}
 
-pub back-length : (xs : List ℕ) → length (countedBack xs) ≡ length xs
-unfolding countedBack
-back-length xs = length-map xs (λ t. mostTime - t)
+pub back_length : (xs : List ℕ) → length (counted_back xs) ≡ length xs
+unfolding counted_back
+back_length xs = length-map xs (λ t. most_time - t)
 
-pub back_at : (xs : List ℕ) (k : ℕ) → k < length xs → countedBack xs ! k ≡ mostTime - xs ! k
-unfolding countedBack
+pub back_at : (xs : List ℕ) (k : ℕ) → k < length xs → counted_back xs ! k ≡ most_time - xs ! k
+unfolding counted_back
 back_at [] k h = absurd (omega arith)
 back_at (x ∷ xs) zero h = refl
 back_at (x ∷ xs) (suc k) h = back_at xs k (omega arith)
 
-pub back-most : (xs : List ℕ) (k : ℕ) → countedBack xs ! k ≤ mostTime
-back-most xs = everywhere (countedBack xs) (length xs) mostTime (back-length xs) (λ k h. omega (arith, back_at xs k h))
+pub back_most : (xs : List ℕ) (k : ℕ) → counted_back xs ! k ≤ most_time
+back_most xs = everywhere (counted_back xs) (length xs) most_time (back_length xs) (λ k h. omega (arith, back_at xs k h))
 
-pub back-set : (xs : List ℕ) (j b : ℕ) → countedBack (set xs j b) ≡ set (countedBack xs) j (mostTime - b)
-unfolding countedBack
-back-set [] j b = refl
-back-set (x ∷ xs) zero b = refl
-back-set (x ∷ xs) (suc j) b = ap (λ (ys : List ℕ). (mostTime - x) ∷ ys) (back-set xs j b)
+pub back_set : (xs : List ℕ) (j b : ℕ) → counted_back (set xs j b) ≡ set (counted_back xs) j (most_time - b)
+unfolding counted_back
+back_set [] j b = refl
+back_set (x ∷ xs) zero b = refl
+back_set (x ∷ xs) (suc j) b = ap (λ (ys : List ℕ). (most_time - x) ∷ ys) (back_set xs j b)
 
-pub back-back : (xs : List ℕ) → ((k : ℕ) → xs ! k ≤ mostTime) → countedBack (countedBack xs) ≡ xs
-back-back xs h =
-    same-list (length xs) (countedBack (countedBack xs)) xs (back-length (countedBack xs) ∙ back-length xs) refl
-    (λ k b. omega (arith, back_at (countedBack xs) k (omega (arith, back-length xs)), back_at xs k b, h k))
+pub back_back : (xs : List ℕ) → ((k : ℕ) → xs ! k ≤ most_time) → counted_back (counted_back xs) ≡ xs
+back_back xs h =
+    same_list (length xs) (counted_back (counted_back xs)) xs (back_length (counted_back xs) ∙ back_length xs) refl
+    (λ k b. omega (arith, back_at (counted_back xs) k (omega (arith, back_length xs)), back_at xs k b, h k))
 
-pub mirrored : (n : ℕ) (xs ys : List ℕ) → length xs ≡ n → length ys ≡ n → ((k : ℕ) → xs ! k ≤ mostTime) → ((k : ℕ) → ys ! k ≤ mostTime)
-    → Mirror n mostTime (told xs ys) (told ys xs)
+pub mirrored : (n : ℕ) (xs ys : List ℕ) → length xs ≡ n → length ys ≡ n → ((k : ℕ) → xs ! k ≤ most_time) → ((k : ℕ) → ys ! k ≤ most_time)
+    → Mirror n most_time (told xs ys) (told ys xs)
 mirrored n xs ys e f g h =
     record {
       early = λ k b. omega (arith, back_at ys k (omega arith), h k);
@@ -49,25 +49,25 @@ mirrored n xs ys e f g h =
 pub record Counting (xs ys : List ℕ) (i : ℕ) : Type 0 where
   pub upto : i ≤ length xs
   pub long : length ys ≡ length xs
-  pub done : (k : ℕ) → k < i → ys ! k ≡ mostTime - xs ! k
+  pub done : (k : ℕ) → k < i → ys ! k ≡ most_time - xs ! k
   pub left : (k : ℕ) → i ≤ k → ys ! k ≡ xs ! k
 
-pub counting-start : (xs : List ℕ) → Counting xs xs 0
-counting-start xs = record { upto = omega arith; long = refl; done = λ k h. absurd (omega arith); left = λ k h. refl }
+pub counting_start : (xs : List ℕ) → Counting xs xs 0
+counting_start xs = record { upto = omega arith; long = refl; done = λ k h. absurd (omega arith); left = λ k h. refl }
 
 module _ (xs ys : List ℕ) (i : ℕ) (C : Counting xs ys i) where
-  pub counting-step : i < length xs → Counting xs (set ys i (mostTime - ys ! i)) (i + 1)
-  counting-step h =
+  pub counting_step : i < length xs → Counting xs (set ys i (most_time - ys ! i)) (i + 1)
+  counting_step h =
       record {
         upto = omega arith;
-        long = rw (length-set ys i (mostTime - ys ! i)) C.long;
+        long = rw (length-set ys i (most_time - ys ! i)) C.long;
         done = λ k b. elim (ℕ_discrete k i) [
-          | yes q ↦ rw q (get_or-set_same ys i (mostTime - ys ! i) 0 (omega (arith, C.long)) ∙ ap (λ (t : ℕ). mostTime - t) (C.left i (omega arith)))
-          | no q ↦ get_or-set_other ys i k (mostTime - ys ! i) 0 q ∙ C.done k (omega arith)
+          | yes q ↦ rw q (get_or-set_same ys i (most_time - ys ! i) 0 (omega (arith, C.long)) ∙ ap (λ (t : ℕ). most_time - t) (C.left i (omega arith)))
+          | no q ↦ get_or-set_other ys i k (most_time - ys ! i) 0 q ∙ C.done k (omega arith)
         ];
-        left = λ k b. get_or-set_other ys i k (mostTime - ys ! i) 0 (λ q. omega arith) ∙ C.left k (omega arith);
+        left = λ k b. get_or-set_other ys i k (most_time - ys ! i) 0 (λ q. omega arith) ∙ C.left k (omega arith);
       }
 
-  pub counting-end : length xs ≤ i → ys ≡ countedBack xs
-  counting-end h =
-      same-list (length xs) ys (countedBack xs) C.long (back-length xs) (λ k b. C.done k (omega arith) ∙ sym (back_at xs k b))
+  pub counting_end : length xs ≤ i → ys ≡ counted_back xs
+  counting_end h =
+      same_list (length xs) ys (counted_back xs) C.long (back_length xs) (λ k b. C.done k (omega arith) ∙ sym (back_at xs k b))

@@ -1,14 +1,14 @@
 // Times counted back from the greatest one, in place: the latest ends so are the earliest starts of the windows mirrored in time.
 ghost use Rattle.std.specs.Prelude.{◌≡◌};
-ghost use Rattle.joblist.specs.Limits.{timeColumn};
+ghost use Rattle.joblist.specs.Limits.{time_column};
 ghost use Rattle.joblist.specs.GoodList.{Within};
-ghost use Rattle.mirrors.specs.Back.{countedBack};
+ghost use Rattle.mirrors.specs.Back.{counted_back};
 
 use screen::MOST_TIME;
 
 pub fn count_back(times: &mut [u32])
-    requires { Within (timeColumn times.old) }
-    ensures { times.new ≡ countedBack times.old }
+    requires { Within (time_column times.old) }
+    ensures { times.new ≡ counted_back times.old }
 {
     let mut i = 0;
     while i < times.len() {

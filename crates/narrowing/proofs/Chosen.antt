@@ -15,8 +15,8 @@ use Rattle.narrowing.specs.Rounds.{place_of, Passed, Choice, Chosen}
 use Rattle.narrowing.specs.Led.{Clashed}
 
 -- two places are one, or one of them is passed over on the way to the other
-passed-or : (a b x : ℕ) → (x ≡ b) ⊎ (Passed a b x ⊎ Passed a x b)
-passed-or a b x =
+passed_or : (a b x : ℕ) → (x ≡ b) ⊎ (Passed a b x ⊎ Passed a x b)
+passed_or a b x =
     elim (ℕ_discrete x b) [
       | yes e ↦ inl e
       | no e ↦
@@ -26,27 +26,27 @@ passed-or a b x =
           ])
     ]
 
-place-one : (j k : ℕ) (s u : Side) → place_of j s ≡ place_of k u → (j ≡ k) × (s ≡ u)
-place-one j k early early e = (omega arith, refl)
-place-one j k early late e = absurd (omega arith)
-place-one j k late early e = absurd (omega arith)
-place-one j k late late e = (omega arith, refl)
+place_one : (j k : ℕ) (s u : Side) → place_of j s ≡ place_of k u → (j ≡ k) × (s ≡ u)
+place_one j k early early e = (omega arith, refl)
+place_one j k early late e = absurd (omega arith)
+place_one j k late early e = absurd (omega arith)
+place_one j k late late e = (omega arith, refl)
 
-found-one : (x : Option ℕ) (c d : ℕ) → x ≡ some c → x ≡ some d → c ≡ d
-found-one x c d e f = let q : some c ≡ some d = sym e ∙ f in let z : c ≡ d = cc in z
+found_one : (x : Option ℕ) (c d : ℕ) → x ≡ some c → x ≡ some d → c ≡ d
+found_one x c d e f = let q : some c ≡ some d = sym e ∙ f in let z : c ≡ d = cc in z
 
-move-one : (m n : Move) → m.job ≡ n.job → m.side ≡ n.side → m.choice ≡ n.choice → m.before ≡ n.before → m ≡ n
-move-one m n a b c d =
+move_one : (m n : Move) → m.job ≡ n.job → m.side ≡ n.side → m.choice ≡ n.choice → m.before ≡ n.before → m ≡ n
+move_one m n a b c d =
     ap (λ (i : ℕ). record { job = i; side = m.side; choice = m.choice; before = m.before }) a
     ∙ ap (λ (s : Side). record { job = n.job; side = s; choice = m.choice; before = m.before }) b
     ∙ ap (λ (i : ℕ). record { job = n.job; side = n.side; choice = i; before = m.before }) c
     ∙ ap (λ (W : Win). record { job = n.job; side = n.side; choice = n.choice; before = W }) d
 
 module _ (R : Search) (G : Family) where
-  choice-one : (W : Win) (j : ℕ) (s : Side) (m n : Move) → Choice R G W j s m → Choice R G W j s n → m ≡ n
-  choice-one W j s m n f g =
-      move-one m n same.0 same.1
-      (found-one (R.best W n.job n.side) m.choice n.choice (subst (λ (u : Side). R.best W n.job u ≡ some m.choice) same.1 (subst (λ (i : ℕ). R.best W i m.side ≡ some m.choice) same.0 f.chosen)) g.chosen)
+  choice_one : (W : Win) (j : ℕ) (s : Side) (m n : Move) → Choice R G W j s m → Choice R G W j s n → m ≡ n
+  choice_one W j s m n f g =
+      move_one m n same.0 same.1
+      (found_one (R.best W n.job n.side) m.choice n.choice (subst (λ (u : Side). R.best W n.job u ≡ some m.choice) same.1 (subst (λ (i : ℕ). R.best W i m.side ≡ some m.choice) same.0 f.chosen)) g.chosen)
       (f.before ∙ sym g.before)
     where
       go : (place_of n.job n.side ≡ place_of m.job m.side) ⊎ (Passed (place_of j s) (place_of m.job m.side) (place_of n.job n.side) ⊎ Passed (place_of j s) (place_of n.job n.side) (place_of m.job m.side))
@@ -56,18 +56,18 @@ module _ (R : Search) (G : Family) where
       go (inr (inr p)) = absurd (g.passed m.job m.side f.listed p _ f.applies)
 
       same : (m.job ≡ n.job) × (m.side ≡ n.side)
-      same = place-one m.job n.job m.side n.side (go (passed-or (place_of j s) (place_of m.job m.side) (place_of n.job n.side)))
+      same = place_one m.job n.job m.side n.side (go (passed_or (place_of j s) (place_of m.job m.side) (place_of n.job n.side)))
 
   -- as many moves are the same moves
-  pub chosen-one : (ms ns : List Move) (W : Win) (j : ℕ) (s : Side) → Chosen R G W j s ms → Chosen R G W j s ns → length ms ≡ length ns → ms ≡ ns
-  chosen-one [] [] W j s f g e = refl
-  chosen-one [] (n ∷ ns) W j s f g e = absurd (omega arith)
-  chosen-one (m ∷ ms) [] W j s f g e = absurd (omega arith)
-  chosen-one (m ∷ ms) (n ∷ ns) W j s (f, fs) (g, gs) e =
-      let q = choice-one W j s m n f g in
+  pub chosen_one : (ms ns : List Move) (W : Win) (j : ℕ) (s : Side) → Chosen R G W j s ms → Chosen R G W j s ns → length ms ≡ length ns → ms ≡ ns
+  chosen_one [] [] W j s f g e = refl
+  chosen_one [] (n ∷ ns) W j s f g e = absurd (omega arith)
+  chosen_one (m ∷ ms) [] W j s f g e = absurd (omega arith)
+  chosen_one (m ∷ ms) (n ∷ ns) W j s (f, fs) (g, gs) e =
+      let q = choice_one W j s m n f g in
       ap (λ (z : Move). z ∷ ms) q
       ∙ ap (λ (zs : List Move). n ∷ zs)
-      (chosen-one ms ns (after R W n.job n.side n.choice) n.job n.side
+      (chosen_one ms ns (after R W n.job n.side n.choice) n.job n.side
       (subst (λ (z : Move). Chosen R G (after R W z.job z.side z.choice) z.job z.side ms) q fs) gs (omega arith))
 
 -- ---- a clash is of one job
@@ -80,17 +80,17 @@ last-is : (d : Move) (xs : List Move) (x : Move) → last_of d (xs ++ (x ∷ [])
 last-is d [] x = refl
 last-is d (y ∷ xs) x = last-is y xs x
 
-lowest-one : (n : ℕ) (p : List ℕ) (W : Win) (i j : ℕ) → LowestTooShort n p W i → LowestTooShort n p W j → i ≡ j
+lowest_one : (n : ℕ) (p : List ℕ) (W : Win) (i j : ℕ) → LowestTooShort n p W i → LowestTooShort n p W j → i ≡ j
 unfolding Long
-lowest-one n p W i j f g =
+lowest_one n p W i j f g =
     elim (ℕ_discrete i j) [
       | yes e ↦ e
       | no e ↦ elim (dec_lt i j) [ yes b ↦ absurd (omega (arith, f.shorter, g.before i b)) | no b ↦ absurd (omega (arith, g.shorter, f.before j (omega arith))) ]
     ]
 
-pub clash-one : (R : Search) (W : Win) (ms : List Move) (i j : ℕ) → Clashed R W ms i → Clashed R W ms j → i ≡ j
-clash-one R W [] i j f g = lowest-one R.n R.p W i j f g
-clash-one R W (m ∷ ms) i j (l, f) (k, g) =
+pub clash_one : (R : Search) (W : Win) (ms : List Move) (i j : ℕ) → Clashed R W ms i → Clashed R W ms j → i ≡ j
+clash_one R W [] i j f g = lowest_one R.n R.p W i j f g
+clash_one R W (m ∷ ms) i j (l, f) (k, g) =
     let a : last_of m (m ∷ ms) ≡ f.last = ap (last_of m) f.closing ∙ last-is m f.before f.last in
     let b : last_of m (m ∷ ms) ≡ g.last = ap (last_of m) g.closing ∙ last-is m g.before g.last in
     sym f.job ∙ ap (λ (z : Move). z.job) (sym a ∙ b) ∙ g.job

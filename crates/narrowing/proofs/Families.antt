@@ -6,21 +6,21 @@ use Rattle.narrowing.specs.Windows.{Win, Side, Inside, Tighter}
 use Rattle.narrowing.specs.Rules.{Family, Either, Some, Stable, Lawful, Candidate, NoCandidate, Step}
 
 module _ (n : ℕ) (G H : Family) where
-  pub stable-left : (W : Win) → Stable n (Either G H) W → Stable n G W
+  pub stable_left : (W : Win) → Stable n (Either G H) W → Stable n G W
   unfolding Stable
-  stable-left W q j s b h a = q j s b h (inl a)
+  stable_left W q j s b h a = q j s b h (inl a)
 
-  pub stable-right : (W : Win) → Stable n (Either G H) W → Stable n H W
+  pub stable_right : (W : Win) → Stable n (Either G H) W → Stable n H W
   unfolding Stable
-  stable-right W q j s b h a = q j s b h (inr a)
+  stable_right W q j s b h a = q j s b h (inr a)
 
-  pub stable-both : (W : Win) → Stable n G W → Stable n H W → Stable n (Either G H) W
+  pub stable_both : (W : Win) → Stable n G W → Stable n H W → Stable n (Either G H) W
   unfolding Stable
-  stable-both W f g j s b h (inl a) = f j s b h a
-  stable-both W f g j s b h (inr a) = g j s b h a
+  stable_both W f g j s b h (inl a) = f j s b h a
+  stable_both W f g j s b h (inr a) = g j s b h a
 
-  pub lawful-either : Lawful n G → Lawful n H → Lawful n (Either G H)
-  lawful-either f g = record { tighter = tight; again = next }
+  pub lawful_either : Lawful n G → Lawful n H → Lawful n (Either G H)
+  lawful_either f g = record { tighter = tight; again = next }
     where
       tight : (W : Win) (j : ℕ) (s : Side) (b : ℕ) → j < n → Either G H W j s b → Tighter W j s b
       tight W j s b h (inl a) = f.tighter W j s b h a
@@ -31,28 +31,28 @@ module _ (n : ℕ) (G H : Family) where
       next U W j s b i h (inr a) t = let d = g.again U W j s b i h a t in (d.0, inr d.1)
 
 module _ (n q : ℕ) (G : ℕ → Family) where
-  pub stable-one : (W : Win) → Stable n (Some q G) W → (k : ℕ) → k < q → Stable n (G k) W
+  pub stable_one : (W : Win) → Stable n (Some q G) W → (k : ℕ) → k < q → Stable n (G k) W
   unfolding Stable
-  stable-one W f k c j s b h a = f j s b h (k, c, a)
+  stable_one W f k c j s b h a = f j s b h (k, c, a)
 
-  pub stable-all : (W : Win) → ((k : ℕ) → k < q → Stable n (G k) W) → Stable n (Some q G) W
+  pub stable_all : (W : Win) → ((k : ℕ) → k < q → Stable n (G k) W) → Stable n (Some q G) W
   unfolding Stable
-  stable-all W f j s b h a = f a.0 a.1 j s b h a.2
+  stable_all W f j s b h a = f a.0 a.1 j s b h a.2
 
-  pub lawful-some : ((k : ℕ) → k < q → Lawful n (G k)) → Lawful n (Some q G)
-  lawful-some f =
+  pub lawful_some : ((k : ℕ) → k < q → Lawful n (G k)) → Lawful n (Some q G)
+  lawful_some f =
       record {
         tighter = λ W j s b h a. (f a.0 a.1).tighter W j s b h a.2;
         again = λ U W j s b i h a t. let d = (f a.0 a.1).again U W j s b i h a.2 t in (d.0, (a.0, a.1, d.1));
       }
 
--- a step by some of the rules is a step by all of them, and where some leave no candidate all leave none: `part` is stable-left, stable-right, stable-one or a chain of them
+-- a step by some of the rules is a step by all of them, and where some leave no candidate all leave none: `part` is stable_left, stable_right, stable_one or a chain of them
 module _ (n : ℕ) (p : List ℕ) (G H : Family) (part : (X : Win) → Stable n G X → Stable n H X) where
-  candidate-part : (W X : Win) → Candidate n p G W X → Candidate n p H W X
-  candidate-part W X i = record { inside = i.inside; stable = part X i.stable; long = i.long }
+  candidate_part : (W X : Win) → Candidate n p G W X → Candidate n p H W X
+  candidate_part W X i = record { inside = i.inside; stable = part X i.stable; long = i.long }
 
   pub step_part : (W U : Win) → Step n p H W U → Step n p G W U
-  step_part W U k = record { inside = k.inside; kept = λ X i. k.kept X (candidate-part W X i) }
+  step_part W U k = record { inside = k.inside; kept = λ X i. k.kept X (candidate_part W X i) }
 
-  pub none-part : (W : Win) → NoCandidate n p H W → NoCandidate n p G W
-  none-part W f X i = f X (candidate-part W X i)
+  pub none_part : (W : Win) → NoCandidate n p H W → NoCandidate n p G W
+  none_part W f X i = f X (candidate_part W X i)

@@ -10,44 +10,44 @@ use lib.Seq.{get_or-set_other, get_or-set_same}
 use borrow.Author.Tests.{ltb-true, ltb-false}
 use Rattle.narrowing.specs.Windows.{Win, Side, early, late, number, side_of, Long, Inside, moved, Tighter, Respects, closes, slack}
 use Rattle.lists.specs.Lists.{◌!◌}
-use Rattle.lists.proofs.Lists.{set-any}
+use Rattle.lists.proofs.Lists.{set_any}
 
 -- a side is known by its number
-pub side-number : (s : Side) → side_of (number s) ≡ s
-side-number early = refl
-side-number late = refl
+pub side_number : (s : Side) → side_of (number s) ≡ s
+side_number early = refl
+side_number late = refl
 
-pub side-early : (k : ℕ) → k ≡ 0 → side_of k ≡ early
-side-early k h = rw h
+pub side_early : (k : ℕ) → k ≡ 0 → side_of k ≡ early
+side_early k h = rw h
 
-pub side-late : (k : ℕ) → (k ≡ 0 → ⊥) → side_of k ≡ late
-side-late zero h = absurd (h refl)
-side-late (suc k) h = refl
+pub side_late : (k : ℕ) → (k ≡ 0 → ⊥) → side_of k ≡ late
+side_late zero h = absurd (h refl)
+side_late (suc k) h = refl
 
-pub inside-refl : (n : ℕ) (W : Win) → Inside n W W
-inside-refl n W = record { early = λ k b. omega arith; late = λ k b. omega arith }
+pub inside_refl : (n : ℕ) (W : Win) → Inside n W W
+inside_refl n W = record { early = λ k b. omega arith; late = λ k b. omega arith }
 
-pub inside-trans : (n : ℕ) (A B C : Win) → Inside n A B → Inside n B C → Inside n A C
-inside-trans n A B C f g = record { early = λ k b. omega (arith, f.early k b, g.early k b); late = λ k b. omega (arith, f.late k b, g.late k b) }
+pub inside_trans : (n : ℕ) (A B C : Win) → Inside n A B → Inside n B C → Inside n A C
+inside_trans n A B C f g = record { early = λ k b. omega (arith, f.early k b, g.early k b); late = λ k b. omega (arith, f.late k b, g.late k b) }
 
 -- a move that tightens goes inward
-pub move-inside : (n : ℕ) (W : Win) (j : ℕ) (s : Side) (b : ℕ) → Tighter W j s b → Inside n (moved W j s b) W
-move-inside n W j early b a =
-    record { early = λ k c. set-any (λ (x : ℕ). W.e ! k ≤ x) W.e j b k (λ q. rw q (omega arith)) (omega arith); late = λ k c. omega arith }
-move-inside n W j late b a =
-    record { early = λ k c. omega arith; late = λ k c. set-any (λ (x : ℕ). x ≤ W.l ! k) W.l j b k (λ q. rw q (omega arith)) (omega arith) }
+pub move_inside : (n : ℕ) (W : Win) (j : ℕ) (s : Side) (b : ℕ) → Tighter W j s b → Inside n (moved W j s b) W
+move_inside n W j early b a =
+    record { early = λ k c. set_any (λ (x : ℕ). W.e ! k ≤ x) W.e j b k (λ q. rw q (omega arith)) (omega arith); late = λ k c. omega arith }
+move_inside n W j late b a =
+    record { early = λ k c. omega arith; late = λ k c. set_any (λ (x : ℕ). x ≤ W.l ! k) W.l j b k (λ q. rw q (omega arith)) (omega arith) }
 
 -- windows inside W whose bound is tight enough lie inside the moved ones
-pub move-keeps : (n : ℕ) (U W : Win) (j : ℕ) (s : Side) (b : ℕ) → Inside n U W → Respects U j s b → Inside n U (moved W j s b)
-move-keeps n U W j early b i h =
-    record { early = λ k c. set-any (λ (x : ℕ). x ≤ U.e ! k) W.e j b k (λ q. rw q h) (i.early k c); late = i.late }
-move-keeps n U W j late b i h =
-    record { early = i.early; late = λ k c. set-any (λ (x : ℕ). U.l ! k ≤ x) W.l j b k (λ q. rw q h) (i.late k c) }
+pub move_keeps : (n : ℕ) (U W : Win) (j : ℕ) (s : Side) (b : ℕ) → Inside n U W → Respects U j s b → Inside n U (moved W j s b)
+move_keeps n U W j early b i h =
+    record { early = λ k c. set_any (λ (x : ℕ). x ≤ U.e ! k) W.e j b k (λ q. rw q h) (i.early k c); late = i.late }
+move_keeps n U W j late b i h =
+    record { early = i.early; late = λ k c. set_any (λ (x : ℕ). U.l ! k ≤ x) W.l j b k (λ q. rw q h) (i.late k c) }
 
 -- windows around ones that are long enough are long enough
-pub long-around : (n : ℕ) (p : List ℕ) (U W : Win) → Inside n U W → Long n p U → Long n p W
+pub long_around : (n : ℕ) (p : List ℕ) (U W : Win) → Inside n U W → Long n p U → Long n p W
 unfolding Long
-long-around n p U W i L k b = omega (arith, i.early k b, i.late k b, L k b)
+long_around n p U W i L k b = omega (arith, i.early k b, i.late k b, L k b)
 
 -- a closed window leaves no windows inside that hold their jobs
 pub closed_none : (n : ℕ) (p : List ℕ) (U W : Win) → Inside n U W → Long n p U → (j : ℕ) → j < n → closes p W j ≡ true → ⊥
@@ -68,16 +68,16 @@ pub record Whole (n : ℕ) (W : Win) : Type 0 where
   pub early : n ≤ length W.e
   pub late : n ≤ length W.l
 
-pub whole-after : (n : ℕ) (W : Win) (j : ℕ) (s : Side) (b : ℕ) → Whole n W → Whole n (moved W j s b)
-whole-after n W j early b h = record { early = rw length-set h.early; late = h.late }
-whole-after n W j late b h = record { early = h.early; late = rw length-set h.late }
+pub whole_after : (n : ℕ) (W : Win) (j : ℕ) (s : Side) (b : ℕ) → Whole n W → Whole n (moved W j s b)
+whole_after n W j early b h = record { early = rw length-set h.early; late = h.late }
+whole_after n W j late b h = record { early = h.early; late = rw length-set h.late }
 
-part-less : (n : ℕ) (p : List ℕ) (W : Win) (j : ℕ) (s : Side) (b : ℕ) → j < n → Whole n W → Tighter W j s b → closes p (moved W j s b) j ≡ false
+part_less : (n : ℕ) (p : List ℕ) (W : Win) (j : ℕ) (s : Side) (b : ℕ) → j < n → Whole n W → Tighter W j s b → closes p (moved W j s b) j ≡ false
     → suc ((moved W j s b).l ! j - ((moved W j s b).e ! j + p ! j)) ≤ W.l ! j - (W.e ! j + p ! j)
-part-less n p W j early b d h a c =
+part_less n p W j early b d h a c =
     let e : set W.e j b ! j ≡ b = get_or-set_same W.e j b 0 (omega arith) in
     omega (arith, ltb-false)
-part-less n p W j late b d h a c =
+part_less n p W j late b d h a c =
     let e : set W.l j b ! j ≡ b = get_or-set_same W.l j b 0 (omega arith) in
     omega (arith, ltb-false)
 
@@ -86,36 +86,36 @@ part_same : (p : List ℕ) (W : Win) (j : ℕ) (s : Side) (b k : ℕ) → (k ≡
 part_same p W j early b k d = rw (get_or-set_other W.e j k b 0 d)
 part_same p W j late b k d = rw (get_or-set_other W.l j k b 0 d)
 
-slack-same : (p : List ℕ) (W : Win) (j : ℕ) (s : Side) (b m : ℕ) → m ≤ j → slack p (moved W j s b) m ≡ slack p W m
+slack_same : (p : List ℕ) (W : Win) (j : ℕ) (s : Side) (b m : ℕ) → m ≤ j → slack p (moved W j s b) m ≡ slack p W m
 unfolding slack
-slack-same p W j s b zero d = refl
-slack-same p W j s b (suc m) d = rw (slack-same p W j s b m (omega arith), part_same p W j s b m (omega arith))
+slack_same p W j s b zero d = refl
+slack_same p W j s b (suc m) d = rw (slack_same p W j s b m (omega arith), part_same p W j s b m (omega arith))
 
-pub slack-less : (n : ℕ) (p : List ℕ) (W : Win) (j : ℕ) (s : Side) (b : ℕ) → j < n → Whole n W → Tighter W j s b → closes p (moved W j s b) j ≡ false
+pub slack_less : (n : ℕ) (p : List ℕ) (W : Win) (j : ℕ) (s : Side) (b : ℕ) → j < n → Whole n W → Tighter W j s b → closes p (moved W j s b) j ≡ false
     → (m : ℕ) → j < m → suc (slack p (moved W j s b) m) ≤ slack p W m
 unfolding slack
-slack-less n p W j s b x h a c zero d = omega arith
-slack-less n p W j s b x h a c (suc m) d = go (λ q. slack-less n p W j s b x h a c m q)
+slack_less n p W j s b x h a c zero d = omega arith
+slack_less n p W j s b x h a c (suc m) d = go (λ q. slack_less n p W j s b x h a c m q)
   where
     go : (j < m → suc (slack p (moved W j s b) m) ≤ slack p W m) → suc (slack p (moved W j s b) (suc m)) ≤ slack p W (suc m)
     go f =
         elim (ℕ_discrete m j) [
-          | yes e ↦ rw e (omega (arith, slack-same p W j s b j (omega arith), part-less n p W j s b x h a c))
+          | yes e ↦ rw e (omega (arith, slack_same p W j s b j (omega arith), part_less n p W j s b x h a c))
           | no e ↦ omega (arith, f (omega arith), part_same p W j s b m e)
         ]
 
 -- ---- any step inward: the measure of a loop in any order. The premise says that job k's window has changed
 
-pub slack-in : (n : ℕ) (p : List ℕ) (U W : Win) → Inside n U W → (m : ℕ) → m ≤ n → slack p U m ≤ slack p W m
+pub slack_in : (n : ℕ) (p : List ℕ) (U W : Win) → Inside n U W → (m : ℕ) → m ≤ n → slack p U m ≤ slack p W m
 unfolding slack
-slack-in n p U W i zero b = omega arith
-slack-in n p U W i (suc m) b = omega (arith, slack-in n p U W i m (omega arith), i.early m b, i.late m b)
+slack_in n p U W i zero b = omega arith
+slack_in n p U W i (suc m) b = omega (arith, slack_in n p U W i m (omega arith), i.early m b, i.late m b)
 
-pub slack-step : (n : ℕ) (p : List ℕ) (U W : Win) → Inside n U W → Long n p U → (k : ℕ) → (U.e ! k + W.l ! k ≡ W.e ! k + U.l ! k → ⊥)
+pub slack_step : (n : ℕ) (p : List ℕ) (U W : Win) → Inside n U W → Long n p U → (k : ℕ) → (U.e ! k + W.l ! k ≡ W.e ! k + U.l ! k → ⊥)
     → (m : ℕ) → m ≤ n → k < m → slack p U m < slack p W m
 unfolding slack Long
-slack-step n p U W i L k d zero b c = absurd (omega arith)
-slack-step n p U W i L k d (suc m) b c = go (λ q. slack-step n p U W i L k d m (omega arith) q)
+slack_step n p U W i L k d zero b c = absurd (omega arith)
+slack_step n p U W i L k d (suc m) b c = go (λ q. slack_step n p U W i L k d m (omega arith) q)
   where
     go : (k < m → slack p U m < slack p W m) → slack p U (suc m) < slack p W (suc m)
     go f =
@@ -124,7 +124,7 @@ slack-step n p U W i L k d (suc m) b c = go (λ q. slack-step n p U W i L k d m 
               let x : U.e ! m + W.l ! m ≡ W.e ! m + U.l ! m → ⊥ = rw e at d in
               elim (ℕ_discrete (U.e ! m + W.l ! m) (W.e ! m + U.l ! m)) [
                 | yes q ↦ absurd (x q)
-                | no q ↦ omega (arith, slack-in n p U W i m (omega arith), i.early m b, i.late m b, L m b)
+                | no q ↦ omega (arith, slack_in n p U W i m (omega arith), i.early m b, i.late m b, L m b)
               ]
           | no e ↦ omega (arith, f (omega arith), i.early m b, i.late m b)
         ]

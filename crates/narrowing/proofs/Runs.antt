@@ -10,11 +10,11 @@ use borrow.Author.Tests.{lt-ltb}
 use Rattle.narrowing.specs.Windows.{Win, Side, early, Long, closes, slack}
 use Rattle.narrowing.specs.Rules.{Family, Stable, Lawful, Largest, NoCandidate, Step, Steps, here, next}
 use Rattle.narrowing.specs.Search.{Search, Searches, Move, move, after}
-use Rattle.narrowing.specs.Run.{Next, rests, moves, nextMove, Out, settled, clash, short, push, follow, ends, work, run, moves_of}
+use Rattle.narrowing.specs.Run.{Next, rests, moves, next_move, Out, settled, clash, short, push, follow, ends, work, run, moves_of}
 use Rattle.narrowing.specs.Rounds.{Choice, Chosen}
-use Rattle.narrowing.proofs.Moves.{long_after, Whole, whole-after, slack-less}
-use Rattle.narrowing.proofs.Steps.{step_move, any_settled, any-clash}
-use Rattle.narrowing.proofs.Next.{Place, place-of, Ahead, next-is}
+use Rattle.narrowing.proofs.Moves.{long_after, Whole, whole_after, slack_less}
+use Rattle.narrowing.proofs.Steps.{step_move, any_settled, any_clash}
+use Rattle.narrowing.proofs.Next.{Place, place_of, Ahead, next-is}
 use Rattle.narrowing.proofs.TooShort.{run_by}
 
 -- what an end says of the windows W that the work began on
@@ -39,44 +39,44 @@ module _ (R : Search) (G : Family) (search : Searches R G) where
       → closes R.p (after R W i v c) i ≡ true → P (suc room) W j s (clash i (move W i v c ∷ [])))
       (step : (room : ℕ) (W : Win) (j : ℕ) (s : Side) (i : ℕ) (v : Side) (c : ℕ) (o : Out) → Long R.n R.p W → Choice R G W j s (move W i v c)
       → closes R.p (after R W i v c) i ≡ false → P room (after R W i v c) i v o → P (suc room) W j s (push (move W i v c) o)) where
-    ind-follow : (room : ℕ) (W : Win) (L : Long R.n R.p W) (j : ℕ) (s : Side) (x : Next) (f : ℕ → Side → ℕ → Out) → Ahead R G search W L j s x
+    ind_follow : (room : ℕ) (W : Win) (L : Long R.n R.p W) (j : ℕ) (s : Side) (x : Next) (f : ℕ → Side → ℕ → Out) → Ahead R G search W L j s x
         → ((i : ℕ) (v : Side) (c : ℕ) → Choice R G W j s (move W i v c) → P room W j s (f i v c)) → P room W j s (follow W x f)
-    ind-follow room W L j s rests f q g = rest room W j s L q
-    ind-follow room W L j s (moves i v c) f q g = g i v c q
+    ind_follow room W L j s rests f q g = rest room W j s L q
+    ind_follow room W L j s (moves i v c) f q g = g i v c q
 
-    ind-ends : (room : ℕ) (W : Win) (j : ℕ) (s : Side) (a b : Out) (t v : Bool) → v ≡ t → (v ≡ true → P room W j s a) → (v ≡ false → P room W j s b) → P room W j s (ends t a b)
-    ind-ends room W j s a b true v e f g = f e
-    ind-ends room W j s a b false v e f g = g e
+    ind_ends : (room : ℕ) (W : Win) (j : ℕ) (s : Side) (a b : Out) (t v : Bool) → v ≡ t → (v ≡ true → P room W j s a) → (v ≡ false → P room W j s b) → P room W j s (ends t a b)
+    ind_ends room W j s a b true v e f g = f e
+    ind_ends room W j s a b false v e f g = g e
 
-    pub work-ind : (room : ℕ) (W : Win) (j : ℕ) (s : Side) → Long R.n R.p W → Place R.n j s → P room W j s (work R room W j s)
+    pub work_ind : (room : ℕ) (W : Win) (j : ℕ) (s : Side) → Long R.n R.p W → Place R.n j s → P room W j s (work R room W j s)
     unfolding work
-    work-ind zero W j s L b = ind-follow 0 W L j s (nextMove R W j s) _ (next-is R G search W L j s b) (λ i v c a. full W j s i v c L a)
-    work-ind (suc room) W j s L b =
-        ind-follow (suc room) W L j s (nextMove R W j s) _ (next-is R G search W L j s b)
+    work_ind zero W j s L b = ind_follow 0 W L j s (next_move R W j s) _ (next-is R G search W L j s b) (λ i v c a. full W j s i v c L a)
+    work_ind (suc room) W j s L b =
+        ind_follow (suc room) W L j s (next_move R W j s) _ (next-is R G search W L j s b)
         (λ i v c a.
-        ind-ends (suc room) W j s _ _ (closes R.p (after R W i v c) i) (closes R.p (after R W i v c) i) refl
+        ind_ends (suc room) W j s _ _ (closes R.p (after R W i v c) i) (closes R.p (after R W i v c) i) refl
         (λ e. stop room W j s i v c L a e)
         (λ e. step room W j s i v c (work R room (after R W i v c) i v) L a e
-        (work-ind room (after R W i v c) i v (long_after R.n R.p W i v (R.bound v c) L e) (place-of R.n i v a.listed))))
+        (work_ind room (after R W i v c) i v (long_after R.n R.p W i v (R.bound v c) L e) (place_of R.n i v a.listed))))
 
   -- ---- each move is the search's own choice
 
-  push-chosen : (W : Win) (j : ℕ) (s : Side) (m : Move) (o : Out) → Choice R G W j s m
+  push_chosen : (W : Win) (j : ℕ) (s : Side) (m : Move) (o : Out) → Choice R G W j s m
       → Chosen R G (after R W m.job m.side m.choice) m.job m.side (moves_of o) → Chosen R G W j s (moves_of (push m o))
-  push-chosen W j s m (settled U ms) a g = (a, g)
-  push-chosen W j s m (clash i ms) a g = (a, g)
-  push-chosen W j s m short a g = tt
+  push_chosen W j s m (settled U ms) a g = (a, g)
+  push_chosen W j s m (clash i ms) a g = (a, g)
+  push_chosen W j s m short a g = tt
 
-  work-chosen : (room : ℕ) (W : Win) (j : ℕ) (s : Side) → Long R.n R.p W → Place R.n j s → Chosen R G W j s (moves_of (work R room W j s))
-  work-chosen =
-      work-ind (λ room W j s o. Chosen R G W j s (moves_of o))
+  work_chosen : (room : ℕ) (W : Win) (j : ℕ) (s : Side) → Long R.n R.p W → Place R.n j s → Chosen R G W j s (moves_of (work R room W j s))
+  work_chosen =
+      work_ind (λ room W j s o. Chosen R G W j s (moves_of o))
       (λ room W j s L q. tt)
       (λ W j s i v c L a. tt)
       (λ room W j s i v c L a e. (a, tt))
-      (λ room W j s i v c o L a e g. push-chosen W j s (move W i v c) o a g)
+      (λ room W j s i v c o L a e g. push_chosen W j s (move W i v c) o a g)
 
-  pub run-chosen : (room : ℕ) (W : Win) → Chosen R G W 0 early (moves_of (run R room W))
-  run-chosen room W = run_by R room W (λ o. Chosen R G W 0 early (moves_of o)) (λ L. work-chosen room W 0 early L (omega arith)) (λ j s. tt)
+  pub run_chosen : (room : ℕ) (W : Win) → Chosen R G W 0 early (moves_of (run R room W))
+  run_chosen room W = run_by R room W (λ o. Chosen R G W 0 early (moves_of o)) (λ L. work_chosen room W 0 early L (omega arith)) (λ j s. tt)
 
   module _ (law : Lawful R.n G) where
     -- ---- the run is one of the ways of Steps: moves of rules to where none applies, or to a closed window
@@ -86,57 +86,57 @@ module _ (R : Search) (G : Family) (search : Searches R G) where
     Way W (clash j ms) = (U : Win) × Steps R.n R.p G W U × (j < R.n) × (closes R.p U j ≡ true)
     Way W short = Unit {0}
 
-    push-way : (W U : Win) (m : Move) → Step R.n R.p G W U → (o : Out) → Way U o → Way W (push m o)
-    push-way W U m f (settled X ms) g = (next f g.0, g.1, g.2)
-    push-way W U m f (clash k ms) g = (g.0, next f g.1, g.2, g.3)
-    push-way W U m f short g = tt
+    push_way : (W U : Win) (m : Move) → Step R.n R.p G W U → (o : Out) → Way U o → Way W (push m o)
+    push_way W U m f (settled X ms) g = (next f g.0, g.1, g.2)
+    push_way W U m f (clash k ms) g = (g.0, next f g.1, g.2, g.3)
+    push_way W U m f short g = tt
 
-    by-choice : (W : Win) (j : ℕ) (s : Side) (i : ℕ) (v : Side) (c : ℕ) → Choice R G W j s (move W i v c) → Step R.n R.p G W (after R W i v c)
-    by-choice W j s i v c a = step_move R.n R.p G law W i v (R.bound v c) a.listed a.applies
+    by_choice_lem : (W : Win) (j : ℕ) (s : Side) (i : ℕ) (v : Side) (c : ℕ) → Choice R G W j s (move W i v c) → Step R.n R.p G W (after R W i v c)
+    by_choice_lem W j s i v c a = step_move R.n R.p G law W i v (R.bound v c) a.listed a.applies
 
-    work-way : (room : ℕ) (W : Win) (j : ℕ) (s : Side) → Long R.n R.p W → Place R.n j s → Way W (work R room W j s)
-    work-way =
-        work-ind (λ room W j s o. Way W o)
+    work_way : (room : ℕ) (W : Win) (j : ℕ) (s : Side) → Long R.n R.p W → Place R.n j s → Way W (work R room W j s)
+    work_way =
+        work_ind (λ room W j s o. Way W o)
         (λ room W j s L q. (here, q, L))
         (λ W j s i v c L a. tt)
-        (λ room W j s i v c L a e. (after R W i v c, next (by-choice W j s i v c a) here, a.listed, e))
-        (λ room W j s i v c o L a e g. push-way W (after R W i v c) (move W i v c) (by-choice W j s i v c a) o g)
+        (λ room W j s i v c L a e. (after R W i v c, next (by_choice_lem W j s i v c a) here, a.listed, e))
+        (λ room W j s i v c o L a e g. push_way W (after R W i v c) (move W i v c) (by_choice_lem W j s i v c a) o g)
 
-    pub run-way : (room : ℕ) (W : Win) → Way W (run R room W)
-    run-way room W = run_by R room W (Way W) (λ L. work-way room W 0 early L (omega arith)) (λ j s. (W, here, s.listed, lt-ltb _ _ s.shorter))
+    pub run_way : (room : ℕ) (W : Win) → Way W (run R room W)
+    run_way room W = run_by R room W (Way W) (λ L. work_way room W 0 early L (omega arith)) (λ j s. (W, here, s.listed, lt-ltb _ _ s.shorter))
 
-    way-good : (W : Win) (o : Out) → Way W o → Good R.n R.p G W o
-    way-good W (settled U ms) g = any_settled R.n R.p G g.0 g.1 g.2
-    way-good W (clash j ms) g = any-clash R.n R.p G g.1 j g.2 g.3
-    way-good W short g = tt
+    way_good : (W : Win) (o : Out) → Way W o → Good R.n R.p G W o
+    way_good W (settled U ms) g = any_settled R.n R.p G g.0 g.1 g.2
+    way_good W (clash j ms) g = any_clash R.n R.p G g.1 j g.2 g.3
+    way_good W short g = tt
 
-    pub run-good : (room : ℕ) (W : Win) → Good R.n R.p G W (run R room W)
-    run-good room W = way-good W (run R room W) (run-way room W)
+    pub run_good : (room : ℕ) (W : Win) → Good R.n R.p G W (run R room W)
+    run_good room W = way_good W (run R room W) (run_way room W)
 
     -- ---- how many moves
 
-    push-bounded : (room : ℕ) (W U : Win) (m : Move) (o : Out) → suc (slack R.p U R.n) ≤ slack R.p W R.n
+    push_bounded : (room : ℕ) (W U : Win) (m : Move) (o : Out) → suc (slack R.p U R.n) ≤ slack R.p W R.n
         → Bounded R room U o → Bounded R (suc room) W (push m o)
-    push-bounded room W U m (settled X ms) d q = omega arith
-    push-bounded room W U m (clash j ms) d q = omega arith
-    push-bounded room W U m short d q = omega arith
+    push_bounded room W U m (settled X ms) d q = omega arith
+    push_bounded room W U m (clash j ms) d q = omega arith
+    push_bounded room W U m short d q = omega arith
 
-    work-bounded : (room : ℕ) (W : Win) (j : ℕ) (s : Side) → Long R.n R.p W → Place R.n j s → Whole R.n W → Bounded R room W (work R room W j s)
-    work-bounded =
-        work-ind (λ room W j s o. Whole R.n W → Bounded R room W o)
+    work_bounded : (room : ℕ) (W : Win) (j : ℕ) (s : Side) → Long R.n R.p W → Place R.n j s → Whole R.n W → Bounded R room W (work R room W j s)
+    work_bounded =
+        work_ind (λ room W j s o. Whole R.n W → Bounded R room W o)
         (λ room W j s L q h. omega arith)
         (λ W j s i v c L a h. omega arith)
         (λ room W j s i v c L a e h. omega arith)
         (λ room W j s i v c o L a e g h.
-        push-bounded room W (after R W i v c) (move W i v c) o
-        (slack-less R.n R.p W i v (R.bound v c) a.listed h (law.tighter W i v (R.bound v c) a.listed a.applies) e R.n a.listed)
-        (g (whole-after R.n W i v (R.bound v c) h)))
+        push_bounded room W (after R W i v c) (move W i v c) o
+        (slack_less R.n R.p W i v (R.bound v c) a.listed h (law.tighter W i v (R.bound v c) a.listed a.applies) e R.n a.listed)
+        (g (whole_after R.n W i v (R.bound v c) h)))
 
     -- at most the slack, and one more in a clash; short of room only where the room is at most the slack
-    pub run-bounded : (room : ℕ) (W : Win) → Whole R.n W → Bounded R room W (run R room W)
-    run-bounded room W h = run_by R room W (Bounded R room W) (λ L. work-bounded room W 0 early L (omega arith) h) (λ j s. omega arith)
+    pub run_bounded : (room : ℕ) (W : Win) → Whole R.n W → Bounded R room W (run R room W)
+    run_bounded room W h = run_by R room W (Bounded R room W) (λ L. work_bounded room W 0 early L (omega arith) h) (λ j s. omega arith)
 
-    pub never-short : (room : ℕ) (W : Win) → Whole R.n W → slack R.p W R.n < room → run R room W ≡ short → ⊥
-    never-short room W h d e =
-        let q : room ≤ slack R.p W R.n = subst (Bounded R room W) e (run-bounded room W h) in
+    pub never_short : (room : ℕ) (W : Win) → Whole R.n W → slack R.p W R.n < room → run R room W ≡ short → ⊥
+    never_short room W h d e =
+        let q : room ≤ slack R.p W R.n = subst (Bounded R room W) e (run_bounded room W h) in
         omega arith

@@ -3,7 +3,7 @@ use Rattle.std.specs.Prelude.{ℕ, ◌+◌, ◌<◌, ◌≡◌, List, [], ◌∷
 use Rattle.lists.specs.Lists.{◌!◌}
 use Rattle.narrowing.specs.Windows.{Win, Long, LowestTooShort}
 use Rattle.narrowing.specs.Search.{Search, Move}
-use Rattle.narrowing.specs.Run.{Out, settled, clash, short, reachedBy}
+use Rattle.narrowing.specs.Run.{Out, settled, clash, short, reached_by}
 
 -- U's lists are as long as W's
 pub record SameLengths (W U : Win) : Type 0 where
@@ -13,16 +13,16 @@ pub record SameLengths (W U : Win) : Type 0 where
 -- the moves lead from W to U, one bound of one job at a time
 pub record Led (R : Search) (W : Win) (ms : List Move) (U : Win) : Type 0 where
   pub lengths : SameLengths W U
-  pub led : U ≡ reachedBy R W ms
+  pub led : U ≡ reached_by R W ms
 
 -- the last move is job j's, and leaves j's window shorter than the job; before it every window was long enough
 pub record Closes (R : Search) (W : Win) (ms : List Move) (j : ℕ) : Type 0 where
   pub before : List Move
   pub last : Move
   pub closing : ms ≡ before ++ (last ∷ [])
-  pub held : Long R.n R.p (reachedBy R W before)
+  pub held : Long R.n R.p (reached_by R W before)
   pub job : last.job ≡ j
-  pub closed : (reachedBy R W ms).l ! j < (reachedBy R W ms).e ! j + R.p ! j
+  pub closed : (reached_by R W ms).l ! j < (reached_by R W ms).e ! j + R.p ! j
 
 -- a clash of job j: with no move, j is the lowest job whose window is too short; else none is, and the last move closes j's window
 abbrev pub Clashed : Search → Win → List Move → ℕ → Type 0

@@ -8,9 +8,9 @@ use Rattle.narrowing.specs.Search.{Search, Move, after, move}
 use Rattle.narrowing.specs.Run.{Out, settled, clash, short, push}
 
 -- the place after job j's side s: side 1 after side 0, the next job's side 0 after side 1
-abbrev pub nextJob : ℕ → Side → ℕ
-nextJob j early = j
-nextJob j late = suc j
+abbrev pub next_job : ℕ → Side → ℕ
+next_job j early = j
+next_job j late = suc j
 
 abbrev pub other : Side → Side
 other early = late
@@ -21,9 +21,9 @@ if true x y = x
 if false x y = y
 
 -- what the side does: it moves by c, or it does not apply
-abbrev pub byChoice : Option ℕ → (ℕ → Option Out) → Option Out → Option Out
-byChoice none f x = x
-byChoice (some c) f x = f c
+abbrev pub by_choice : Option ℕ → (ℕ → Option Out) → Option Out → Option Out
+by_choice none f x = x
+by_choice (some c) f x = f c
 
 -- a move takes one of the room
 abbrev pub spend : ℕ → (ℕ → Option Out) → Option Out
@@ -42,10 +42,10 @@ rounds R (suc acts) room changed j s W =
     let U = after R W j s c in
     let again = pushed (move W j s c) (rounds R acts left true j s U) in
     if (closes R.p U j) (some (clash j (move W j s c ∷ []))) again) in
-    let onward = rounds R acts room changed (nextJob j s) (other s) W in
+    let onward = rounds R acts room changed (next_job j s) (other s) W in
     let anew = rounds R acts room false 0 early W in
     let over = if changed anew (some (settled W [])) in
-    if (ltb j R.n) (byChoice (R.best W j s) moves onward) over
+    if (ltb j R.n) (by_choice (R.best W j s) moves onward) over
 
 -- with acts enough the rounds come to o
 abbrev pub Does : Search → ℕ → Bool → ℕ → Side → Win → Out → Type 0

@@ -43,9 +43,9 @@ pub record LowestTooShort (n : ℕ) (p : List ℕ) (W : Win) (j : ℕ) : Type 0 
   pub before : Long j p W
 
 -- that job, if there is one
-unfoldable pub lowestTooShort : ℕ → List ℕ → Win → Option ℕ
+unfoldable pub lowest_too_short : ℕ → List ℕ → Win → Option ℕ
 unfolding least
-lowestTooShort n p W = least (closes p W) 0 n
+lowest_too_short n p W = least (closes p W) 0 n
 
 -- the windows U lie inside the windows W
 pub record Inside (n : ℕ) (U W : Win) : Type 0 where

@@ -1,16 +1,16 @@
 // The record of a move (document 01, 'Log records'; document 02, Item 7): the members that the writer names, and the words in the log.
 ghost use Rattle.std.specs.Prelude.{◌≡◌, not, ◌+◌, ◌≤◌, ◌<◌, length, leb, ltb, eqb};
 ghost use Rattle.lists.specs.Tests.{both};
-ghost use Rattle.joblist.specs.Limits.{mostTime};
+ghost use Rattle.joblist.specs.Limits.{most_time};
 ghost use Rattle.journal.specs.Journal.{rewritten};
 ghost use Rattle.timetable.specs.Table.{Good};
 ghost use Rattle.narrowing.specs.Windows.{side_of};
 ghost use Rattle.crowding.specs.Asked.{asked};
-ghost use Rattle.noting.specs.Record.{members_of, recordOf};
+ghost use Rattle.noting.specs.Record.{members_of, record_of};
 
 // Whether job k is one of 01's members of a record of job j at time t: another job with a demand whose sure part holds t.
 fn is_member(k: usize, j: usize, e: u32, l: u32, p: u32, r: u32, t: u32) -> bool
-    requires { (e ≤ mostTime) × (p ≤ mostTime) × (t ≤ mostTime) }
+    requires { (e ≤ most_time) × (p ≤ most_time) × (t ≤ most_time) }
     ensures { result ≡ both (not (eqb k j)) (both (leb 1 r) (both (leb l (t + p)) (ltb t (e + p)))) }
 {
     if k == j {
@@ -33,7 +33,7 @@ fn gather(
     job: usize,
     t: u32,
 ) -> [u32; bits::WORDS]
-    requires { Good (asked est.now lct.now dur.now dem.now cap) × (job < length est.now) × (t ≤ mostTime) }
+    requires { Good (asked est.now lct.now dur.now dem.now cap) × (job < length est.now) × (t ≤ most_time) }
     ensures { result ≡ members_of (asked est.now lct.now dur.now dem.now cap) job t }
 {
     let mut set = bits::empty();
@@ -66,9 +66,9 @@ pub fn note(
     log: &mut [u32],
     k: usize,
 )
-    requires { Good (asked est.now lct.now dur.now dem.now cap) × (job < length est.now) × (side ≤ 1) × (t ≤ mostTime) }
-    ensures { log.new ≡ rewritten log.old k (recordOf (asked est.now lct.now dur.now dem.now cap) job (side_of side) t) }
+    requires { Good (asked est.now lct.now dur.now dem.now cap) × (job < length est.now) × (side ≤ 1) × (t ≤ most_time) }
+    ensures { log.new ≡ rewritten log.old k (record_of (asked est.now lct.now dur.now dem.now cap) job (side_of side) t) }
 {
     let set = gather(est, lct, dur, dem, cap, job, t);
-    logbook::write(log, k, job as u32, side, t, set);
+    logs::write(log, k, job as u32, side, t, set);
 }

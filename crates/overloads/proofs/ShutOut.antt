@@ -12,7 +12,7 @@ use Rattle.lists.specs.Sets.{total_of}
 use Rattle.narrowing.specs.Windows.{Win, win}
 use Rattle.overloads.specs.Overload.{Overloaded, NoneOverloaded, FirstPair, nothing, overload}
 use Rattle.overloads.specs.Promise.{Good}
-use Rattle.overloads.proofs.Pairs.{nothing-sets, none-pairs}
+use Rattle.overloads.proofs.Pairs.{nothing_sets, none_pairs}
 
 abbrev case10 : Win
 case10 = win (0 ∷ 0 ∷ 0 ∷ []) (4 ∷ 4 ∷ 4 ∷ [])
@@ -38,16 +38,16 @@ all_three =
     late (suc (suc zero)) b = omega arith
     late (suc (suc (suc k))) b = absurd (omega arith)
 
-pub none-always : (a : Said) → ((a ≡ said Word.none []) ↔ (Good case10 twos × NoneOverloaded (jobs case10) twos case10)) → a ≡ said Word.none [] → ⊥
-none-always a h e = (h.0 e).1 (λ k. true) all_three
+pub none_always : (a : Said) → ((a ≡ said Word.none []) ↔ (Good case10 twos × NoneOverloaded (jobs case10) twos case10)) → a ≡ said Word.none [] → ⊥
+none_always a h e = (h.0 e).1 (λ k. true) all_three
 
 abbrev case12 : Win
 case12 = win (8 ∷ 0 ∷ []) (10 ∷ 3 ∷ [])
 
-nothing-there : overload 2 (1 ∷ 1 ∷ []) case12 ≡ nothing
+nothing_there : overload 2 (1 ∷ 1 ∷ []) case12 ≡ nothing
 unfolding overload
-nothing-there = refl
+nothing_there = refl
 
-pub overload-there : (a : Said) → ((x y : ℕ) → (a ≡ said Word.overload (x ∷ y ∷ [])) ↔ (Good case12 (1 ∷ 1 ∷ []) × FirstPair (jobs case12) (1 ∷ 1 ∷ []) case12 x y))
+pub overload_there : (a : Said) → ((x y : ℕ) → (a ≡ said Word.overload (x ∷ y ∷ [])) ↔ (Good case12 (1 ∷ 1 ∷ []) × FirstPair (jobs case12) (1 ∷ 1 ∷ []) case12 x y))
     → (x y : ℕ) → a ≡ said Word.overload (x ∷ y ∷ []) → ⊥
-overload-there a h x y e = none-pairs 2 (1 ∷ 1 ∷ []) case12 (nothing-sets 2 (1 ∷ 1 ∷ []) case12 nothing-there) x y ((h x y).0 e).1.pair
+overload_there a h x y e = none_pairs 2 (1 ∷ 1 ∷ []) case12 (nothing_sets 2 (1 ∷ 1 ∷ []) case12 nothing_there) x y ((h x y).0 e).1.pair

@@ -62,9 +62,9 @@ pub data Finding : Type 0 where
   pair : ℕ → ℕ → Finding
 
 -- a and b where the test passes
-abbrev pub findingIf : Bool → ℕ → ℕ → Finding
-findingIf true a b = Finding.pair a b
-findingIf false a b = nothing
+abbrev pub finding_if : Bool → ℕ → ℕ → Finding
+finding_if true a b = Finding.pair a b
+finding_if false a b = nothing
 
 -- b the least of the stops' latest ends, and a the greatest of the starts' earliest starts for it
 unfoldable pub overload : ℕ → List ℕ → Win → Finding
@@ -72,7 +72,7 @@ unfolding some? stops starts most fewest
 overload n p W =
     let b = fewest (stops n p W) (λ k. W.l ! k) (most (λ k. true) (λ k. W.l ! k) 0 n) n in
     let a = most (starts n p W b) (λ k. W.e ! k) 0 n in
-    findingIf (some? (stops n p W) n) a b
+    finding_if (some? (stops n p W) n) a b
 
 -- a finding is right: the pair is 01's, and where nothing is found there is no pair
 abbrev pub Finds : ℕ → List ℕ → Win → Finding → Type 0
@@ -80,6 +80,6 @@ Finds n p W nothing = (a b : ℕ) → OverloadedPair n p W a b → ⊥
 Finds n p W (Finding.pair a b) = FirstPair n p W a b
 
 -- a finding in the paper's words
-abbrev pub foundSaid : Finding → Said
-foundSaid nothing = said Word.none []
-foundSaid (Finding.pair a b) = said Word.overload (a ∷ b ∷ [])
+abbrev pub found_said : Finding → Said
+found_said nothing = said Word.none []
+found_said (Finding.pair a b) = said Word.overload (a ∷ b ∷ [])

@@ -7,10 +7,10 @@ use Rattle.packed.specs.Packed.{start_of, list_of, put_at}
 abbrev three : List ℕ
 three = 2 ∷ 7 ∷ 8 ∷ 0 ∷ 1 ∷ 9 ∷ []
 
-found-in-three : (list_of three 0 ≡ 7 ∷ 8 ∷ []) × (list_of three 1 ≡ []) × (list_of three 2 ≡ 9 ∷ []) × (list_of three 3 ≡ [])
+found_in_three : (list_of three 0 ≡ 7 ∷ 8 ∷ []) × (list_of three 1 ≡ []) × (list_of three 2 ≡ 9 ∷ []) × (list_of three 3 ≡ [])
 unfolding start_of
-found-in-three = (refl, refl, refl, refl)
+found_in_three = (refl, refl, refl, refl)
 
-put-in-three : (put_at three 0 (5 ∷ []) ≡ 2 ∷ 5 ∷ 8 ∷ 0 ∷ 1 ∷ 9 ∷ []) × (put_at three 2 (5 ∷ 6 ∷ []) ≡ 2 ∷ 7 ∷ 8 ∷ 0 ∷ 1 ∷ 5 ∷ [])
+put_in_three : (put_at three 0 (5 ∷ []) ≡ 2 ∷ 5 ∷ 8 ∷ 0 ∷ 1 ∷ 9 ∷ []) × (put_at three 2 (5 ∷ 6 ∷ []) ≡ 2 ∷ 7 ∷ 8 ∷ 0 ∷ 1 ∷ 5 ∷ [])
 unfolding start_of
-put-in-three = (refl, refl)
+put_in_three = (refl, refl)

@@ -2,7 +2,7 @@
 // They stand as a line of input or output has them (docs/ANSWERS.md). Nothing here knows of jobs.
 ghost use Rattle.std.specs.Prelude.{◌≡◌, min};
 ghost use Rattle.io.specs.Counts.{IsPrefixLen};
-ghost use Rattle.packed.specs.Packed.{behindAt, start_of, list_of, put_at, Copied};
+ghost use Rattle.packed.specs.Packed.{behind_at, start_of, list_of, put_at, Copied};
 
 // How many numbers of each of four lists were copied.
 #[derive(Drop)]
@@ -15,7 +15,7 @@ pub struct Four {
 
 // Where the list behind the one at a place begins.
 fn behind(words: &[u32], at: usize) -> usize
-    ensures { result ≡ behindAt words.now at }
+    ensures { result ≡ behind_at words.now at }
 {
     if words.len() <= at {
         return words.len();

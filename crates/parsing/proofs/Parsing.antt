@@ -6,26 +6,26 @@ use mathlib.Core.Bool.{true, false}
 use mathlib.Core.List.{List, [], ◌∷◌}
 use lib.ListN.{length, drop, take, length-map}
 use lib.Seq.{length-take-le}
-use Rattle.joblist.specs.Limits.{mostJobs}
+use Rattle.joblist.specs.Limits.{most_jobs}
 use Rattle.chains.specs.Paths.{Precedes, Below}
 use Rattle.texts.specs.Tokens.{Token, tokens}
 use Rattle.texts.specs.Readings.{Read, bad, good}
 use Rattle.scanner.specs.Scan.{none?}
-use Rattle.projects.specs.Projects.{Row, Project, pairsFrom, pairsOf, durations}
+use Rattle.projects.specs.Projects.{Row, Project, pairs_from, pairs_of, durations}
 use Rattle.projects.specs.Patterson.{row, opening, project, patterson}
-use Rattle.rowheads.specs.Heads.{headIn, row_in}
+use Rattle.rowheads.specs.Heads.{head_in, row_in}
 use Rattle.walking.specs.Walk.{Seen, seeing, WalkedSays}
-use Rattle.walking.specs.Comes.{onlyPairs}
+use Rattle.walking.specs.Comes.{only_pairs}
 use Rattle.parsing.specs.Parsed.{OpenSays, Parsing, ParsedSays}
 use Rattle.rowheads.specs.declared.Table.TheVariants.{Whole}
 use Rattle.parsing.specs.declared.Shape.{Shape}
 use Rattle.parsing.specs.declared.Parsed.{Parsed}
 use Rattle.parsing.specs.declared.Opened.{Opened}
 use Rattle.walking.specs.declared.Walked.{Walked}
-use Rattle.rowheads.proofs.Takes.{some-code}
-use Rattle.parsing.proofs.Limits.{patterson-takes, patterson-codes}
-use Rattle.walking.proofs.Rows.{rows-good, rows-bad, pairs-any}
-use Rattle.parsing.proofs.Whole.{project-bad, project-bad₂, project-over, project-good}
+use Rattle.rowheads.proofs.Takes.{some_code}
+use Rattle.parsing.proofs.Limits.{patterson_takes, patterson_codes}
+use Rattle.walking.proofs.Rows.{rows_good, rows_bad, pairs_any}
+use Rattle.parsing.proofs.Whole.{project_bad, project_bad₂, project_over, project_good}
 
 -- whether tokens are left
 some_left : (ts : List Token) → none? ts ≡ false → (t : Token) × (rest : List Token) × (ts ≡ t ∷ rest)
@@ -42,55 +42,55 @@ Refused s c = (patterson s ≡ bad c) × (c ≡ 0 → ⊥)
 
 module _ (s : List ℕ) (res : ℕ) where
   refused : (c : ℕ) → patterson s ≡ bad c → Refused s c
-  refused c e = (e, some-code (patterson-codes s c e))
+  refused c e = (e, some_code (patterson_codes s c e))
 
-  pub parsed-closed : (c : ℕ) → opening (tokens s) ≡ bad c → Refused s c
-  unfolding patterson row row_in headIn
-  parsed-closed c e = refused c (project-bad (tokens s) c e)
+  pub parsed_closed : (c : ℕ) → opening (tokens s) ≡ bad c → Refused s c
+  unfolding patterson row row_in head_in
+  parsed_closed c e = refused c (project_bad (tokens s) c e)
 
   module _ (n k cap at : ℕ) (q : OpenSays (opening (tokens s)) s res (Opened.Read n k cap at)) where
-    pub parsed-rows : (c : ℕ) → seeing n (Whole k) res 0 0 (tokens (drop at s)) ≡ bad c → Refused s c
-    unfolding patterson row row_in headIn
-    parsed-rows c e = refused c (project-bad₂ (tokens s) (tokens (drop at s)) q.0 q.1 c (rw (q.2, q.3) (rows-bad n (Whole k) res (tokens (drop at s)) c e)))
+    pub parsed_rows : (c : ℕ) → seeing n (Whole k) res 0 0 (tokens (drop at s)) ≡ bad c → Refused s c
+    unfolding patterson row row_in head_in
+    parsed_rows c e = refused c (project_bad₂ (tokens s) (tokens (drop at s)) q.0 q.1 c (rw (q.2, q.3) (rows_bad n (Whole k) res (tokens (drop at s)) c e)))
 
     module _ (durs dems : List ℕ) (pairs to : ℕ) (f : WalkedSays (seeing n (Whole k) res 0 0 (tokens (drop at s))) s n durs dems (Walked.Read pairs to)) where
-      pub parsed-over : none? (tokens (drop to s)) ≡ false → Refused s 30
-      unfolding patterson row row_in headIn
-      parsed-over h =
-          let t = rows-good n (Whole k) res (tokens (drop at s)) (tokens (drop to s)) f.0 f.1 in
+      pub parsed_over : none? (tokens (drop to s)) ≡ false → Refused s 30
+      unfolding patterson row row_in head_in
+      parsed_over h =
+          let t = rows_good n (Whole k) res (tokens (drop at s)) (tokens (drop to s)) f.0 f.1 in
           let l = some_left (tokens (drop to s)) h in
-          refused 30 (project-over (tokens s) (tokens (drop at s)) q.0 q.1 t.0 (tokens (drop to s)) (rw (q.2, q.3) t.1) l.0 l.1 l.2)
+          refused 30 (project_over (tokens s) (tokens (drop at s)) q.0 q.1 t.0 (tokens (drop to s)) (rw (q.2, q.3) t.1) l.0 l.1 l.2)
 
-      pub parsed-whole : length durs ≡ mostJobs → none? (tokens (drop to s)) ≡ true
+      pub parsed_whole : length durs ≡ most_jobs → none? (tokens (drop to s)) ≡ true
           → ParsedSays (patterson s) s res durs dems (Parsed.Read (record { n = n; k = k; cap = cap; pairs = pairs; table = Whole k; at = at }))
-      unfolding patterson row row_in headIn
-      parsed-whole l h =
+      unfolding patterson row row_in head_in
+      parsed_whole l h =
           let e = none_left (tokens (drop to s)) h in
-          let t = rows-good n (Whole k) res (tokens (drop at s)) (tokens (drop to s)) f.0 f.1 in
+          let t = rows_good n (Whole k) res (tokens (drop at s)) (tokens (drop to s)) f.0 f.1 in
           let ds : durations t.0 ≡ take n durs = sym (ap (λ (y : Seen). y.durs) t.2) ∙ f.2 in
-          let said = project-good (tokens s) (tokens (drop at s)) q.0 q.1 t.0 (tokens (drop to s)) (rw (q.2, q.3) t.1) e in (
+          let said = project_good (tokens s) (tokens (drop at s)) q.0 q.1 t.0 (tokens (drop to s)) (rw (q.2, q.3) t.1) e in (
             record { capacities = q.0.capacities; rows = t.0 },
             said,
             record {
               jobs = sym (length-map t.0 (λ (r : Row). r.duration)) ∙ ap length ds ∙ length-take-le n durs (omega (arith, q.5));
               resources = q.6;
               cap = q.4;
-              durs-are = ds;
-              dems-are = sym (ap (λ (y : Seen). y.dems) t.2) ∙ f.3;
+              durs_are = ds;
+              dems_are = sym (ap (λ (y : Seen). y.dems) t.2) ∙ f.3;
               count = ap (λ (y : Seen). length y.pairs) (sym t.2) ∙ f.4;
               end = [];
               come =
-                  pairs-any n (Whole k) 0 res 0 0 (tokens (drop at s)) ∙ ap onlyPairs f.1 ∙ ap (λ (y : Seen). good y.pairs (tokens (drop to s))) t.2
-                  ∙ ap (λ (u : List Token). good (pairsFrom 0 t.0) u) e;
-              limits = (patterson-takes s [] _ said).within;
+                  pairs_any n (Whole k) 0 res 0 0 (tokens (drop at s)) ∙ ap only_pairs f.1 ∙ ap (λ (y : Seen). good y.pairs (tokens (drop to s))) t.2
+                  ∙ ap (λ (u : List Token). good (pairs_from 0 t.0) u) e;
+              limits = (patterson_takes s [] _ said).within;
             },
           )
 
 -- ---- what is known of a text read whole
 
 module _ (s : List ℕ) (res : ℕ) (durs dems : List ℕ) (z : Shape) (x : Project) (p : Parsing s res durs dems z x) where
-  pub parsing-range : Below z.n (Precedes (pairsOf x))
-  parsing-range = rw (← p.jobs) p.limits.range
+  pub parsing_range : Below z.n (Precedes (pairs_of x))
+  parsing_range = rw (← p.jobs) p.limits.range
 
-  pub parsing-few : z.n ≤ mostJobs
-  parsing-few = omega (arith, p.jobs, p.limits.few)
+  pub parsing_few : z.n ≤ most_jobs
+  parsing_few = omega (arith, p.jobs, p.limits.few)

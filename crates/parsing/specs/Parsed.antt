@@ -1,10 +1,10 @@
 -- A text read whole, whatever its layout: what it says, with durations and demands in arrays, and where its pairs can be read again.
 use Rattle.std.specs.Prelude.{ℕ, ◌≤◌, ◌≡◌, List, [], length, drop, take}
 use Rattle.lists.specs.Lists.{◌!◌}
-use Rattle.joblist.specs.Limits.{mostJobs}
+use Rattle.joblist.specs.Limits.{most_jobs}
 use Rattle.texts.specs.Tokens.{Token, tokens}
 use Rattle.texts.specs.Readings.{Read, bad, good}
-use Rattle.projects.specs.Projects.{Project, pairsOf, durations, demandsOn, WithinLimits}
+use Rattle.projects.specs.Projects.{Project, pairs_of, durations, demands_on, WithinLimits}
 use Rattle.projects.specs.Patterson.{Opening}
 use Rattle.walking.specs.Comes.{comes, rows_at}
 use Rattle.parsing.specs.declared.Opened.{Opened}
@@ -14,7 +14,7 @@ use Rattle.parsing.specs.declared.Parsed.{Parsed}
 -- the counts, and one of the capacities
 abbrev pub OpenSays : Read Opening → List ℕ → ℕ → Opened → Type 0
 OpenSays r s res (Opened.Read n k cap at) =
-    (o : Opening) × (r ≡ good o (tokens (drop at s))) × (o.jobs ≡ n) × (o.resources ≡ k) × (o.capacities ! res ≡ cap) × (n ≤ mostJobs) × (length o.capacities ≡ k)
+    (o : Opening) × (r ≡ good o (tokens (drop at s))) × (o.jobs ≡ n) × (o.resources ≡ k) × (o.capacities ! res ≡ cap) × (n ≤ most_jobs) × (length o.capacities ≡ k)
 OpenSays r s res (Opened.Refused c) = r ≡ bad c
 
 -- a text that says x, and where things stand
@@ -22,11 +22,11 @@ pub record Parsing (s : List ℕ) (res : ℕ) (durs dems : List ℕ) (z : Shape)
   pub jobs : length x.rows ≡ z.n
   pub resources : length x.capacities ≡ z.k
   pub cap : x.capacities ! res ≡ z.cap
-  pub durs-are : durations x.rows ≡ take z.n durs
-  pub dems-are : demandsOn res x.rows ≡ take z.n dems
-  pub count : length (pairsOf x) ≡ z.pairs
+  pub durs_are : durations x.rows ≡ take z.n durs
+  pub dems_are : demands_on res x.rows ≡ take z.n dems
+  pub count : length (pairs_of x) ≡ z.pairs
   pub end : List Token
-  pub come : comes z.n z.table s (rows_at z.at) ≡ good (pairsOf x) end
+  pub come : comes z.n z.table s (rows_at z.at) ≡ good (pairs_of x) end
   pub limits : WithinLimits x
 
 -- by the answer: the text says a project, or meets a refusal, which has a number

@@ -1,7 +1,7 @@
 // A text of the Patterson layout read whole (document 01, 'Library layouts'; refusals of document 02, Item 1): its counts and capacities, then its rows.
 ghost use Rattle.std.specs.Prelude.{◌≡◌, ℕ, ◌≤◌, length};
 ghost use Rattle.lists.specs.Lists.{◌!◌};
-ghost use Rattle.joblist.specs.Limits.{mostTime, mostJobs};
+ghost use Rattle.joblist.specs.Limits.{most_time, most_jobs};
 ghost use Rattle.texts.specs.Tokens.{tokens};
 ghost use Rattle.projects.specs.Patterson.{opening, patterson};
 ghost use Rattle.parsing.specs.Parsed.{OpenSays, ParsedSays};
@@ -58,8 +58,8 @@ pub fn parse(
     dur: &mut [u32; screen::MOST_JOBS],
     dem: &mut [u32; screen::MOST_JOBS],
 ) -> Parsed
-    requires { (length dur.old ≡ mostJobs) × (length dem.old ≡ mostJobs) × ((j : ℕ) → dur.old ! j ≤ mostTime) }
-    ensures { ParsedSays (patterson text.now) text.now res dur.new dem.new result × (length dur.new ≡ mostJobs) × (length dem.new ≡ mostJobs) × ((j : ℕ) → dur.new ! j ≤ mostTime) }
+    requires { (length dur.old ≡ most_jobs) × (length dem.old ≡ most_jobs) × ((j : ℕ) → dur.old ! j ≤ most_time) }
+    ensures { ParsedSays (patterson text.now) text.now res dur.new dem.new result × (length dur.new ≡ most_jobs) × (length dem.new ≡ most_jobs) × ((j : ℕ) → dur.new ! j ≤ most_time) }
 {
     match open_text(text, res) {
         Opened::Refused(c) => Parsed::Refused(c),

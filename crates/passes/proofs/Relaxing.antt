@@ -9,14 +9,14 @@ use mathlib.Core.Logic.{inl, inr}
 use lib.ListN.{length, set, length-set}
 use lib.Seq.{get_or-set_same}
 use Rattle.lists.specs.Lists.{◌!◌}
-use Rattle.lists.proofs.Lists.{set-any}
-use Rattle.lists.proofs.Differences.{total-less}
+use Rattle.lists.proofs.Lists.{set_any}
+use Rattle.lists.proofs.Differences.{total_less}
 use Rattle.lists.proofs.Sets.{clash}
-use Rattle.joblist.specs.Limits.{mostJobs}
+use Rattle.joblist.specs.Limits.{most_jobs}
 use Rattle.chains.specs.Paths.{Pair, pair, Precedes, flipped, weight}
 use Rattle.chains.specs.Passes.{Chained, raise, pass}
-use Rattle.chains.proofs.Chains.{chain-on}
-use Rattle.chains.proofs.Passes.{raise-kept, raise-rose, raise-chained}
+use Rattle.chains.proofs.Chains.{chain_on}
+use Rattle.chains.proofs.Passes.{raise_kept, raise_rose, raise_chained}
 use Rattle.texts.specs.Tokens.{Token}
 use Rattle.texts.specs.Readings.{Read, good}
 use Rattle.passes.specs.declared.Rise.TheVariants.{Kept, Rose, High}
@@ -24,20 +24,20 @@ use Rattle.passes.specs.declared.Round.TheVariants.{Same, Changed, Over}
 use Rattle.passes.specs.Rounds.{RiseSays, sum, RoundSays}
 
 -- a value raised raises the sum
-sum-set : (v : List ℕ) (j x : ℕ) → length v ≡ mostJobs → j < mostJobs → v ! j < x → sum v < sum (set v j x)
-sum-set v j x l b h =
-    total-less (λ i. v ! i) (λ i. set v j x ! i) mostJobs j
-    (λ i c. set-any (λ (y : ℕ). v ! i ≤ y) v j x i (λ e. rw e (omega arith)) (omega arith)) b (rw (get_or-set_same v j x 0 (omega arith)) h)
+sum_set : (v : List ℕ) (j x : ℕ) → length v ≡ most_jobs → j < most_jobs → v ! j < x → sum v < sum (set v j x)
+sum_set v j x l b h =
+    total_less (λ i. v ! i) (λ i. set v j x ! i) most_jobs j
+    (λ i c. set_any (λ (y : ℕ). v ! i ≤ y) v j x i (λ e. rw e (omega arith)) (omega arith)) b (rw (get_or-set_same v j x 0 (omega arith)) h)
 
 module _ (w : ℕ → ℕ) (a b : ℕ) (rest : List Pair) where
-  pass-flipped : (back : Bool) (v : List ℕ) → pass w (flipped back (pair a b ∷ rest)) v ≡ pass w (flipped back rest) (raise w (cond back b a) (cond back a b) v)
+  pass_flipped : (back : Bool) (v : List ℕ) → pass w (flipped back (pair a b ∷ rest)) v ≡ pass w (flipped back rest) (raise w (cond back b a) (cond back a b) v)
   unfolding pass
-  pass-flipped true v = refl
-  pass-flipped false v = refl
+  pass_flipped true v = refl
+  pass_flipped false v = refl
 
-  first-flipped : (back : Bool) → Precedes (flipped back (pair a b ∷ rest)) (cond back b a) (cond back a b)
-  first-flipped true = inl (refl, refl)
-  first-flipped false = inl (refl, refl)
+  first_flipped : (back : Bool) → Precedes (flipped back (pair a b ∷ rest)) (cond back b a) (cond back a b)
+  first_flipped true = inl (refl, refl)
+  first_flipped false = inl (refl, refl)
 
 cond_below : (t : Bool) (a b m : ℕ) → a < m → b < m → cond t a b < m
 cond_below true a b m h k = h
@@ -60,7 +60,7 @@ pub record Following (p : List ℕ) (back : Bool) (v₀ v : List ℕ) (now : Rea
 
 -- r is the reading of all pairs, `now` that of the pairs still to come
 pub record Relaxing (r now : Read (List Pair)) (p : List ℕ) (back : Bool) (top : ℕ) (v₀ v : List ℕ) (changed : Bool) : Type 0 where
-  pub long : length v ≡ mostJobs
+  pub long : length v ≡ most_jobs
   pub low : (j : ℕ) → v ! j ≤ top
   pub still : changed ≡ false → v ≡ v₀
   pub more : changed ≡ true → sum v₀ < sum v
@@ -68,8 +68,8 @@ pub record Relaxing (r now : Read (List Pair)) (p : List ℕ) (back : Bool) (top
   pub follow : (ps : List Pair) (end : List Token) → r ≡ good ps end → Following p back v₀ v now ps end
 
 module _ (r : Read (List Pair)) (p : List ℕ) (back : Bool) (top : ℕ) where
-  pub relaxing-start : (v : List ℕ) → length v ≡ mostJobs → ((j : ℕ) → v ! j ≤ top) → Relaxing r r p back top v v false
-  relaxing-start v l low = record {
+  pub relaxing_start : (v : List ℕ) → length v ≡ most_jobs → ((j : ℕ) → v ! j ≤ top) → Relaxing r r p back top v v false
+  relaxing_start v l low = record {
     long = l;
     low = low;
     still = λ e. refl;
@@ -91,7 +91,7 @@ module _ (r : Read (List Pair)) (p : List ℕ) (back : Bool) (top : ℕ) where
       module _ (i j : ℕ) (ei : i ≡ cond back b a) (ej : j ≡ cond back a b) where
         -- the pair as the round takes it, from i to j
         step_in : (ps : List Pair) (end : List Token) → r ≡ good ps end → Precedes (flipped back ps) i j
-        step_in ps end e = let d = taken ps end e in rw (ei, ej) (d.3 _ _ (first-flipped (weight p) a b d.0 back))
+        step_in ps end e = let d = taken ps end e in rw (ei, ej) (d.3 _ _ (first_flipped (weight p) a b d.0 back))
 
         followed : (v' : List ℕ) → v' ≡ raise (weight p) i j v → (ps : List Pair) (end : List Token) → r ≡ good ps end → Following p back v₀ v' later ps end
         followed v' ev ps end e =
@@ -100,43 +100,43 @@ module _ (r : Read (List Pair)) (p : List ℕ) (back : Bool) (top : ℕ) where
             record {
               rest = d.0;
               ahead = d.2;
-              same = f.same ∙ ap (λ (l : List Pair). pass (weight p) (flipped back l) v) d.1 ∙ pass-flipped (weight p) a b d.0 back v ∙ rw (ev, ei, ej);
+              same = f.same ∙ ap (λ (l : List Pair). pass (weight p) (flipped back l) v) d.1 ∙ pass_flipped (weight p) a b d.0 back v ∙ rw (ev, ei, ej);
               part = λ x y q. d.3 x y (inr q);
-              chains = λ q. rw ev (raise-chained (weight p) i j v (Precedes (flipped back ps)) (step_in ps end e) (f.chains q));
+              chains = λ q. rw ev (raise_chained (weight p) i j v (Precedes (flipped back ps)) (step_in ps end e) (f.chains q));
             }
 
-        pub relaxing-kept : (v' : List ℕ) → RiseSays v v' i j (p ! i) top Kept → Relaxing r later p back top v₀ v' changed
-        relaxing-kept v' h = record {
+        pub relaxing_kept : (v' : List ℕ) → RiseSays v v' i j (p ! i) top Kept → Relaxing r later p back top v₀ v' changed
+        relaxing_kept v' h = record {
           long = ap length h.0 ∙ g.long;
           low = rw h.0 g.low;
           still = λ e. h.0 ∙ g.still e;
           more = rw h.0 g.more;
           least = rw h.0 g.least;
-          follow = followed v' (h.0 ∙ sym (raise-kept (weight p) i j v h.1));
+          follow = followed v' (h.0 ∙ sym (raise_kept (weight p) i j v h.1));
         }
 
-        pub relaxing-rose : (v' : List ℕ) → j < mostJobs → RiseSays v v' i j (p ! i) top Rose → Relaxing r later p back top v₀ v' true
-        relaxing-rose v' below h =
-            let more : sum v < sum v' = rw h.0 (sum-set v j (v ! i + p ! i) g.long below h.1) in
+        pub relaxing_rose : (v' : List ℕ) → j < most_jobs → RiseSays v v' i j (p ! i) top Rose → Relaxing r later p back top v₀ v' true
+        relaxing_rose v' below h =
+            let more : sum v < sum v' = rw h.0 (sum_set v j (v ! i + p ! i) g.long below h.1) in
             record {
               long = rw h.0 (length-set v j (v ! i + p ! i) ∙ g.long);
-              low = λ x. rw h.0 (set-any (λ (z : ℕ). z ≤ top) v j (v ! i + p ! i) x (λ e. h.2) (g.low x));
+              low = λ x. rw h.0 (set_any (λ (z : ℕ). z ≤ top) v j (v ! i + p ! i) x (λ e. h.2) (g.low x));
               still = λ e. clash true refl e;
               more = λ e. omega (arith, g.least, more);
               least = omega (arith, g.least, more);
-              follow = followed v' (h.0 ∙ sym (raise-rose (weight p) i j v h.1));
+              follow = followed v' (h.0 ∙ sym (raise_rose (weight p) i j v h.1));
             }
 
-        pub relaxing-over : (v' : List ℕ) → RiseSays v v' i j (p ! i) top High → RoundSays r p back top v₀ v' Over
-        relaxing-over v' h ps end e q = record { at = j; length = v ! i + p ! i; chain = chain-on (step_in ps end e) ((g.follow ps end e).chains q i); over = h.1 }
+        pub relaxing_over : (v' : List ℕ) → RiseSays v v' i j (p ! i) top High → RoundSays r p back top v₀ v' Over
+        relaxing_over v' h ps end e q = record { at = j; length = v ! i + p ! i; chain = chain_on (step_in ps end e) ((g.follow ps end e).chains q i); over = h.1 }
 
     module _ (t : (ps : List Pair) (end : List Token) → now ≡ good ps end → ps ≡ []) where
       ended : (ps : List Pair) (end : List Token) → r ≡ good ps end → pass (weight p) (flipped back ps) v₀ ≡ v
       unfolding pass
       ended ps end e = let f = g.follow ps end e in f.same ∙ ap (λ (l : List Pair). pass (weight p) (flipped back l) v) (t f.rest end f.ahead)
 
-      pub relaxing-same : changed ≡ false → RoundSays r p back top v₀ v Same
-      relaxing-same c = (g.still c, λ ps end e. ended ps end e ∙ g.still c)
+      pub relaxing_same : changed ≡ false → RoundSays r p back top v₀ v Same
+      relaxing_same c = (g.still c, λ ps end e. ended ps end e ∙ g.still c)
 
-      pub relaxing-changed : changed ≡ true → RoundSays r p back top v₀ v Changed
-      relaxing-changed c = (g.more c, g.low, λ ps end e. sym (ended ps end e))
+      pub relaxing_changed : changed ≡ true → RoundSays r p back top v₀ v Changed
+      relaxing_changed c = (g.more c, g.low, λ ps end e. sym (ended ps end e))

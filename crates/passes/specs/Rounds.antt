@@ -3,7 +3,7 @@
 use Rattle.std.specs.Prelude.{ℕ, ◌+◌, ◌≤◌, ◌<◌, ◌≡◌, Bool, List, set}
 use Rattle.lists.specs.Lists.{◌!◌}
 use Rattle.lists.specs.Sums as sums
-use Rattle.joblist.specs.Limits.{mostJobs}
+use Rattle.joblist.specs.Limits.{most_jobs}
 use Rattle.chains.specs.Paths.{Pair, Precedes, flipped, Below, weight, Chain}
 use Rattle.chains.specs.Passes.{Chained, NoneRaises, pass}
 use Rattle.texts.specs.Tokens.{Token}
@@ -21,7 +21,7 @@ RiseSays v u a b x top High = (u ≡ v) × (top < v ! a + x)
 
 -- the sum of an array's numbers: it rises with every round that changes something
 abbrev pub sum : List ℕ → ℕ
-sum v = sums.total (λ i. v ! i) mostJobs
+sum v = sums.total (λ i. v ! i) most_jobs
 
 -- some chain is longer than top
 pub record ChainOver (ps : List Pair) (p : List ℕ) (top : ℕ) : Type 0 where

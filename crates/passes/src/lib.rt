@@ -2,7 +2,7 @@
 // is said and proved once here, wherever the pairs are read from.
 ghost use Rattle.std.specs.Prelude.{◌≡◌, ◌≤◌, ◌<◌, length};
 ghost use Rattle.lists.specs.Lists.{◌!◌};
-ghost use Rattle.joblist.specs.Limits.{mostTime, mostJobs};
+ghost use Rattle.joblist.specs.Limits.{most_time, most_jobs};
 ghost use Rattle.passes.specs.Rounds.{RiseSays};
 
 // A value stays; it is raised; it would rise above the limit.
@@ -23,8 +23,8 @@ pub enum Round {
 
 // Raises the value at b to the one at a plus x, up to `top`.
 pub fn lift(v: &mut [u32; screen::MOST_JOBS], a: u32, b: u32, x: u32, top: u32) -> Rise
-    requires { (a < mostJobs) × (b < mostJobs) × (length v.old ≡ mostJobs) × (v.old ! a ≤ mostTime) × (x ≤ mostTime) }
-    ensures { RiseSays v.old v.new a b x top result × (length v.new ≡ mostJobs) }
+    requires { (a < most_jobs) × (b < most_jobs) × (length v.old ≡ most_jobs) × (v.old ! a ≤ most_time) × (x ≤ most_time) }
+    ensures { RiseSays v.old v.new a b x top result × (length v.new ≡ most_jobs) }
 {
     let i = a as usize;
     let j = b as usize;

@@ -9,7 +9,7 @@ use Rattle.lists.specs.Lists.{◌!◌}
 use Rattle.lists.specs.Extremes.{LastWith, FirstWith}
 use Rattle.profile.specs.declared.kept.Outline.{Outline}
 use Rattle.peaks.specs.Peaks.{LastOver, FirstOver}
-use Rattle.profile.specs.Steps.{behindAll, Points, Levels, Piece}
+use Rattle.profile.specs.Steps.{behind_all, Points, Levels, Piece}
 
 module _ (ts ld : List ℕ) (m limit a b : ℕ) where
   -- every function kept is clear of the limit from x up to y
@@ -17,11 +17,11 @@ module _ (ts ld : List ℕ) (m limit a b : ℕ) where
   Clear x y = (f : ℕ → ℕ) → Levels ts ld m f → (t : ℕ) → x ≤ t → t < y → f t ≤ limit
 
   -- one piece more
-  clear-piece : (i : ℕ) → i < m → ld ! i ≤ limit → Clear (ts ! i) (ts ! (i + 1))
-  clear-piece i h g f L t p q = omega (arith, L i t h p q)
+  clear_piece : (i : ℕ) → i < m → ld ! i ≤ limit → Clear (ts ! i) (ts ! (i + 1))
+  clear_piece i h g f L t p q = omega (arith, L i t h p q)
 
-  clear-join : (x y z : ℕ) → Clear x y → Clear y z → Clear x z
-  clear-join x y z A B f L t p q = elim (dec_lt t y) [ yes d ↦ A f L t p d | no d ↦ B f L t (omega arith) q ]
+  clear_join : (x y z : ℕ) → Clear x y → Clear y z → Clear x z
+  clear_join x y z A B f L t p q = elim (dec_lt t y) [ yes d ↦ A f L t p d | no d ↦ B f L t (omega arith) q ]
 
   -- what a search finds of every function kept
   abbrev LastAt : ℕ → Type 0
@@ -34,21 +34,21 @@ module _ (ts ld : List ℕ) (m limit a b : ℕ) where
   pub record At (i : ℕ) : Type 0 where
     pub points : Points ts ld m
     pub apart : a < b
-    pub near : b < behindAll
+    pub near : b < behind_all
     pub listed : i < m
     pub before : ts ! i < b
     pub ahead : a < ts ! (i + 1)
 
-  pub in-lists : (i : ℕ) → At i → (i + 1 < length ts) × (i < length ld)
-  in-lists i A = omega (arith, A.listed, A.points.grid.inside, A.points.beside)
+  pub in_lists : (i : ℕ) → At i → (i + 1 < length ts) × (i < length ld)
+  in_lists i A = omega (arith, A.listed, A.points.grid.inside, A.points.beside)
 
   -- ---- down from b: the pieces above i are passed
   pub record Down (i : ℕ) : Type 0 where
     pub at : At i
     pub clear : Clear (ts ! (i + 1)) b
 
-  pub down-start : Points ts ld m → a < b → b < behindAll → (i : ℕ) → Piece ts m (b - 1) i → Down i
-  down-start P h g i p =
+  pub down_start : Points ts ld m → a < b → b < behind_all → (i : ℕ) → Piece ts m (b - 1) i → Down i
+  down_start P h g i p =
       record {
         at = record { points = P; apart = h; near = g; listed = p.listed; before = omega (arith, p.from); ahead = omega (arith, p.to) };
         clear = λ f L t x y. absurd (omega (arith, p.to));
@@ -56,10 +56,10 @@ module _ (ts ld : List ℕ) (m limit a b : ℕ) where
 
   module _ (i : ℕ) (D : Down i) where
     rest : ld ! i ≤ limit → Clear (ts ! i) b
-    rest q = clear-join (ts ! i) (ts ! (i + 1)) b (clear-piece i D.at.listed q) D.clear
+    rest q = clear_join (ts ! i) (ts ! (i + 1)) b (clear_piece i D.at.listed q) D.clear
 
-    pub down-inner : a < ts ! i → 1 ≤ i
-    down-inner q = go i q
+    pub down_inner : a < ts ! i → 1 ≤ i
+    down_inner q = go i q
       where
         go : (k : ℕ) → a < ts ! k → 1 ≤ k
         go zero z = absurd (omega (arith, D.at.points.grid.start))
@@ -67,7 +67,7 @@ module _ (ts ld : List ℕ) (m limit a b : ℕ) where
 
     pub down_step : ld ! i ≤ limit → a < ts ! i → Down (i - 1)
     down_step q r =
-        let z = down-inner r in
+        let z = down_inner r in
         let e : i - 1 + 1 ≡ i = omega arith in
         let up : ts ! (i - 1) < ts ! i = rw e at (D.at.points.grid.rises (i - 1) (omega (arith, D.at.listed))) in
         record {
@@ -82,17 +82,17 @@ module _ (ts ld : List ℕ) (m limit a b : ℕ) where
           clear = rw e (rest q);
         }
 
-    pub down-none : ld ! i ≤ limit → ts ! i ≤ a → LastAt a
-    down-none q r f L =
+    pub down_none : ld ! i ≤ limit → ts ! i ≤ a → LastAt a
+    down_none q r f L =
         record {
           from = omega arith;
           to = omega (arith, D.at.apart);
           has = λ t e k. absurd (omega arith);
-          none-behind = λ t x y o. omega (arith, rest q f L t (omega arith) y);
+          none_behind = λ t x y o. omega (arith, rest q f L t (omega arith) y);
         }
 
-    pub down-found : limit < ld ! i → (x : ℕ) → (ts ! (i + 1) < b → x ≡ ts ! (i + 1)) → (b ≤ ts ! (i + 1) → x ≡ b) → LastAt x
-    down-found q x s u f L =
+    pub down_found : limit < ld ! i → (x : ℕ) → (ts ! (i + 1) < b → x ≡ ts ! (i + 1)) → (b ≤ ts ! (i + 1) → x ≡ b) → LastAt x
+    down_found q x s u f L =
         elim (dec_lt (ts ! (i + 1)) b) [
           | yes d ↦ go (ts ! (i + 1)) (s d) (omega (arith, D.at.ahead)) (D.at.points.grid.rises i D.at.listed) (omega arith) (omega arith) (λ t k l. D.clear f L t k l)
           | no d ↦ go b (u (omega arith)) (omega (arith, D.at.apart)) D.at.before (omega arith) (omega arith) (λ t k l. absurd (omega arith))
@@ -105,7 +105,7 @@ module _ (ts ld : List ℕ) (m limit a b : ℕ) where
               from = n;
               to = l;
               has = λ t v w. omega (arith, L i t D.at.listed (omega arith) (omega arith));
-              none-behind = λ t v w z. omega (arith, c t v w);
+              none_behind = λ t v w z. omega (arith, c t v w);
             }
 
   -- ---- up from a: the pieces below i are passed
@@ -113,7 +113,7 @@ module _ (ts ld : List ℕ) (m limit a b : ℕ) where
     pub at : At i
     pub clear : Clear a (ts ! i)
 
-  pub up_start : Points ts ld m → a < b → b < behindAll → (i : ℕ) → Piece ts m a i → Up i
+  pub up_start : Points ts ld m → a < b → b < behind_all → (i : ℕ) → Piece ts m a i → Up i
   up_start P h g i p =
       record {
         at = record { points = P; apart = h; near = g; listed = p.listed; before = omega (arith, p.from); ahead = p.to };
@@ -122,10 +122,10 @@ module _ (ts ld : List ℕ) (m limit a b : ℕ) where
 
   module _ (i : ℕ) (D : Up i) where
     past : ld ! i ≤ limit → Clear a (ts ! (i + 1))
-    past q = clear-join a (ts ! i) (ts ! (i + 1)) D.clear (clear-piece i D.at.listed q)
+    past q = clear_join a (ts ! i) (ts ! (i + 1)) D.clear (clear_piece i D.at.listed q)
 
-    up-inner : ts ! (i + 1) < b → i + 1 < m
-    up-inner q =
+    up_inner : ts ! (i + 1) < b → i + 1 < m
+    up_inner q =
         elim (ℕ_discrete (i + 1) m) [
           | yes e ↦ absurd (omega (arith, rw e at q, D.at.points.grid.end, D.at.near))
           | no e ↦ omega (arith, D.at.listed)
@@ -138,9 +138,9 @@ module _ (ts ld : List ℕ) (m limit a b : ℕ) where
             points = D.at.points;
             apart = D.at.apart;
             near = D.at.near;
-            listed = up-inner r;
+            listed = up_inner r;
             before = r;
-            ahead = omega (arith, D.at.ahead, D.at.points.grid.rises (i + 1) (up-inner r));
+            ahead = omega (arith, D.at.ahead, D.at.points.grid.rises (i + 1) (up_inner r));
           };
           clear = past q;
         }
@@ -154,8 +154,8 @@ module _ (ts ld : List ℕ) (m limit a b : ℕ) where
           none_before = λ t x y o. omega (arith, past q f L t x (omega arith));
         }
 
-    pub up-found : limit < ld ! i → (x : ℕ) → (ts ! i < a → x ≡ a) → (a ≤ ts ! i → x ≡ ts ! i) → FirstAt x
-    up-found q x s u f L =
+    pub up_found : limit < ld ! i → (x : ℕ) → (ts ! i < a → x ≡ a) → (a ≤ ts ! i → x ≡ ts ! i) → FirstAt x
+    up_found q x s u f L =
         elim (dec_lt (ts ! i) a) [
           | yes d ↦ go a (s d) (omega arith) (omega arith) D.at.ahead (omega (arith, D.at.apart)) (λ t k l. absurd (omega arith))
           | no d ↦ go (ts ! i) (u (omega arith)) (omega arith) (omega arith) (D.at.points.grid.rises i D.at.listed) (omega (arith, D.at.before)) (λ t k l. D.clear f L t k l)
@@ -169,18 +169,18 @@ module _ (ts ld : List ℕ) (m limit a b : ℕ) where
 
 module _ (ts ld : List ℕ) (k : Outline) (limit a b : ℕ) where
   -- nothing is over the limit
-  pub last-low : a ≤ b → k.peak ≤ limit → LastOver ts ld k limit a b a
-  last-low h p f K =
-      record { from = omega arith; to = h; has = λ t e d. absurd (omega arith); none-behind = λ t u v o. omega (arith, K.peak t) }
+  pub last_low : a ≤ b → k.peak ≤ limit → LastOver ts ld k limit a b a
+  last_low h p f K =
+      record { from = omega arith; to = h; has = λ t e d. absurd (omega arith); none_behind = λ t u v o. omega (arith, K.peak t) }
 
-  pub first-low : a ≤ b → k.peak ≤ limit → FirstOver ts ld k limit a b b
-  first-low h p f K =
+  pub first_low : a ≤ b → k.peak ≤ limit → FirstOver ts ld k limit a b b
+  first_low h p f K =
       record { from = h; to = omega arith; has = λ d. absurd (omega arith); none_before = λ t u v o. omega (arith, K.peak t) }
 
   -- there is nothing to look at
   pub last_empty : a ≤ b → b ≤ a → LastOver ts ld k limit a b a
   last_empty h e f K =
-      record { from = omega arith; to = h; has = λ t q d. absurd (omega arith); none-behind = λ t u v o. absurd (omega arith) }
+      record { from = omega arith; to = h; has = λ t q d. absurd (omega arith); none_behind = λ t u v o. absurd (omega arith) }
 
   pub first-empty : a ≤ b → b ≤ a → FirstOver ts ld k limit a b b
   first-empty h e f K =

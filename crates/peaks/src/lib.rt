@@ -1,7 +1,7 @@
 // The last and the first time of a stretch at which a kept function lies over a limit. They are looked for only where the peak does, and only at the points:
 // from one to the next the function is the same.
 ghost use Rattle.std.specs.Prelude.{◌<◌, ◌≤◌};
-ghost use Rattle.profile.specs.Steps.{behindAll, Points};
+ghost use Rattle.profile.specs.Steps.{behind_all, Points};
 ghost use Rattle.peaks.specs.Peaks.{LastOver, FirstOver};
 
 use minmax::{greater, lesser};
@@ -10,7 +10,7 @@ use profile::{Outline, find};
 // One more than the last t with a <= t < b over the limit, and a where there is none. Walks the pieces down from the one of b - 1, to that of
 // a at most.
 pub fn last_over(ts: &[u32], ld: &[u32], kept: Outline, a: u32, b: u32, limit: u32) -> u32
-    requires { Points ts.now ld.now kept.m × (a ≤ b) × (b < behindAll) }
+    requires { Points ts.now ld.now kept.m × (a ≤ b) × (b < behind_all) }
     ensures { LastOver ts.now ld.now kept limit a b result }
 {
     if kept.peak <= limit {
@@ -32,7 +32,7 @@ pub fn last_over(ts: &[u32], ld: &[u32], kept: Outline, a: u32, b: u32, limit: u
 
 // The first t with a <= t < b over the limit, and b where there is none. Walks the pieces up from a's, to the last one before b at most.
 pub fn first_over(ts: &[u32], ld: &[u32], kept: Outline, a: u32, b: u32, limit: u32) -> u32
-    requires { Points ts.now ld.now kept.m × (a ≤ b) × (b < behindAll) }
+    requires { Points ts.now ld.now kept.m × (a ≤ b) × (b < behind_all) }
     ensures { FirstOver ts.now ld.now kept limit a b result }
 {
     if kept.peak <= limit {

@@ -1,6 +1,6 @@
 // The places of a round (document 01, 'Order of work'): a job and its side, one after the other. Every loop that narrows walks them.
 ghost use Rattle.std.specs.Prelude.{◌≡◌, ◌<◌};
-ghost use Rattle.places.specs.Places.{onwardOf};
+ghost use Rattle.places.specs.Places.{onward_of};
 
 // A place of a round: a job, its side, and whether the round has moved a bound so far.
 #[derive(Drop)]
@@ -14,7 +14,7 @@ pub struct Place {
 // place past all jobs where the round has changed nothing.
 pub fn onward(at: Place, n: usize) -> Place
     requires { at.job < n }
-    ensures { result ≡ onwardOf at n }
+    ensures { result ≡ onward_of at n }
 {
     if at.side == 0 {
         return Place {

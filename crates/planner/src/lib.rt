@@ -39,7 +39,7 @@ pub fn narrow(
         }
         Answer::Clash(count, job) => Answer::Clash(count, job),
         Answer::Refused(number) => {
-            logbook::clear(log);
+            logs::clear(log);
             Answer::Refused(number)
         }
     }

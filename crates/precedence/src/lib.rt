@@ -4,7 +4,7 @@ mod rounds;
 
 ghost use Rattle.std.specs.Prelude.{◌≡◌, List, ℕ, ◌≤◌, length, replicate};
 ghost use Rattle.lists.specs.Lists.{◌!◌};
-ghost use Rattle.joblist.specs.Limits.{mostTime, mostJobs};
+ghost use Rattle.joblist.specs.Limits.{most_time, most_jobs};
 ghost use Rattle.chains.specs.Paths.{Pair, Precedes, Below};
 ghost use Rattle.texts.specs.Tokens.{Token};
 ghost use Rattle.texts.specs.Readings.{good};
@@ -26,7 +26,7 @@ pub enum Pull {
 
 // The next pair of the text. Each turn takes a token.
 pub fn next_pair(text: &[u8], n: u32, table: Table, start: Walk) -> Pull
-    requires { Fit n start × (n ≤ mostJobs) }
+    requires { Fit n start × (n ≤ most_jobs) }
     ensures { PullSays n table text.now start result }
 {
     let mut w = start;
@@ -61,11 +61,11 @@ pub fn longest_chains(
     heads: &mut [u32; screen::MOST_JOBS],
     tails: &mut [u32; screen::MOST_JOBS],
 ) -> u32
-    requires n_le_most_jobs { (n ≤ mostJobs) × (length dur.now ≡ mostJobs) × (heads.old ≡ replicate mostJobs 0) × (tails.old ≡ replicate mostJobs 0) × (h ≤ mostTime) }
-    requires by_index { (j : ℕ) → dur.now ! j ≤ mostTime }
+    requires n_le_most_jobs { (n ≤ most_jobs) × (length dur.now ≡ most_jobs) × (heads.old ≡ replicate most_jobs 0) × (tails.old ≡ replicate most_jobs 0) × (h ≤ most_time) }
+    requires by_index { (j : ℕ) → dur.now ! j ≤ most_time }
     ensures { ((ps : List Pair) (end : List Token) → comes n table text.now (rows_at at) ≡ good ps end → Below n (Precedes ps)
         → OrderSays ps n dur.now h heads.new tails.new result)
-        × (length heads.new ≡ mostJobs) × (length tails.new ≡ mostJobs) }
+        × (length heads.new ≡ most_jobs) × (length tails.new ≡ most_jobs) }
 {
     let ones = [1u32; screen::MOST_JOBS];
     let mut levels = [0u32; screen::MOST_JOBS];

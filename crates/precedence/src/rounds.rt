@@ -2,7 +2,7 @@
 // longest chain has jobs, and one in which nothing changes; where there is a cycle, no more than there are jobs and one.
 ghost use Rattle.std.specs.Prelude.{◌≡◌, ℕ, ◌≤◌, ◌<◌, length, replicate, cond};
 ghost use Rattle.lists.specs.Lists.{◌!◌};
-ghost use Rattle.joblist.specs.Limits.{mostTime, mostJobs};
+ghost use Rattle.joblist.specs.Limits.{most_time, most_jobs};
 ghost use Rattle.walking.specs.Comes.{comes, rows_at};
 ghost use Rattle.passes.specs.Rounds.{RoundSays};
 ghost use Rattle.precedence.specs.Chains.{SettleSays, ExceedsSays};
@@ -33,9 +33,9 @@ fn relax(
     top: u32,
     v: &mut [u32; screen::MOST_JOBS],
 ) -> Round
-    requires n_le_most_jobs { (n ≤ mostJobs) × (length p.now ≡ mostJobs) × (length v.old ≡ mostJobs) × (top ≤ mostTime) }
-    requires by_index { ((j : ℕ) → p.now ! j ≤ mostTime) × ((j : ℕ) → v.old ! j ≤ top) }
-    ensures { RoundSays (comes n table text.now (rows_at at)) p.now back top v.old v.new result × (length v.new ≡ mostJobs) }
+    requires n_le_most_jobs { (n ≤ most_jobs) × (length p.now ≡ most_jobs) × (length v.old ≡ most_jobs) × (top ≤ most_time) }
+    requires by_index { ((j : ℕ) → p.now ! j ≤ most_time) × ((j : ℕ) → v.old ! j ≤ top) }
+    ensures { RoundSays (comes n table text.now (rows_at at)) p.now back top v.old v.new result × (length v.new ≡ most_jobs) }
 {
     let mut w = Walk {
         next: 0,
@@ -83,9 +83,9 @@ pub fn settle(
     top: u32,
     v: &mut [u32; screen::MOST_JOBS],
 ) -> bool
-    requires n_le_most_jobs { (n ≤ mostJobs) × (length p.now ≡ mostJobs) × (v.old ≡ replicate mostJobs 0) × (top ≤ mostTime) }
-    requires by_index { (j : ℕ) → p.now ! j ≤ mostTime }
-    ensures { SettleSays (comes n table text.now (rows_at at)) n p.now back top v.new result × (length v.new ≡ mostJobs) }
+    requires n_le_most_jobs { (n ≤ most_jobs) × (length p.now ≡ most_jobs) × (v.old ≡ replicate most_jobs 0) × (top ≤ most_time) }
+    requires by_index { (j : ℕ) → p.now ! j ≤ most_time }
+    ensures { SettleSays (comes n table text.now (rows_at at)) n p.now back top v.new result × (length v.new ≡ most_jobs) }
 {
     loop {
         match relax(text, n, table, at, p, back, top, v) {
@@ -102,8 +102,8 @@ pub fn settle(
 
 // Whether some value plus its job's duration is above h.
 pub fn exceeds(v: &[u32; screen::MOST_JOBS], p: &[u32; screen::MOST_JOBS], n: u32, h: u32) -> bool
-    requires n_le_most_jobs { (n ≤ mostJobs) × (length v.now ≡ mostJobs) × (length p.now ≡ mostJobs) }
-    requires by_index { ((j : ℕ) → v.now ! j ≤ mostTime) × ((j : ℕ) → p.now ! j ≤ mostTime) }
+    requires n_le_most_jobs { (n ≤ most_jobs) × (length v.now ≡ most_jobs) × (length p.now ≡ most_jobs) }
+    requires by_index { ((j : ℕ) → v.now ! j ≤ most_time) × ((j : ℕ) → p.now ! j ≤ most_time) }
     ensures { ExceedsSays v.now p.now n h result }
 {
     let m = n as usize;

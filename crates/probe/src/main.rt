@@ -19,7 +19,7 @@
 mod replies;
 
 ghost use Rattle.std.specs.Prelude.{◌≡◌, ◌<◌, length};
-ghost use Rattle.requests.specs.Sizes.{lineWords, textBytes};
+ghost use Rattle.requests.specs.Sizes.{line_words, text_bytes};
 
 use intake::{Cursor, next_line};
 use replies::reply;
@@ -53,13 +53,13 @@ fn serve(source: &mut [u8], sink: &mut [u8], words: &mut [u32], text: &mut [u8])
 
 // Room for the lists of a line, and for its bytes. The `ensures` give only the lengths, which lending the arrays as slices needs.
 fn room() -> [u32; WORDS]
-    ensures { lineWords ≡ length result }
+    ensures { line_words ≡ length result }
 {
     [0; WORDS]
 }
 
 fn text_room() -> [u8; TEXT]
-    ensures { textBytes ≡ length result }
+    ensures { text_bytes ≡ length result }
 {
     [0; TEXT]
 }

@@ -41,5 +41,5 @@ pub record Lifted (ld : List ℕ) (i k r : ℕ) (ls : List ℕ) (top : ℕ) : Ty
   pub most : (q : ℕ) → i ≤ q → q < k → ls ! q ≤ top
 
 -- levels and raises are at most this, so that their sum is a number of 32 bits
-abbrev pub mostLevel : ℕ
-mostLevel = 1000000000
+abbrev pub most_level : ℕ
+most_level = 1000000000

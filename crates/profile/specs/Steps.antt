@@ -1,18 +1,18 @@
--- A step function of time, kept in two lists: points that rise from 0 on, with `behindAll` behind the last one, and beside each point the level of the
+-- A step function of time, kept in two lists: points that rise from 0 on, with `behind_all` behind the last one, and beside each point the level of the
 -- function from it up to the next.
 use Rattle.std.specs.Prelude.{ℕ, ◌+◌, ◌≤◌, ◌<◌, ◌≡◌, List, length}
 use Rattle.lists.specs.Lists.{◌!◌}
 
 -- behind every time in use
-abbrev pub behindAll : ℕ
-behindAll = 2147483647
+abbrev pub behind_all : ℕ
+behind_all = 2147483647
 
--- m points in ts: they rise from 0 on, and `behindAll` stands behind the last
+-- m points in ts: they rise from 0 on, and `behind_all` stands behind the last
 pub record Grid (ts : List ℕ) (m : ℕ) : Type 0 where
   pub some : 1 ≤ m
   pub inside : m < length ts
   pub start : ts ! 0 ≡ 0
-  pub end : ts ! m ≡ behindAll
+  pub end : ts ! m ≡ behind_all
   pub rises : (i : ℕ) → i < m → ts ! i < ts ! (i + 1)
 
 -- and as many places for levels in ld

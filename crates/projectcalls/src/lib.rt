@@ -6,7 +6,7 @@ ghost use Rattle.answers.specs.Said.{Said};
 ghost use Rattle.desk.specs.Writing.{Writes};
 ghost use Rattle.sayings.specs.Sayings.{Tells};
 ghost use Rattle.packed.specs.Packed.{list_of};
-ghost use Rattle.requests.specs.Sizes.{jobEntries, pairEntries};
+ghost use Rattle.requests.specs.Sizes.{job_entries, pair_entries};
 
 use answers::ReadAnswer;
 use requests::{JOBS, Layout, PAIRS};
@@ -22,14 +22,14 @@ pub struct Reading {
 
 // Room for a list of jobs. The `ensures` gives only the length, which lending the array as a slice needs.
 fn room() -> [u32; JOBS]
-    ensures { jobEntries ≡ length result }
+    ensures { job_entries ≡ length result }
 {
     [0; JOBS]
 }
 
 // Room for a list of pairs.
 fn long_room() -> [u32; PAIRS]
-    ensures { pairEntries ≡ length result }
+    ensures { pair_entries ≡ length result }
 {
     [0; PAIRS]
 }

@@ -2,7 +2,7 @@
 -- layouts').
 use Rattle.std.specs.Prelude.{ℕ, suc, ◌-◌, ◌≤◌, cond, List, [], ◌∷◌, ◌++◌, map, eqb, length}
 use Rattle.lists.specs.Lists.{◌!◌}
-use Rattle.joblist.specs.Limits.{mostTime, mostDemand, mostJobs}
+use Rattle.joblist.specs.Limits.{most_time, most_demand, most_jobs}
 use Rattle.chains.specs.Paths.{Pair, pair, Precedes, Below}
 use Rattle.texts.specs.Tokens.{Token}
 use Rattle.texts.specs.Readings.{Read, bad, good, and_then, one, in_turn}
@@ -43,25 +43,25 @@ tagged j [] = []
 tagged j (s ∷ ss) = pair j s ∷ tagged j ss
 
 -- the precedences of rows numbered from j on
-unfoldable pub pairsFrom : ℕ → List Row → List Pair
-pairsFrom j [] = []
-pairsFrom j (r ∷ rs) = tagged j r.successors ++ pairsFrom (suc j) rs
+unfoldable pub pairs_from : ℕ → List Row → List Pair
+pairs_from j [] = []
+pairs_from j (r ∷ rs) = tagged j r.successors ++ pairs_from (suc j) rs
 
 -- all precedences, in text order
-abbrev pub pairsOf : Project → List Pair
-pairsOf x = pairsFrom 0 x.rows
+abbrev pub pairs_of : Project → List Pair
+pairs_of x = pairs_from 0 x.rows
 
 -- the jobs' durations, and their demands on one resource
 abbrev pub durations : List Row → List ℕ
 durations rs = map (λ (r : Row). r.duration) rs
 
-abbrev pub demandsOn : ℕ → List Row → List ℕ
-demandsOn resource rs = map (λ (r : Row). r.demands ! resource) rs
+abbrev pub demands_on : ℕ → List Row → List ℕ
+demands_on resource rs = map (λ (r : Row). r.demands ! resource) rs
 
 -- a project whose numbers are within their limits, its successors among its jobs
 pub record WithinLimits (x : Project) : Type 0 where
-  pub few : length x.rows ≤ mostJobs
-  pub capacities : (k : ℕ) → x.capacities ! k ≤ mostDemand
-  pub durations : (j : ℕ) → durations x.rows ! j ≤ mostTime
-  pub demands : (resource j : ℕ) → demandsOn resource x.rows ! j ≤ mostDemand
-  pub range : Below (length x.rows) (Precedes (pairsOf x))
+  pub few : length x.rows ≤ most_jobs
+  pub capacities : (k : ℕ) → x.capacities ! k ≤ most_demand
+  pub durations : (j : ℕ) → durations x.rows ! j ≤ most_time
+  pub demands : (resource j : ℕ) → demands_on resource x.rows ! j ≤ most_demand
+  pub range : Below (length x.rows) (Precedes (pairs_of x))

@@ -1,9 +1,9 @@
 -- The rows of PSPLIB's two tables of jobs (document 01, 'Library layouts'). Precedence relations: job number, mode count, successor count, successors.
 -- Requests: job number, mode, duration, demands. Job numbers run from 1, mode counts and modes are 1; anything else there counts as not a number.
 use Rattle.std.specs.Prelude.{ℕ, ◌+◌, List}
-use Rattle.joblist.specs.Limits.{mostTime, mostDemand}
+use Rattle.joblist.specs.Limits.{most_time, most_demand}
 use Rattle.texts.specs.Tokens.{Token}
-use Rattle.texts.specs.Readings.{Read, good, and_then, one, exactly, in_turn, numbersUpTo}
+use Rattle.texts.specs.Readings.{Read, good, and_then, one, exactly, in_turn, numbers_up_to}
 use Rattle.projects.specs.Projects.{link}
 
 -- the number of job j, then a mode or a mode count
@@ -25,9 +25,9 @@ pub record Need : Type 0 where
   pub demands : List ℕ
 
 unfoldable pub request : ℕ → ℕ → List Token → Read Need
-unfolding numbered one numbersUpTo
+unfolding numbered one numbers_up_to
 request k j ts =
     and_then (numbered j ts) (λ a t₁.
-    and_then (one mostTime 31 t₁) (λ d t₂.
-    and_then (numbersUpTo mostDemand k t₂) (λ qs t₃.
+    and_then (one most_time 31 t₁) (λ d t₂.
+    and_then (numbers_up_to most_demand k t₂) (λ qs t₃.
     good (record { duration = d; demands = qs }) t₃)))

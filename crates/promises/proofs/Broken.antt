@@ -8,13 +8,13 @@ use Rattle.narrowing.specs.Windows.{Win, Side, Long}
 use Rattle.narrowing.specs.Rules.{Family, Stable}
 use Rattle.narrowing.specs.Schedules.{Fixed, Exact}
 use Rattle.narrowing.specs.Search.{Search, Searches}
-use Rattle.narrowing.proofs.Next.{stable-or}
+use Rattle.narrowing.proofs.Next.{stable_or}
 
 module _ (R : Search) (G : Family) (found : Searches R G) (fits broken : List ℕ → Type 0) (x : Exact R.n R.p G fits)
     (either : (s : List ℕ) → fits s ⊎ broken s) (apart : (s : List ℕ) → broken s → fits s → ⊥) where
-  pub broken-exactly : (s : List ℕ) (W : Win) → Fixed R.n R.p s W → ((j : ℕ) × (v : Side) × (b : ℕ) × (j < R.n) × G W j v b) ↔ broken s
+  pub broken_exactly : (s : List ℕ) (W : Win) → Fixed R.n R.p s W → ((j : ℕ) × (v : Side) × (b : ℕ) × (j < R.n) × G W j v b) ↔ broken s
   unfolding Stable Long
-  broken-exactly s W f = (λ a. there a (either s), λ o. back o (stable-or R G found W long))
+  broken_exactly s W f = (λ a. there a (either s), λ o. back o (stable_or R G found W long))
     where
       long : Long R.n R.p W
       long k b = omega (arith, f.early k b, f.late k b)

@@ -8,28 +8,28 @@ use Rattle.narrowing.specs.Windows.{Win, Side}
 use Rattle.narrowing.specs.Rules.{Family}
 use Rattle.narrowing.specs.Search.{Search, Move}
 use Rattle.narrowing.specs.Rounds.{Choice, Chosen}
-use Rattle.journal.specs.Journal.{recordWords, AreRecords, roomOf, recordAt, logged}
-use Rattle.journal.proofs.Records.{logged-record}
+use Rattle.journal.specs.Journal.{record_words, AreRecords, room_of, record_at, logged}
+use Rattle.journal.proofs.Records.{logged_record}
 
 module _ (entry : Move → List ℕ) where
-  pub entries-count : (ms : List Move) → length (map entry ms) ≡ length ms
-  entries-count [] = refl
-  entries-count (m ∷ ms) = ap suc (entries-count ms)
+  pub entries_count : (ms : List Move) → length (map entry ms) ≡ length ms
+  entries_count [] = refl
+  entries_count (m ∷ ms) = ap suc (entries_count ms)
 
-  module _ (words : (m : Move) → length (entry m) ≡ recordWords) where
-    pub entries-are : (ms : List Move) → AreRecords (map entry ms)
-    entries-are [] = tt
-    entries-are (m ∷ ms) = (words m, entries-are ms)
+  module _ (words : (m : Move) → length (entry m) ≡ record_words) where
+    pub entries_are : (ms : List Move) → AreRecords (map entry ms)
+    entries_are [] = tt
+    entries_are (m ∷ ms) = (words m, entries_are ms)
 
     module _ (R : Search) (G : Family) (fine : List ℕ → Type 0)
         (each : (W : Win) (j : ℕ) (s : Side) (m : Move) → Choice R G W j s m → fine (entry m)) where
-      entries-fine : (W : Win) (j : ℕ) (s : Side) (ms : List Move) → Chosen R G W j s ms → (i : ℕ) → i < length ms → fine (get_or (map entry ms) i [])
-      entries-fine W j s [] x i b = absurd (omega arith)
-      entries-fine W j s (m ∷ ms) x zero b = each W j s m x.0
-      entries-fine W j s (m ∷ ms) x (suc i) b = entries-fine _ m.job m.side ms x.1 i (omega arith)
+      entries_fine : (W : Win) (j : ℕ) (s : Side) (ms : List Move) → Chosen R G W j s ms → (i : ℕ) → i < length ms → fine (get_or (map entry ms) i [])
+      entries_fine W j s [] x i b = absurd (omega arith)
+      entries_fine W j s (m ∷ ms) x zero b = each W j s m x.0
+      entries_fine W j s (m ∷ ms) x (suc i) b = entries_fine _ m.job m.side ms x.1 i (omega arith)
 
-      pub logged-fine : (W : Win) (j : ℕ) (s : Side) (ms : List Move) → Chosen R G W j s ms → (log : List ℕ) → length ms ≤ roomOf log → (i : ℕ) → i < length ms
-          → fine (recordAt (logged (map entry ms) log) i)
-      logged-fine W j s ms x log fits i b =
-          let n = entries-count ms in
-          subst fine (sym (logged-record (map entry ms) log (entries-are ms) (omega arith) i (omega arith))) (entries-fine W j s ms x i b)
+      pub logged_fine : (W : Win) (j : ℕ) (s : Side) (ms : List Move) → Chosen R G W j s ms → (log : List ℕ) → length ms ≤ room_of log → (i : ℕ) → i < length ms
+          → fine (record_at (logged (map entry ms) log) i)
+      logged_fine W j s ms x log fits i b =
+          let n = entries_count ms in
+          subst fine (sym (logged_record (map entry ms) log (entries_are ms) (omega arith) i (omega arith))) (entries_fine W j s ms x i b)

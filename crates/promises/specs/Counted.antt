@@ -9,14 +9,14 @@ use Rattle.narrowing.specs.Rounds.{Chosen}
 use Rattle.narrowing.specs.Led.{Led, Clashed}
 use Rattle.answers.specs.Said.{Word, Said, said}
 use Rattle.joblist.specs.Limits.{Column}
-use Rattle.promises.specs.Ask.{Ask, jobCount, lasts, Good}
+use Rattle.promises.specs.Ask.{Ask, job_count, lasts, Good}
 use Rattle.promises.specs.Table.{narrowed}
 use Rattle.promises.specs.Promise.{Scheduled, StableIn, NoneIn, AllFixed, needs}
 use Rattle.promises.specs.Plain.{task_of, Left, unwritten, numberless, Plain}
 
 -- a call without a log, as one whose log has no word and whose room is always enough
-abbrev pub withoutLog : Win → List Column → List Column → Search → Family → (List ℕ → Type 0) → (List ℕ → Type 0) → Ask
-withoutLog W beside alone R G fits broken =
+abbrev pub without_log : Win → List Column → List Column → Search → Family → (List ℕ → Type 0) → (List ℕ → Type 0) → Ask
+without_log W beside alone R G fits broken =
     record {
       win = W;
       beside = beside;
@@ -32,9 +32,9 @@ withoutLog W beside alone R G fits broken =
     }
 
 -- what it answers and leaves: the answer table's, but for the log
-unfoldable pub leftBy : Ask → Left
+unfoldable pub left_by : Ask → Left
 unfolding narrowed slack
-leftBy A = unwritten (narrowed A)
+left_by A = unwritten (narrowed A)
 
 -- n moves that end as `End` says, n up to a limit: each is the search's own choice on the windows that those before it left, to its own bound, and no rule
 -- applied at a place passed over
@@ -49,13 +49,13 @@ pub record Made (A : Ask) (n : ℕ) (End : List Move → Type 0) (limit : ℕ) :
 pub record Tally (A : Ask) (a : Left) : Type 0 where
   -- settled: the moves lead to the windows left; there are at most as many as the sum of l - e - p
   pub settled : (n : ℕ) → a.says ≡ said Word.settled (n ∷ [])
-      → Made A n (λ ms. Led A.search A.win ms a.win) (slack (lasts A) A.win (jobCount A))
+      → Made A n (λ ms. Led A.search A.win ms a.win) (slack (lasts A) A.win (job_count A))
   -- clash: with no move, j is the lowest job whose window is too short; else every window was long enough before the last move, which is job j's and closes
   -- its window; there are at most as many as that sum and one more
   pub clash : (n j : ℕ) → a.says ≡ said Word.clash (n ∷ j ∷ [])
-      → Made A n (λ ms. Clashed A.search A.win ms j) (suc (slack (lasts A) A.win (jobCount A)))
+      → Made A n (λ ms. Clashed A.search A.win ms j) (suc (slack (lasts A) A.win (job_count A)))
 
--- what determines the answer and the windows, in facts (`counts-firm`)
+-- what determines the answer and the windows, in facts (`counts_firm`)
 pub record ExactlyCounts (A : Ask) (a : Left) : Type 0 where
   -- each refusal exactly where its test is the first that fails, settled with the largest stable windows, clash where there are none; only settled moves a
   -- window
@@ -76,7 +76,7 @@ pub record KeptUnder (A : Ask) (premise : Type 0) (x : Said) (U : Win) : Type 0 
 
 -- the contract
 pub record Counts (A : Ask) (a : Left) : Type 0 where
-  pub answered : a ≡ leftBy A
+  pub answered : a ≡ left_by A
   pub exactly : ExactlyCounts A a
   -- demand 2, with no premise on a log
   pub kept : KeptUnder A (Unit {0}) a.says a.win

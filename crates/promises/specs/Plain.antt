@@ -5,9 +5,9 @@ use Rattle.narrowing.specs.Windows.{Win}
 use Rattle.narrowing.specs.Rules.{Family, Largest, NoCandidate}
 use Rattle.narrowing.specs.Led.{SameLengths}
 use Rattle.answers.specs.Said.{Word, Said, said}
-use Rattle.joblist.specs.Limits.{Column, timeColumn}
+use Rattle.joblist.specs.Limits.{Column, time_column}
 use Rattle.joblist.specs.GoodList.{GoodList, Given}
-use Rattle.promises.specs.Ask.{Ask, jobCount, lasts}
+use Rattle.promises.specs.Ask.{Ask, job_count, lasts}
 use Rattle.promises.specs.Table.{After}
 
 -- the submitted windows, the number of jobs, their durations, the other lists, the numbers that stand alone, and the rules
@@ -21,10 +21,10 @@ pub record Task : Type 1 where
 
 -- that of a call with a log
 abbrev pub task_of : Ask → Task
-task_of A = record { win = A.win; n = jobCount A; p = lasts A; beside = A.beside; alone = A.alone; rules = A.rules }
+task_of A = record { win = A.win; n = job_count A; p = lasts A; beside = A.beside; alone = A.alone; rules = A.rules }
 
 abbrev pub columns : Task → List Column
-columns K = timeColumn K.win.e ∷ timeColumn K.win.l ∷ timeColumn K.p ∷ K.beside
+columns K = time_column K.win.e ∷ time_column K.win.l ∷ time_column K.p ∷ K.beside
 
 abbrev pub GoodTask : Task → Type 0
 GoodTask K = GoodList K.n (columns K) K.alone

@@ -10,27 +10,27 @@ use Rattle.narrowing.specs.Schedules.{Schedule}
 use Rattle.narrowing.specs.Run.{needed}
 use Rattle.answers.specs.Said.{Word, said}
 use Rattle.journal.specs.Journal.{WholeRecords, cleared}
-use Rattle.promises.specs.Ask.{Ask, jobCount, lasts, Good, Admitted, TurnedAway}
+use Rattle.promises.specs.Ask.{Ask, job_count, lasts, Good, Admitted, TurnedAway}
 use Rattle.promises.specs.Table.{After, narrowed}
 use Rattle.promises.specs.Reasons.{Reasons}
 
 -- a schedule of the call's jobs within the windows W
 abbrev pub Scheduled : Ask → Win → List ℕ → Type 0
-Scheduled A W s = Schedule (jobCount A) (lasts A) A.fits W s
+Scheduled A W s = Schedule (job_count A) (lasts A) A.fits W s
 
 -- windows inside the submitted ones, each long enough for its job, to which no rule applies; the largest of them; none
 abbrev pub StableIn : Ask → Win → Type 0
-StableIn A U = Candidate (jobCount A) (lasts A) A.rules A.win U
+StableIn A U = Candidate (job_count A) (lasts A) A.rules A.win U
 
 abbrev pub LargestIn : Ask → Win → Type 0
-LargestIn A U = Largest (jobCount A) (lasts A) A.rules A.win U
+LargestIn A U = Largest (job_count A) (lasts A) A.rules A.win U
 
 abbrev pub NoneIn : Ask → Type 0
-NoneIn A = NoCandidate (jobCount A) (lasts A) A.rules A.win
+NoneIn A = NoCandidate (job_count A) (lasts A) A.rules A.win
 
 -- every job is fixed: e + p = l
 abbrev pub AllFixed : Ask → Type 0
-AllFixed A = (k : ℕ) → k < jobCount A → A.win.l ! k ≡ A.win.e ! k + lasts A ! k
+AllFixed A = (k : ℕ) → k < job_count A → A.win.l ! k ≡ A.win.e ! k + lasts A ! k
 
 -- there is room for n records: a ragged log has none, not for 0 records either
 abbrev pub HasRoom : Ask → ℕ → Type 0
@@ -81,7 +81,7 @@ pub record Narrowest (A : Ask) (a : After) : Type 0 where
   pub exists : Room A → (a.says.word ≡ Word.settled) ↔ ((U : Win) × StableIn A U)
   -- free of the run: where there is room for more records than the sum of l - e - p, settled or clash is said, settled exactly when such windows exist,
   -- clash exactly when none do
-  pub free : HasRoom A (suc (slack (lasts A) A.win (jobCount A)))
+  pub free : HasRoom A (suc (slack (lasts A) A.win (job_count A)))
       → ((a.says.word ≡ Word.settled) ⊎ (a.says.word ≡ Word.clash))
       × ((a.says.word ≡ Word.settled) ↔ ((U : Win) × StableIn A U))
       × ((a.says.word ≡ Word.clash) ↔ NoneIn A)

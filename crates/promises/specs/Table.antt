@@ -5,7 +5,7 @@ use Rattle.narrowing.specs.Windows.{Win}
 use Rattle.narrowing.specs.Run.{Out, settled, clash, short, run}
 use Rattle.answers.specs.Said.{Word, Said, said}
 use Rattle.journal.specs.Journal.{logged, cleared}
-use Rattle.promises.specs.Ask.{Ask, refusalOf}
+use Rattle.promises.specs.Ask.{Ask, refusal_of}
 
 -- what a call leaves: its answer, the windows and the log
 pub record After : Type 0 where
@@ -35,5 +35,5 @@ tabled A (suc k) = leaves (said Word.refused (suc k ∷ [])) A.win A.log
 
 -- what narrowing answers and leaves
 unfoldable pub narrowed : Ask → After
-unfolding tabled refusalOf
-narrowed A = tabled A (refusalOf A)
+unfolding tabled refusal_of
+narrowed A = tabled A (refusal_of A)

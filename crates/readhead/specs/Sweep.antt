@@ -1,7 +1,7 @@
 -- The sweep over the jobs by rising latest end, as the code does it: what it takes, when a latest end is tested, a job put in, a leaf reached.
 use Rattle.std.specs.Prelude.{ℕ, ◌+◌, ◌-◌, ◌≤◌, ◌<◌, ◌≡◌, Bool, not, List, ltb, eqb, ℤ, pos, ◌+ℤ◌, length, set}
 use Rattle.std.specs.Int.Signed.{lt_z}
-use Rattle.joblist.specs.Limits.{mostJobs}
+use Rattle.joblist.specs.Limits.{most_jobs}
 use Rattle.narrowing.specs.Windows.{win}
 use Rattle.lists.specs.Lists.{◌!◌}
 use Rattle.lists.specs.Tests.{both}
@@ -22,18 +22,18 @@ due n l o k b end = both (not (tied n l o k b)) (lt_z (pos b) (end +ℤ pos 0))
 pub record Sorted (est lct dur place starts stops : List ℕ) : Type 0 where
   pub good : Good (win est lct) dur
   pub placed : Placed est place
-  pub by-start : Ordered est (length est) starts
-  pub by-stop : Ordered lct (length est) stops
-  pub starts-long : length starts ≡ mostJobs
-  pub stops-long : length stops ≡ mostJobs
+  pub by_start : Ordered est (length est) starts
+  pub by_stop : Ordered lct (length est) stops
+  pub starts_long : length starts ≡ most_jobs
+  pub stops_long : length stops ≡ most_jobs
 
 -- the tree with job j in it
 abbrev pub Entered : List ℕ → List ℕ → ℕ → List ℕ → List ℤ → List ℕ → List ℤ → Type 0
 Entered est dur j sums ends sums' ends' =
-    Climbed mostJobs (set sums (mostJobs + rank est (length est) j) (dur ! j)) (set ends (mostJobs + rank est (length est) j) (pos (est ! j + dur ! j))) sums' ends'
+    Climbed most_jobs (set sums (most_jobs + rank est (length est) j) (dur ! j)) (set ends (most_jobs + rank est (length est) j) (pos (est ! j + dur ! j))) sums' ends'
 
 -- node v is the leaf of a place that has a job
 pub record LeafTaken (est starts : List ℕ) (v : ℕ) : Type 0 where
-  pub leaf : mostJobs ≤ v
-  pub place : v - mostJobs < mostJobs
-  pub job : starts ! (v - mostJobs) < length est
+  pub leaf : most_jobs ≤ v
+  pub place : v - most_jobs < most_jobs
+  pub job : starts ! (v - most_jobs) < length est

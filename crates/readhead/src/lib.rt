@@ -2,9 +2,9 @@
 mod sweep; // sweep.rt: the jobs put in by rising latest end
 
 ghost use Rattle.std.specs.Prelude.{◌≡◌, length};
-ghost use Rattle.answers.specs.Said.{saysOverload};
+ghost use Rattle.answers.specs.Said.{says_overload};
 ghost use Rattle.narrowing.specs.Windows.{win};
-ghost use Rattle.overloads.specs.Overload.{overload, foundSaid};
+ghost use Rattle.overloads.specs.Overload.{overload, found_said};
 ghost use Rattle.overloads.specs.Promise.{Good, Overloads};
 
 use crate::sweep::sweep;
@@ -15,7 +15,7 @@ use screen::MOST_JOBS;
 // What a good list has: the two orders of its jobs are made, and the tree is swept.
 fn find(est: &[u32], lct: &[u32], dur: &[u32]) -> OverloadAnswer
     requires { Good (win est.now lct.now) dur.now }
-    ensures { saysOverload result ≡ foundSaid (overload (length est.now) dur.now (win est.now lct.now)) }
+    ensures { says_overload result ≡ found_said (overload (length est.now) dur.now (win est.now lct.now)) }
 {
     let mut place = [0usize; MOST_JOBS];
     let mut starts = [0usize; MOST_JOBS];
@@ -28,7 +28,7 @@ fn find(est: &[u32], lct: &[u32], dur: &[u32]) -> OverloadAnswer
 
 // The overload check: none, the pair a, b, or refusal 1 to 3.
 pub fn overload(est: &[u32], lct: &[u32], dur: &[u32]) -> OverloadAnswer
-    ensures { Overloads (win est.now lct.now) dur.now (saysOverload result) }
+    ensures { Overloads (win est.now lct.now) dur.now (says_overload result) }
 {
     let refusal = screen::refusal_of_three(est, lct, dur);
     if refusal != 0 {

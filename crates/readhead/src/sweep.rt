@@ -1,12 +1,12 @@
 // The jobs go into the tree by rising latest end, ALL jobs of one latest end before that end is tested.
 ghost use Rattle.std.specs.Prelude.{◌≡◌, ◌*◌, ◌-◌, ◌≤◌, ◌<◌, length};
 ghost use Rattle.std.specs.Int.Signed.{mag};
-ghost use Rattle.answers.specs.Said.{saysOverload};
-ghost use Rattle.joblist.specs.Limits.{mostJobs, mostTime};
+ghost use Rattle.answers.specs.Said.{says_overload};
+ghost use Rattle.joblist.specs.Limits.{most_jobs, most_time};
 ghost use Rattle.narrowing.specs.Windows.{win};
 ghost use Rattle.lists.specs.Lists.{◌!◌};
 ghost use Rattle.lists.specs.Orders.{Ordered};
-ghost use Rattle.overloads.specs.Overload.{overload, foundSaid};
+ghost use Rattle.overloads.specs.Overload.{overload, found_said};
 ghost use Rattle.theta.specs.Theta.{far, AllJoin, Ranged, descent, depth};
 ghost use Rattle.placing.specs.Order.{Placed};
 ghost use Rattle.readhead.specs.Sweep.{tied, due, Sorted, Entered, LeafTaken};
@@ -17,7 +17,7 @@ use theta::{EMPTY, NODES, descend, exceeds, put};
 
 // Whether place k of the order has a job of the latest end b.
 fn tied(lct: &[u32], stops: &[usize; MOST_JOBS], k: usize, b: u32) -> bool
-    requires { (length lct.now ≤ mostJobs) × (Ordered lct.now (length lct.now) stops.now) × (length stops.now ≡ mostJobs) }
+    requires { (length lct.now ≤ most_jobs) × (Ordered lct.now (length lct.now) stops.now) × (length stops.now ≡ most_jobs) }
     ensures { result ≡ tied (length lct.now) lct.now stops.now k b }
 {
     if lct.len() <= k {
@@ -28,7 +28,7 @@ fn tied(lct: &[u32], stops: &[usize; MOST_JOBS], k: usize, b: u32) -> bool
 
 // Whether the latest end b is to be tested, no job of it being next, and exceeded.
 fn due(lct: &[u32], stops: &[usize; MOST_JOBS], k: usize, b: u32, end: i64) -> bool
-    requires lct_len_bound { (length lct.now ≤ mostJobs) × (Ordered lct.now (length lct.now) stops.now) × (length stops.now ≡ mostJobs) }
+    requires lct_len_bound { (length lct.now ≤ most_jobs) × (Ordered lct.now (length lct.now) stops.now) × (length stops.now ≡ most_jobs) }
     requires end_bound { mag end ≤ 2 * far }
     ensures { result ≡ due (length lct.now) lct.now stops.now k b end }
 {
@@ -47,9 +47,9 @@ fn enter(
     ends: &mut [i64; NODES],
     j: usize,
 )
-    requires ranged { (Ranged mostJobs sums.old ends.old) × (AllJoin mostJobs sums.old ends.old) }
-    requires est_len_bound { (length est.now ≤ mostJobs) × (length dur.now ≡ length est.now) × (Placed est.now place.now) }
-    requires j_in_bounds { (j < length est.now) × (est.now ! j ≤ mostTime) × (dur.now ! j ≤ mostTime) }
+    requires ranged { (Ranged most_jobs sums.old ends.old) × (AllJoin most_jobs sums.old ends.old) }
+    requires est_len_bound { (length est.now ≤ most_jobs) × (length dur.now ≡ length est.now) × (Placed est.now place.now) }
+    requires j_in_bounds { (j < length est.now) × (est.now ! j ≤ most_time) × (dur.now ! j ≤ most_time) }
     ensures { Entered est.now dur.now j sums.old ends.old sums.new ends.new }
 {
     put(sums, ends, place[j], est[j], dur[j]);
@@ -63,9 +63,9 @@ fn start_of(
     ends: &[i64; NODES],
     b: u32,
 ) -> u32
-    requires ranged { (Ranged mostJobs sums.now ends.now) × (AllJoin mostJobs sums.now ends.now) × (length starts.now ≡ mostJobs) }
+    requires ranged { (Ranged most_jobs sums.now ends.now) × (AllJoin most_jobs sums.now ends.now) × (length starts.now ≡ most_jobs) }
     requires leaf_taken { LeafTaken est.now starts.now (descent sums.now ends.now b depth 1 0) }
-    ensures { result ≡ est.now ! (starts.now ! (descent sums.now ends.now b depth 1 0 - mostJobs)) }
+    ensures { result ≡ est.now ! (starts.now ! (descent sums.now ends.now b depth 1 0 - most_jobs)) }
 {
     let leaf = descend(sums, ends, b);
     est[starts[leaf - MOST_JOBS]]
@@ -81,7 +81,7 @@ pub fn sweep(
     stops: &[usize; MOST_JOBS],
 ) -> OverloadAnswer
     requires { Sorted est.now lct.now dur.now place.now starts.now stops.now }
-    ensures { saysOverload result ≡ foundSaid (overload (length est.now) dur.now (win est.now lct.now)) }
+    ensures { says_overload result ≡ found_said (overload (length est.now) dur.now (win est.now lct.now)) }
 {
     let mut sums = [0u32; NODES];
     let mut ends = [EMPTY; NODES];

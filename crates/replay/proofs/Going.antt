@@ -11,22 +11,22 @@ use lib.Seq.{get_or-set_same}
 use borrow.Author.Tests.{ltb-false}
 use Rattle.lists.specs.Lists.{◌!◌}
 use Rattle.narrowing.specs.Windows.{Win, Side, early, late, moved, closes}
-use Rattle.joblist.specs.Limits.{mostTime}
-use Rattle.journal.specs.Journal.{job_of, timeOf, recordAt, records}
+use Rattle.joblist.specs.Limits.{most_time}
+use Rattle.journal.specs.Journal.{job_of, time_of, record_at, records}
 use Rattle.timetable.specs.Time.{bound}
 use Rattle.timetable.specs.Table.{call, Good}
-use Rattle.timetable.proofs.Good.{durations-sized, end-most}
-use Rattle.timetable.proofs.Moves.{moved-good}
+use Rattle.timetable.proofs.Good.{durations_sized, end_most}
+use Rattle.timetable.proofs.Moves.{moved_good}
 use Rattle.codes.specs.Facts.{side, InRange}
 use Rattle.codes.specs.Codes.{code}
-use Rattle.checks.specs.Replay.{changed, Verdict, holds, clashes, rejected, closing, orBad, orClosed, replay}
-use Rattle.exam.specs.Lent.{jobsIn}
-use Rattle.codes.proofs.Codes.{good-record}
+use Rattle.checks.specs.Replay.{changed, Verdict, holds, clashes, rejected, closing, or_bad, or_closed, replay}
+use Rattle.exam.specs.Lent.{jobs_in}
+use Rattle.codes.proofs.Codes.{good_record}
 
 pub record Going (p r : List ℕ) (cap : ℕ) (log : List ℕ) (count : ℕ) (from W : Win) (i : ℕ) : Type 0 where
   pub within : i ≤ count
   pub good : Good (call W p r cap [])
-  pub so_far : replay (jobsIn (length p) p r cap) from 0 (records log 0 count) ≡ replay (jobsIn (length p) p r cap) W i (records log i (count - i))
+  pub so_far : replay (jobs_in (length p) p r cap) from 0 (records log 0 count) ≡ replay (jobs_in (length p) p r cap) W i (records log i (count - i))
 
 pub going_start : (p r : List ℕ) (cap : ℕ) (log : List ℕ) (count : ℕ) (W : Win) → Good (call W p r cap []) → Going p r cap log count W W 0
 going_start p r cap log count W g = record { within = omega arith; good = g; so_far = rw (sub-zero count) }
@@ -34,49 +34,49 @@ going_start p r cap log count W g = record { within = omega arith; good = g; so_
 -- ---- a taken record
 
 -- a record's bound is small where it does not close the window
-bound-small : (W : Win) (p r : List ℕ) (cap : ℕ) → Good (call W p r cap []) → (j : ℕ) (s : Side) (t : ℕ) → j < length p → t ≤ mostTime
-    → closes p (moved W j s (bound s t)) j ≡ false → bound s t ≤ mostTime
-bound-small W p r cap g j early t b m h =
-    let z : j < length W.e = omega (arith, durations-sized g) in
-    omega (arith, end-most g j, get_or-set_same W.e j (suc t) 0 z, ltb-false (W.l ! j) _ h)
-bound-small W p r cap g j late t b m h = m
+bound_small : (W : Win) (p r : List ℕ) (cap : ℕ) → Good (call W p r cap []) → (j : ℕ) (s : Side) (t : ℕ) → j < length p → t ≤ most_time
+    → closes p (moved W j s (bound s t)) j ≡ false → bound s t ≤ most_time
+bound_small W p r cap g j early t b m h =
+    let z : j < length W.e = omega (arith, durations_sized g) in
+    omega (arith, end_most g j, get_or-set_same W.e j (suc t) 0 z, ltb-false (W.l ! j) _ h)
+bound_small W p r cap g j late t b m h = m
 
-module _ (p r : List ℕ) (cap : ℕ) (W : Win) (x : List ℕ) (taken : code (jobsIn (length p) p r cap) W x ≡ 0) where
-  pub taken-range : InRange (jobsIn (length p) p r cap) x
-  taken-range = (good-record (jobsIn (length p) p r cap) W x taken).passes.in-range
+module _ (p r : List ℕ) (cap : ℕ) (W : Win) (x : List ℕ) (taken : code (jobs_in (length p) p r cap) W x ≡ 0) where
+  pub taken_range : InRange (jobs_in (length p) p r cap) x
+  taken_range = (good_record (jobs_in (length p) p r cap) W x taken).passes.in_range
 
-  good-changed : Good (call W p r cap []) → closes p (changed W x) (job_of x) ≡ false → Good (call (changed W x) p r cap [])
+  good_changed : Good (call W p r cap []) → closes p (changed W x) (job_of x) ≡ false → Good (call (changed W x) p r cap [])
   unfolding changed
-  good-changed g h =
-      moved-good W p r cap [] g (job_of x) (side x) (bound (side x) (timeOf x))
-      (bound-small W p r cap g (job_of x) (side x) (timeOf x) taken-range.job taken-range.time h) []
+  good_changed g h =
+      moved_good W p r cap [] g (job_of x) (side x) (bound (side x) (time_of x))
+      (bound_small W p r cap g (job_of x) (side x) (time_of x) taken_range.job taken_range.time h) []
 
 -- ---- one record more
 
 module _ {p r : List ℕ} {cap : ℕ} {log : List ℕ} {count : ℕ} {from W : Win} {i : ℕ} (g : Going p r cap log count from W i) where
   abbrev all : Verdict
-  all = replay (jobsIn (length p) p r cap) from 0 (records log 0 count)
+  all = replay (jobs_in (length p) p r cap) from 0 (records log 0 count)
 
   pub going_end : count ≤ i → holds W ≡ all
   unfolding replay records
   going_end h = let e : count - i ≡ 0 = omega arith in sym (g.so_far ∙ rw e)
 
-  module _ (x : List ℕ) (shown : x ≡ recordAt log i) (b : i < count) where
+  module _ (x : List ℕ) (shown : x ≡ record_at log i) (b : i < count) where
     -- the next record and the rest
     next : all
-        ≡ orBad i (code (jobsIn (length p) p r cap) W x)
-        (orClosed (closes p (changed W x) (job_of x)) (closing (i + 1) (job_of x) (records log (i + 1) (count - (i + 1))))
-        (replay (jobsIn (length p) p r cap) (changed W x) (i + 1) (records log (i + 1) (count - (i + 1)))))
+        ≡ or_bad i (code (jobs_in (length p) p r cap) W x)
+        (or_closed (closes p (changed W x) (job_of x)) (closing (i + 1) (job_of x) (records log (i + 1) (count - (i + 1))))
+        (replay (jobs_in (length p) p r cap) (changed W x) (i + 1) (records log (i + 1) (count - (i + 1)))))
     unfolding replay records
     next =
         let e : count - i ≡ suc (count - (i + 1)) = omega arith in
         g.so_far ∙ rw (e, add-one i, shown)
 
-    pub going-bad : (k : ℕ) → (k ≡ 0 → ⊥) → k ≡ code (jobsIn (length p) p r cap) W x → rejected i k ≡ all
-    going-bad zero f e = absurd (f refl)
-    going-bad (suc k) f e = sym (next ∙ rw (← e))
+    pub going_bad : (k : ℕ) → (k ≡ 0 → ⊥) → k ≡ code (jobs_in (length p) p r cap) W x → rejected i k ≡ all
+    going_bad zero f e = absurd (f refl)
+    going_bad (suc k) f e = sym (next ∙ rw (← e))
 
-    module _ (taken : code (jobsIn (length p) p r cap) W x ≡ 0) (U : Win) (is : U ≡ moved W (job_of x) (side x) (bound (side x) (timeOf x))) where
+    module _ (taken : code (jobs_in (length p) p r cap) W x ≡ 0) (U : Win) (is : U ≡ moved W (job_of x) (side x) (bound (side x) (time_of x))) where
       after : U ≡ changed W x
       unfolding changed
       after = is
@@ -85,12 +85,12 @@ module _ {p r : List ℕ} {cap : ℕ} {log : List ℕ} {count : ℕ} {from W : W
       going_on h =
           let q = rw after at h in
           rw after
-          record { within = omega arith; good = good-changed p r cap W x taken g.good q; so_far = next ∙ rw (taken, q) }
+          record { within = omega arith; good = good_changed p r cap W x taken g.good q; so_far = next ∙ rw (taken, q) }
 
       -- a closing record is the last, or the one after it is bad
-      pub going-last : closes p U (job_of x) ≡ true → count ≤ i + 1 → clashes (job_of x) ≡ all
+      pub going_last : closes p U (job_of x) ≡ true → count ≤ i + 1 → clashes (job_of x) ≡ all
       unfolding records
-      going-last h m =
+      going_last h m =
           let e : count - (i + 1) ≡ 0 = omega arith in
           let q = rw after at h in
           sym (next ∙ rw (taken, q, e))

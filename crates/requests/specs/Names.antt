@@ -2,7 +2,7 @@
 use Rattle.std.specs.Prelude.{ℕ, ◌≡◌, Bool, true, false, List, [], ◌∷◌, ◌⊎◌}
 use Rattle.std.proofs.Math.Option.{Option, none, some}
 use Rattle.forms.specs.declared.Form.{Form}
-use Rattle.requests.specs.Sizes.{jobEntries, logEntries, pairEntries}
+use Rattle.requests.specs.Sizes.{job_entries, log_entries, pair_entries}
 use Rattle.requests.specs.declared.names.Layout.{Layout}
 use Rattle.requests.specs.declared.names.Task.{Task}
 use Rattle.requests.specs.declared.names.Call.{Call}
@@ -34,17 +34,17 @@ abbrev pub Named : List ℕ → Call → Type 0
 Named word c = (name_of c ≡ some word) ⊎ ((c ≡ Call.Unknown) × ((d : Call) → name_of d ≡ some word → ⊥))
 
 -- numbers below 2^32, perhaps one below 2^64, lists of jobs, lists of at most so many entries, perhaps bytes
-abbrev pub lineForm : ℕ → Bool → ℕ → ℕ → ℕ → Bool → Form
-lineForm shorts long jobs others most bytes =
-    record { shorts = shorts; long = long; lists = record { count = jobs; most = jobEntries }; more = record { count = others; most = most }; bytes = bytes }
+abbrev pub line_form : ℕ → Bool → ℕ → ℕ → ℕ → Bool → Form
+line_form shorts long jobs others most bytes =
+    record { shorts = shorts; long = long; lists = record { count = jobs; most = job_entries }; more = record { count = others; most = most }; bytes = bytes }
 
 abbrev pub form_of : Call → Form
-form_of (Call.Jobs Task.Narrow) = lineForm 1 false 4 1 logEntries false
-form_of (Call.Jobs Task.Check) = lineForm 1 true 4 1 logEntries false
-form_of Call.Conflict = lineForm 1 true 4 1 logEntries false
-form_of Call.Record = lineForm 0 true 0 1 logEntries false
-form_of Call.Overload = lineForm 0 false 3 0 0 false
-form_of Call.Head = lineForm 0 false 3 0 0 false
-form_of (Call.Read layout) = lineForm 2 false 4 2 pairEntries true
-form_of Call.Write = lineForm 1 false 2 2 pairEntries true
-form_of Call.Unknown = lineForm 0 false 0 0 0 false
+form_of (Call.Jobs Task.Narrow) = line_form 1 false 4 1 log_entries false
+form_of (Call.Jobs Task.Check) = line_form 1 true 4 1 log_entries false
+form_of Call.Conflict = line_form 1 true 4 1 log_entries false
+form_of Call.Record = line_form 0 true 0 1 log_entries false
+form_of Call.Overload = line_form 0 false 3 0 0 false
+form_of Call.Head = line_form 0 false 3 0 0 false
+form_of (Call.Read layout) = line_form 2 false 4 2 pair_entries true
+form_of Call.Write = line_form 1 false 2 2 pair_entries true
+form_of Call.Unknown = line_form 0 false 0 0 0 false

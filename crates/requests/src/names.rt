@@ -1,7 +1,7 @@
 // The calls' names, and the form of each one's line.
 ghost use Rattle.std.specs.Prelude.{◌≡◌, cond};
 ghost use Rattle.requests.specs.declared.names.Call as calls;
-ghost use Rattle.requests.specs.Names.{Named, lineForm, form_of};
+ghost use Rattle.requests.specs.Names.{Named, line_form, form_of};
 
 use check::same;
 use forms::{Form, Lists};
@@ -91,7 +91,7 @@ pub fn asked(named: Call, whole: bool) -> Call
 
 // A line with so many numbers below 2^32, perhaps one below 2^64, lists of jobs, other lists and perhaps bytes.
 fn formed(shorts: u32, long: bool, jobs: usize, others: usize, most: u32, bytes: bool) -> Form
-    ensures { result ≡ lineForm shorts long jobs others most bytes }
+    ensures { result ≡ line_form shorts long jobs others most bytes }
 {
     let lists = Lists {
         count: jobs,

@@ -7,14 +7,14 @@ use lib.ListN.{length}
 use lib.Seq.{set-set, set-get_or, get_or-set_same}
 use Rattle.lists.specs.Lists.{◌!◌}
 use Rattle.narrowing.specs.Windows.{Win, win, Side, early, late, moved, side_of, Respects}
-use Rattle.joblist.specs.Limits.{jobs, mostTime}
+use Rattle.joblist.specs.Limits.{jobs, most_time}
 use Rattle.timetable.specs.Time.{Applies, bound}
-use Rattle.timetable.specs.Table.{Call, call, jobsOf, Workable}
+use Rattle.timetable.specs.Table.{Call, call, jobs_of, Workable}
 use Rattle.windows.specs.Bounds.{bound_at}
 use Rattle.crowding.specs.Asked.{asked}
-use Rattle.timetable.proofs.Good.{durations-sized, ends-sized, start-most, end-most}
-use Rattle.timetable.proofs.Moves.{best-applies}
-use Rattle.crowding.proofs.Steps.{good-cap}
+use Rattle.timetable.proofs.Good.{durations_sized, ends_sized, start_most, end_most}
+use Rattle.timetable.proofs.Moves.{best_applies}
+use Rattle.crowding.proofs.Steps.{good_cap}
 use Rattle.profile.specs.declared.kept.Outline.{Outline}
 use Rattle.loads.specs.Loads.{Loaded}
 use Rattle.turns.specs.declared.Place.{Place}
@@ -26,17 +26,17 @@ put_back W j early b = ap (λ (e : List ℕ). win e W.l) (set-set W.e j b (W.e !
 put_back W j late b = ap (λ (l : List ℕ). win W.e l) (set-set W.l j b (W.l ! j) ∙ set-get_or W.l j 0)
 
 -- a call's list is workable whatever its capacity and its log
-pub workable-free : {W : Win} {p r : List ℕ} {cap : ℕ} {log : List ℕ} → Workable (call W p r cap log) → Workable (asked W.e W.l p r 0)
-workable-free {W} {p} {r} {cap} w = record { good = good-cap W.e W.l p r cap w.good; long = w.long }
+pub workable_free : {W : Win} {p r : List ℕ} {cap : ℕ} {log : List ℕ} → Workable (call W p r cap log) → Workable (asked W.e W.l p r 0)
+workable_free {W} {p} {r} {cap} w = record { good = good_cap W.e W.l p r cap w.good; long = w.long }
 
 tightens : (W : Win) (p r : List ℕ) (cap : ℕ) (log : List ℕ) → Workable (call W p r cap log) → (j : ℕ) (s : Side) (t : ℕ) → j < jobs W
-    → Applies (jobsOf (call W p r cap log)) W j s (bound s t) → Respects (moved W j s (bound s t)) j s (bound_at W j s)
+    → Applies (jobs_of (call W p r cap log)) W j s (bound s t) → Respects (moved W j s (bound s t)) j s (bound_at W j s)
 tightens W p r cap log w j early t b a = omega (arith, get_or-set_same W.e j (suc t) 0 b, a.from)
-tightens W p r cap log w j late t b a = omega (arith, get_or-set_same W.l j t 0 (omega (arith, ends-sized w.good)), a.to)
+tightens W p r cap log w j late t b a = omega (arith, get_or-set_same W.l j t 0 (omega (arith, ends_sized w.good)), a.to)
 
-bound-most : (W : Win) (p r : List ℕ) (cap : ℕ) (log : List ℕ) → Workable (call W p r cap log) → (j : ℕ) (s : Side) → bound_at W j s ≤ mostTime
-bound-most W p r cap log w j early = start-most w.good j
-bound-most W p r cap log w j late = end-most w.good j
+bound_most : (W : Win) (p r : List ℕ) (cap : ℕ) (log : List ℕ) → Workable (call W p r cap log) → (j : ℕ) (s : Side) → bound_at W j s ≤ most_time
+bound_most W p r cap log w j early = start_most w.good j
+bound_most W p r cap log w j late = end_most w.good j
 
 -- ---- after a move from the bound that was there
 
@@ -44,30 +44,30 @@ module _ (c : Call) (at : Place) (count t : ℕ) (W' : Win) (log' : List ℕ) (m
   abbrev was : ℕ
   was = bound_at c.win at.job (side_of at.side)
 
-  kept-tight : Respects W' at.job (side_of at.side) was
-  kept-tight =
+  kept_tight : Respects W' at.job (side_of at.side) was
+  kept_tight =
       subst (λ (U : Win). Respects U at.job (side_of at.side) was) (sym m.windows)
-      (tightens c.win c.p c.r c.cap c.log w at.job (side_of at.side) t b (best-applies c w at.job (side_of at.side) b t m.found))
+      (tightens c.win c.p c.r c.cap c.log w at.job (side_of at.side) t b (best_applies c w at.job (side_of at.side) b t m.found))
 
-  kept_small : was ≤ mostTime
-  kept_small = bound-most c.win c.p c.r c.cap c.log w at.job (side_of at.side)
+  kept_small : was ≤ most_time
+  kept_small = bound_most c.win c.p c.r c.cap c.log w at.job (side_of at.side)
 
-  kept-before : {ts ld : List ℕ} {k : Outline} → Loaded c.win c.p c.r ts ld k
+  kept_before : {ts ld : List ℕ} {k : Outline} → Loaded c.win c.p c.r ts ld k
       → Loaded (moved W' at.job (side_of at.side) was) c.p c.r ts ld k
-  kept-before {ts} {ld} {k} L =
+  kept_before {ts} {ld} {k} L =
       subst (λ (U : Win). Loaded U c.p c.r ts ld k)
       (sym (ap (λ (U : Win). moved U at.job (side_of at.side) was) m.windows ∙ put_back c.win at.job (side_of at.side) (bound (side_of at.side) t))) L
 
 -- what following it asks
-pub follow-ready : (c : Call) (at : Place) (count old : ℕ) (W' : Win) (log' : List ℕ) → TurnSays c at count W' log' (Turn.Moved old) → Workable c
+pub follow_ready : (c : Call) (at : Place) (count old : ℕ) (W' : Win) (log' : List ℕ) → TurnSays c at count W' log' (Turn.Moved old) → Workable c
     → at.job < jobs c.win → Workable (call W' c.p c.r c.cap log')
     → {ts ld : List ℕ} {k : Outline} → Loaded c.win c.p c.r ts ld k
-    → Workable (asked W'.e W'.l c.p c.r 0) × (at.job < length c.p) × Respects W' at.job (side_of at.side) old × (old ≤ mostTime)
+    → Workable (asked W'.e W'.l c.p c.r 0) × (at.job < length c.p) × Respects W' at.job (side_of at.side) old × (old ≤ most_time)
     × Loaded (moved W' at.job (side_of at.side) old) c.p c.r ts ld k
-follow-ready c at count old W' log' h w b v L = (
-  workable-free v,
-  omega (arith, durations-sized w.good),
-  rw h.3 (kept-tight c at count h.0 W' log' h.1 w b),
+follow_ready c at count old W' log' h w b v L = (
+  workable_free v,
+  omega (arith, durations_sized w.good),
+  rw h.3 (kept_tight c at count h.0 W' log' h.1 w b),
   rw h.3 (kept_small c at count h.0 W' log' h.1 w b),
-  rw h.3 (kept-before c at count h.0 W' log' h.1 w b L),
+  rw h.3 (kept_before c at count h.0 W' log' h.1 w b L),
 )

@@ -3,13 +3,13 @@
 ghost use Rattle.std.specs.Prelude.{◌≡◌, ℕ, ◌<◌, eqb, drop};
 ghost use Rattle.lists.specs.Lists.{◌!◌};
 ghost use Rattle.lists.specs.Tests.{pick};
-ghost use Rattle.joblist.specs.Limits.{mostJobs};
+ghost use Rattle.joblist.specs.Limits.{most_jobs};
 ghost use Rattle.texts.specs.Tokens.{tokens};
-ghost use Rattle.texts.specs.Readings.{numbersUpTo};
+ghost use Rattle.texts.specs.Readings.{numbers_up_to};
 ghost use Rattle.scanner.specs.Scan.{GotSays};
 ghost use Rattle.projects.specs.Projects.{Head, link};
 ghost use Rattle.projects.specs.Tables.{numbered};
-ghost use Rattle.rowheads.specs.Heads.{needHead, withCount, headIn};
+ghost use Rattle.rowheads.specs.Heads.{need_head, with_count, head_in};
 ghost use Rattle.rowheads.specs.Says.{PickSays, HeadSays};
 
 use scanner::Got;
@@ -56,7 +56,7 @@ fn choose(i: u32, res: u32, v: u32, old: u32) -> u32
 
 // m numbers up to `top`; the answer is the one at `res`, 0 where there is none.
 pub fn read_numbers(text: &[u8], at: usize, m: u32, top: u32, res: u32) -> Got
-    ensures { PickSays (numbersUpTo top m (tokens (drop at text.now))) text.now res result }
+    ensures { PickSays (numbers_up_to top m (tokens (drop at text.now))) text.now res result }
 {
     let mut picked: u32 = 0;
     let mut to = at;
@@ -78,7 +78,7 @@ pub fn read_numbers(text: &[u8], at: usize, m: u32, top: u32, res: u32) -> Got
 
 // A duration and a demand for each of k resources.
 fn read_need(text: &[u8], at: usize, k: u32, res: u32) -> RowHead
-    ensures { HeadSays (needHead k (tokens (drop at text.now))) text.now res result }
+    ensures { HeadSays (need_head k (tokens (drop at text.now))) text.now res result }
 {
     match scanner::next_up_to(text, at, screen::MOST_TIME, 31) {
         Got::Refused(c) => RowHead::Refused(c),
@@ -91,7 +91,7 @@ fn read_need(text: &[u8], at: usize, k: u32, res: u32) -> RowHead
 
 // The successor count behind a duration and a demand.
 fn read_count(text: &[u8], at: usize, n: u32, d: u32, q: u32) -> RowHead
-    ensures { (h : Head) (res : ℕ) → h.duration ≡ d → h.demands ! res ≡ q → HeadSays (withCount n h (tokens (drop at text.now))) text.now res result }
+    ensures { (h : Head) (res : ℕ) → h.duration ≡ d → h.demands ! res ≡ q → HeadSays (with_count n h (tokens (drop at text.now))) text.now res result }
 {
     match scanner::next_up_to(text, at, n, 31) {
         Got::Refused(c) => RowHead::Refused(c),
@@ -101,7 +101,7 @@ fn read_count(text: &[u8], at: usize, n: u32, d: u32, q: u32) -> RowHead
 
 // The number of job j and the 1 behind it.
 fn read_numbered(text: &[u8], at: usize, j: u32) -> Got
-    requires { j < mostJobs }
+    requires { j < most_jobs }
     ensures { GotSays (numbered j (tokens (drop at text.now))) text.now result }
 {
     match scanner::next_exactly(text, at, j + 1) {
@@ -112,8 +112,8 @@ fn read_numbered(text: &[u8], at: usize, j: u32) -> Got
 
 // What stands before the successors of row j.
 pub fn read_front(text: &[u8], at: usize, n: u32, table: Table, j: u32, res: u32) -> RowHead
-    requires { j < mostJobs }
-    ensures { HeadSays (headIn table n j (tokens (drop at text.now))) text.now res result }
+    requires { j < most_jobs }
+    ensures { HeadSays (head_in table n j (tokens (drop at text.now))) text.now res result }
 {
     match table {
         Table::Whole(resources) => match read_need(text, at, resources, res) {

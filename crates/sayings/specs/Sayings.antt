@@ -7,25 +7,25 @@ use Rattle.sayings.specs.declared.Word.{Word}
 use Rattle.sayings.specs.declared.Saying.{Saying}
 
 -- the answer word that a printed one is; the programs' own two are none
-abbrev pub answerWord : Word → Option answers.Word
-answerWord Word.Settled = some answers.Word.settled
-answerWord Word.Clash = some answers.Word.clash
-answerWord Word.Refused = some answers.Word.refused
-answerWord Word.Holds = some answers.Word.holds
-answerWord Word.Rejected = some answers.Word.rejected
-answerWord Word.None = some answers.Word.none
-answerWord Word.Overload = some answers.Word.overload
-answerWord Word.Read = some answers.Word.read
-answerWord Word.Written = some answers.Word.written
-answerWord Word.Marked = some answers.Word.marked
-answerWord Word.Record = none
-answerWord Word.Unreadable = none
+abbrev pub answer_word : Word → Option answers.Word
+answer_word Word.Settled = some answers.Word.settled
+answer_word Word.Clash = some answers.Word.clash
+answer_word Word.Refused = some answers.Word.refused
+answer_word Word.Holds = some answers.Word.holds
+answer_word Word.Rejected = some answers.Word.rejected
+answer_word Word.None = some answers.Word.none
+answer_word Word.Overload = some answers.Word.overload
+answer_word Word.Read = some answers.Word.read
+answer_word Word.Written = some answers.Word.written
+answer_word Word.Marked = some answers.Word.marked
+answer_word Word.Record = none
+answer_word Word.Unreadable = none
 
 -- the numbers behind the word
-abbrev pub numbersOf : Saying → List ℕ
-numbersOf s = take s.count (s.first ∷ s.second ∷ [])
+abbrev pub numbers_of : Saying → List ℕ
+numbers_of s = take s.count (s.first ∷ s.second ∷ [])
 
 -- the printed word is the answer's, and so are the numbers
 pub record Tells (s : Saying) (a : Said) : Type 0 where
-  pub word : answerWord s.word ≡ some a.word
-  pub numbers : numbersOf s ≡ a.numbers
+  pub word : answer_word s.word ≡ some a.word
+  pub numbers : numbers_of s ≡ a.numbers

@@ -1,8 +1,8 @@
 // The answers of the calls: the answer word, then its numbers (`answers: Said`). An answer is first made a value, whichever call gave it, and printed
 // by one function.
 ghost use Rattle.std.specs.Prelude.{◌≡◌, [], ◌∷◌, ◌<◌, length};
-ghost use Rattle.answers.specs.Said.{says, saysCheck, saysOverload, saysRead, saysWrite, saysConflict};
-ghost use Rattle.sayings.specs.Sayings.{numbersOf, Tells};
+ghost use Rattle.answers.specs.Said.{says, says_check, says_overload, says_read, says_write, says_conflict};
+ghost use Rattle.sayings.specs.Sayings.{numbers_of, Tells};
 
 use answers::{Answer, CheckAnswer, ConflictAnswer, OverloadAnswer, ReadAnswer, WriteAnswer};
 use printing::{byte, number};
@@ -34,7 +34,7 @@ pub struct Saying {
 }
 
 pub fn bare(word: Word) -> Saying
-    ensures { (result.word ≡ word) × (numbersOf result ≡ []) }
+    ensures { (result.word ≡ word) × (numbers_of result ≡ []) }
 {
     Saying {
         word,
@@ -45,7 +45,7 @@ pub fn bare(word: Word) -> Saying
 }
 
 fn one(word: Word, n: u64) -> Saying
-    ensures { (result.word ≡ word) × (numbersOf result ≡ n ∷ []) }
+    ensures { (result.word ≡ word) × (numbers_of result ≡ n ∷ []) }
 {
     Saying {
         word,
@@ -56,7 +56,7 @@ fn one(word: Word, n: u64) -> Saying
 }
 
 fn two(word: Word, n: u64, m: u64) -> Saying
-    ensures { (result.word ≡ word) × (numbersOf result ≡ n ∷ m ∷ []) }
+    ensures { (result.word ≡ word) × (numbers_of result ≡ n ∷ m ∷ []) }
 {
     Saying {
         word,
@@ -77,7 +77,7 @@ pub fn narrowing(a: Answer) -> Saying
 }
 
 pub fn checking(a: CheckAnswer) -> Saying
-    ensures { Tells result (saysCheck a) }
+    ensures { Tells result (says_check a) }
 {
     match a {
         CheckAnswer::Holds(count) => one(Word::Holds, count as u64),
@@ -88,7 +88,7 @@ pub fn checking(a: CheckAnswer) -> Saying
 }
 
 pub fn overloading(a: OverloadAnswer) -> Saying
-    ensures { Tells result (saysOverload a) }
+    ensures { Tells result (says_overload a) }
 {
     match a {
         OverloadAnswer::None => bare(Word::None),
@@ -98,7 +98,7 @@ pub fn overloading(a: OverloadAnswer) -> Saying
 }
 
 pub fn reading(a: ReadAnswer) -> Saying
-    ensures { Tells result (saysRead a) }
+    ensures { Tells result (says_read a) }
 {
     match a {
         ReadAnswer::Read(capacity, pairs) => two(Word::Read, capacity as u64, pairs as u64),
@@ -107,7 +107,7 @@ pub fn reading(a: ReadAnswer) -> Saying
 }
 
 pub fn writing(a: WriteAnswer) -> Saying
-    ensures { Tells result (saysWrite a) }
+    ensures { Tells result (says_write a) }
 {
     match a {
         WriteAnswer::Written(bytes) => one(Word::Written, bytes as u64),
@@ -116,7 +116,7 @@ pub fn writing(a: WriteAnswer) -> Saying
 }
 
 pub fn marking(a: ConflictAnswer) -> Saying
-    ensures { Tells result (saysConflict a) }
+    ensures { Tells result (says_conflict a) }
 {
     match a {
         ConflictAnswer::Marked(count) => one(Word::Marked, count as u64),

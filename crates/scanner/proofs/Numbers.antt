@@ -11,15 +11,15 @@ use Rattle.texts.specs.Tokens.{digit, Token, number, other}
 use Rattle.texts.specs.Readings.{bad, good, one}
 use Rattle.scanner.specs.Scan.{held, Capped, none?}
 
-pub digit-bounds : (b : ℕ) → digit b ≡ true → (48 ≤ b) × (b ≤ 57)
+pub digit_bounds : (b : ℕ) → digit b ≡ true → (48 ≤ b) × (b ≤ 57)
 unfolding digit
-digit-bounds b e = let q = both_true (leb 48 b) (leb b 57) e in (leb-true 48 b q.0, leb-true b 57 q.1)
+digit_bounds b e = let q = both_true (leb 48 b) (leb b 57) e in (leb-true 48 b q.0, leb-true b 57 q.1)
 
-pub capped-zero : Capped 0 0
-capped-zero = record { under = omega arith; most = omega arith; itself = λ h. refl }
+pub capped_zero : Capped 0 0
+capped_zero = record { under = omega arith; most = omega arith; itself = λ h. refl }
 
-pub capped-digit : (x v b r : ℕ) → Capped x v → r ≤ v * 10 + (b - 48) → r ≤ held → (r < held → r ≡ v * 10 + (b - 48)) → Capped (x * 10 + (b - 48)) r
-capped-digit x v b r c h k e = record {
+pub capped_digit : (x v b r : ℕ) → Capped x v → r ≤ v * 10 + (b - 48) → r ≤ held → (r < held → r ≡ v * 10 + (b - 48)) → Capped (x * 10 + (b - 48)) r
+capped_digit x v b r c h k e = record {
   under = omega (arith, c.under);
   most = k;
   itself = λ l. omega (arith, e l, c.itself (omega (arith, e l)));
@@ -28,19 +28,19 @@ capped-digit x v b r c h k e = record {
 -- ---- a number up to a limit
 
 module _ (top code : ℕ) (ts rest : List Token) where
-  pub one-good : (x v : ℕ) → top < held → Capped x v → v ≤ top → ts ≡ number x ∷ rest → one top code ts ≡ good v rest
+  pub one_good : (x v : ℕ) → top < held → Capped x v → v ≤ top → ts ≡ number x ∷ rest → one top code ts ≡ good v rest
   unfolding one
-  one-good x v t c h e =
+  one_good x v t c h e =
       let q : v ≡ x = c.itself (omega arith) in
       rw (e, ← q, le-leb v top h)
 
-  pub one-large : (x v : ℕ) → Capped x v → top < v → ts ≡ number x ∷ rest → one top code ts ≡ bad code
+  pub one_large : (x v : ℕ) → Capped x v → top < v → ts ≡ number x ∷ rest → one top code ts ≡ bad code
   unfolding one
-  one-large x v c h e = rw (e, lt-leb x top (omega (arith, c.under)))
+  one_large x v c h e = rw (e, lt-leb x top (omega (arith, c.under)))
 
-  pub one-other : ts ≡ other ∷ rest → one top code ts ≡ bad 30
+  pub one_other : ts ≡ other ∷ rest → one top code ts ≡ bad 30
   unfolding one
-  one-other e = rw e
+  one_other e = rw e
 
 pub one_none : (top code : ℕ) (ts : List Token) → ts ≡ [] → one top code ts ≡ bad 30
 unfolding one

@@ -9,9 +9,9 @@ use Rattle.texts.specs.Tokens.{blank, Token, number, other, more, tokens}
 use Rattle.texts.specs.Readings.{Read, bad, good}
 
 -- the tokens of a text that goes on inside the token w
-unfoldable pub tokensInside : Token → List ℕ → List Token
-tokensInside w [] = w ∷ []
-tokensInside w (b ∷ s) = cond (blank b) (w ∷ tokens s) (tokensInside (more w b) s)
+unfoldable pub tokens_inside : Token → List ℕ → List Token
+tokens_inside w [] = w ∷ []
+tokens_inside w (b ∷ s) = cond (blank b) (w ∷ tokens s) (tokens_inside (more w b) s)
 
 -- from `at` to `to` there are blanks alone, and none stands at `to`
 pub record Skipped (s : List ℕ) (at to : ℕ) : Type 0 where

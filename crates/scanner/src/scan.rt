@@ -1,7 +1,7 @@
 // From byte to token.
 ghost use Rattle.std.specs.Prelude.{◌≡◌, true, ℕ, ◌+◌, ◌-◌, ◌*◌, ◌≤◌, drop};
 ghost use Rattle.texts.specs.Tokens.{blank, digit, number, tokens};
-ghost use Rattle.scanner.specs.Scan.{Skipped, held, Capped, Heads, tokensInside};
+ghost use Rattle.scanner.specs.Scan.{Skipped, held, Capped, Heads, tokens_inside};
 
 // What is held of a number at most; `held` in specs/ says why.
 const HELD: u64 = 4294967296;
@@ -68,7 +68,7 @@ fn with_digit(v: u64, b: u8) -> u64
 
 // The token that starts at `at`.
 fn token_at(text: &[u8], at: usize) -> Next
-    ensures { Heads (tokensInside (number 0) (drop at text.now)) text.now result }
+    ensures { Heads (tokens_inside (number 0) (drop at text.now)) text.now result }
 {
     let mut v: u64 = 0;
     let mut i = at;

@@ -2,7 +2,7 @@
 ghost use Rattle.std.specs.Prelude.{◌≡◌, not, [], leb, length};
 ghost use Rattle.lists.specs.Tests.{both};
 ghost use Rattle.narrowing.specs.Windows.{win};
-ghost use Rattle.joblist.specs.Limits.{mostDemand, fourLists, threeLists, twoLists, supply};
+ghost use Rattle.joblist.specs.Limits.{most_demand, four_lists, three_lists, two_lists, supply};
 ghost use Rattle.joblist.specs.GoodList.{at_most, within, refusal};
 
 use minmax::greater;
@@ -34,7 +34,7 @@ fn above(list: &[u32], most: u32) -> bool
 
 // Test 3 of the demands and the capacity.
 fn overdrawn(dem: &[u32], cap: u32) -> bool
-    ensures { result ≡ not (both (at_most mostDemand dem.now) (leb cap mostDemand)) }
+    ensures { result ≡ not (both (at_most most_demand dem.now) (leb cap most_demand)) }
 {
     if above(dem, MOST_DEMAND) {
         return true;
@@ -44,7 +44,7 @@ fn overdrawn(dem: &[u32], cap: u32) -> bool
 
 // Test 3 of windows and durations.
 fn too_late(est: &[u32], lct: &[u32], dur: &[u32]) -> bool
-    ensures { result ≡ not (within (threeLists (win est.now lct.now) dur.now)) }
+    ensures { result ≡ not (within (three_lists (win est.now lct.now) dur.now)) }
 {
     if above(est, MOST_TIME) {
         return true;
@@ -57,7 +57,7 @@ fn too_late(est: &[u32], lct: &[u32], dur: &[u32]) -> bool
 
 // The number of the first test that a list of windows and durations fails, and 0 where it is good.
 pub fn refusal_of_three(est: &[u32], lct: &[u32], dur: &[u32]) -> u32
-    ensures { result ≡ refusal (length est.now) (threeLists (win est.now lct.now) dur.now) [] }
+    ensures { result ≡ refusal (length est.now) (three_lists (win est.now lct.now) dur.now) [] }
 {
     if lct.len() != est.len() {
         return 1;
@@ -76,7 +76,7 @@ pub fn refusal_of_three(est: &[u32], lct: &[u32], dur: &[u32]) -> u32
 
 // The same of a list with demands and a capacity.
 pub fn refusal(est: &[u32], lct: &[u32], dur: &[u32], dem: &[u32], cap: u32) -> u32
-    ensures { result ≡ refusal (length est.now) (fourLists (win est.now lct.now) dur.now dem.now) (supply cap) }
+    ensures { result ≡ refusal (length est.now) (four_lists (win est.now lct.now) dur.now dem.now) (supply cap) }
 {
     if dem.len() != est.len() {
         return 1;
@@ -93,7 +93,7 @@ pub fn refusal(est: &[u32], lct: &[u32], dur: &[u32], dem: &[u32], cap: u32) -> 
 
 // The same of a list of durations and demands alone, with a capacity.
 pub fn refusal_of_two(dur: &[u32], dem: &[u32], cap: u32) -> u32
-    ensures { result ≡ refusal (length dur.now) (twoLists dur.now dem.now) (supply cap) }
+    ensures { result ≡ refusal (length dur.now) (two_lists dur.now dem.now) (supply cap) }
 {
     if dem.len() != dur.len() {
         return 1;

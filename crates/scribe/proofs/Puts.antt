@@ -18,8 +18,8 @@ pasted_length at t b h =
     ∙ rw (length-append t (drop (at + length t) b), length-drop (at + length t) b, length-take-le at b (omega arith)) (omega arith)
 
 -- pasted behind what was pasted
-pasted-twice : (at : ℕ) (t u b : List ℕ) → at + length t ≤ length b → pasted (at + length t) u (pasted at t b) ≡ pasted at (t ++ u) b
-pasted-twice at t u b h =
+pasted_twice : (at : ℕ) (t u b : List ℕ) → at + length t ≤ length b → pasted (at + length t) u (pasted at t b) ≡ pasted at (t ++ u) b
+pasted_twice at t u b h =
     let f : length (take at b) ≡ at = length-take-le at b (omega arith) in
     let l : length (take at b ++ t) ≡ at + length t = length-append (take at b) t ∙ ap (λ (m : ℕ). m + length t) f in
     let p : pasted at t b ≡ (take at b ++ t) ++ drop (at + length t) b = sym (append_assoc (take at b) t (drop (at + length t) b)) in
@@ -40,8 +40,8 @@ put_byte dry at a b e h = record { place = omega arith; bytes = rw e (stored at 
 -- ---- put one after the other
 
 module _ {dry : Bool} {at : ℕ} (t u : List ℕ) {b : List ℕ} where
-  pub room-front : RoomFor dry at (t ++ u) b → RoomFor dry at t b
-  room-front h = let l = length-append t u in record { few = omega (arith, h.few); room = λ e. omega (arith, h.room e) }
+  pub room_front : RoomFor dry at (t ++ u) b → RoomFor dry at t b
+  room_front h = let l = length-append t u in record { few = omega (arith, h.few); room = λ e. omega (arith, h.room e) }
 
   module _ {b' : List ℕ} {r : ℕ} where
     pub room_back : RoomFor dry at (t ++ u) b → Put dry at t b b' r → RoomFor dry r u b'
@@ -57,15 +57,15 @@ module _ {dry : Bool} {at : ℕ} (t u : List ℕ) {b : List ℕ} where
       where
         go : (d : Bool) → dry ≡ d → b'' ≡ cond d b (pasted at (t ++ u) b)
         go true e = (q.bytes ∙ rw e) ∙ (p.bytes ∙ rw e)
-        go false e = (q.bytes ∙ rw (e, p.bytes, e, p.place)) ∙ pasted-twice at t u b (h.room e)
+        go false e = (q.bytes ∙ rw (e, p.bytes, e, p.place)) ∙ pasted_twice at t u b (h.room e)
 
 -- room for the same bytes at the same place
-pub room-same : {dry : Bool} {at at' : ℕ} {t t' b : List ℕ} → RoomFor dry at t b → at' ≡ at → t' ≡ t → RoomFor dry at' t' b
-room-same h p q = rw (p, q) h
+pub room_same : {dry : Bool} {at at' : ℕ} {t t' b : List ℕ} → RoomFor dry at t b → at' ≡ at → t' ≡ t → RoomFor dry at' t' b
+room_same h p q = rw (p, q) h
 
 -- nothing
-put-none : (dry : Bool) (at : ℕ) (b : List ℕ) → Put dry at [] b b at
-put-none dry at b = record { place = omega arith; bytes = go dry }
+put_none : (dry : Bool) (at : ℕ) (b : List ℕ) → Put dry at [] b b at
+put_none dry at b = record { place = omega arith; bytes = go dry }
   where
     go : (d : Bool) → b ≡ cond d b (pasted at [] b)
     go true = refl
@@ -79,7 +79,7 @@ pub record Going (dry : Bool) (start : ℕ) (whole b b' : List ℕ) (at : ℕ) (
   pub put : Put dry start front b b' at
 
 pub going_start : (dry : Bool) (at : ℕ) (t b : List ℕ) → Going dry at t b b at t
-going_start dry at t b = record { front = []; split = refl; put = put-none dry at b }
+going_start dry at t b = record { front = []; split = refl; put = put_none dry at b }
 
 module _ {dry : Bool} {start : ℕ} {whole b b' : List ℕ} {at : ℕ} {left : List ℕ} where
   module _ (t rest : List ℕ) (e : left ≡ t ++ rest) (h : RoomFor dry start whole b) (g : Going dry start whole b b' at left) where
@@ -87,8 +87,8 @@ module _ {dry : Bool} {start : ℕ} {whole b b' : List ℕ} {at : ℕ} {left : L
     all_room = rw (← e, ← g.split) h
 
     -- room for what comes next
-    pub going-room : RoomFor dry at t b'
-    going-room = room-front t rest (room_back g.front (t ++ rest) all_room g.put)
+    pub going_room : RoomFor dry at t b'
+    going_room = room_front t rest (room_back g.front (t ++ rest) all_room g.put)
 
     -- and then that put
     pub going_step : {b'' : List ℕ} {r : ℕ} → Put dry at t b' b'' r → Going dry start whole b b'' r rest
@@ -96,7 +96,7 @@ module _ {dry : Bool} {start : ℕ} {whole b b' : List ℕ} {at : ℕ} {left : L
         record {
           front = g.front ++ t;
           split = g.split ∙ rw e (sym (append_assoc g.front t rest));
-          put = put_then g.front t (room-front g.front (t ++ rest) all_room) g.put p;
+          put = put_then g.front t (room_front g.front (t ++ rest) all_room) g.put p;
         }
 
   pub going_end : left ≡ [] → Going dry start whole b b' at left → Put dry start whole b b' at
@@ -108,29 +108,29 @@ pub record Parts (t u v w whole : List ℕ) : Type 0 where
   pub joined : whole ≡ t ++ (u ++ (v ++ w))
 
 module _ {dry : Bool} {at : ℕ} {t u v w whole b : List ℕ} (e : Parts t u v w whole) (h : RoomFor dry at whole b) where
-  pub first-room : RoomFor dry at t b
-  first-room = going-room t (u ++ (v ++ w)) e.joined h (going_start dry at whole b)
+  pub first_room : RoomFor dry at t b
+  first_room = going_room t (u ++ (v ++ w)) e.joined h (going_start dry at whole b)
 
   module _ {b₁ : List ℕ} {r₁ : ℕ} (p₁ : Put dry at t b b₁ r₁) where
-    first-going : Going dry at whole b b₁ r₁ (u ++ (v ++ w))
-    first-going = going_step t (u ++ (v ++ w)) e.joined h (going_start dry at whole b) p₁
+    first_going : Going dry at whole b b₁ r₁ (u ++ (v ++ w))
+    first_going = going_step t (u ++ (v ++ w)) e.joined h (going_start dry at whole b) p₁
 
-    pub second-room : RoomFor dry r₁ u b₁
-    second-room = going-room u (v ++ w) refl h first-going
+    pub second_room : RoomFor dry r₁ u b₁
+    second_room = going_room u (v ++ w) refl h first_going
 
     module _ {b₂ : List ℕ} {r₂ : ℕ} (p₂ : Put dry r₁ u b₁ b₂ r₂) where
-      second-going : Going dry at whole b b₂ r₂ (v ++ w)
-      second-going = going_step u (v ++ w) refl h first-going p₂
+      second_going : Going dry at whole b b₂ r₂ (v ++ w)
+      second_going = going_step u (v ++ w) refl h first_going p₂
 
-      pub third-room : RoomFor dry r₂ v b₂
-      third-room = going-room v w refl h second-going
+      pub third_room : RoomFor dry r₂ v b₂
+      third_room = going_room v w refl h second_going
 
       module _ {b₃ : List ℕ} {r₃ : ℕ} (p₃ : Put dry r₂ v b₂ b₃ r₃) where
-        third-going : Going dry at whole b b₃ r₃ w
-        third-going = going_step v w refl h second-going p₃
+        third_going : Going dry at whole b b₃ r₃ w
+        third_going = going_step v w refl h second_going p₃
 
-        pub fourth-room : RoomFor dry r₃ w b₃
-        fourth-room = going-room w [] (sym (append-nil w)) h third-going
+        pub fourth_room : RoomFor dry r₃ w b₃
+        fourth_room = going_room w [] (sym (append-nil w)) h third_going
 
-        pub all-put : {b₄ : List ℕ} {r₄ : ℕ} → Put dry r₃ w b₃ b₄ r₄ → Put dry at whole b b₄ r₄
-        all-put p₄ = going_end refl (going_step w [] (sym (append-nil w)) h third-going p₄)
+        pub all_put : {b₄ : List ℕ} {r₄ : ℕ} → Put dry r₃ w b₃ b₄ r₄ → Put dry at whole b b₄ r₄
+        all_put p₄ = going_end refl (going_step w [] (sym (append-nil w)) h third_going p₄)

@@ -9,50 +9,50 @@ use lib.Dec.{eqb, leb}
 use lib.ListN.{length}
 use borrow.Author.Tests.{eqb-true, eqb-false, leb-true, leb-false, ne_eqb, le-leb, lt-leb}
 use Rattle.lists.specs.Lists.{Every}
-use Rattle.joblist.specs.Limits.{mostTime, mostDemand, mostJobs}
+use Rattle.joblist.specs.Limits.{most_time, most_demand, most_jobs}
 use Rattle.chains.specs.Paths.{Pair, pair}
 use Rattle.chains.specs.Listed.{paired, Rising}
-use Rattle.projects.specs.Projects.{tagged, pairsFrom, pairsOf, durations, demandsOn}
+use Rattle.projects.specs.Projects.{tagged, pairs_from, pairs_of, durations, demands_on}
 use Rattle.projects.specs.Patterson.{patterson}
 use Rattle.texts.specs.Readings.{good}
-use Rattle.projects.specs.Form.{projectText}
-use Rattle.projects.specs.Made.{successorsOf, rows_from, made}
+use Rattle.projects.specs.Form.{project_text}
+use Rattle.projects.specs.Made.{successors_of, rows_from, made}
 use Rattle.scribe.proofs.Writable.{WritableRow, Writable}
 use Rattle.scribe.proofs.Back.{read_back}
-use Rattle.lists.proofs.Every.{every_map, Climbs, climb-few}
-use Rattle.scribe.proofs.Pairs.{Before, Ups, rising-ups, ups-range}
+use Rattle.lists.proofs.Every.{every_map, Climbs, climb_few}
+use Rattle.scribe.proofs.Pairs.{Before, Ups, rising_ups, ups_range}
 
 -- ---- the successors of one job
 
 -- what holds of the pairs of job j holds of its successors
-of-every : (Q : Pair → Type 0) (P : ℕ → Type 0) (j : ℕ) → ((x : Pair) → x.job ≡ j → Q x → P x.successor) → (ps : List Pair) → Every Q ps → Every P (successorsOf j ps)
-unfolding successorsOf
-of-every Q P j f [] h = tt
-of-every Q P j f (x ∷ ps) h = go (eqb x.job j) refl (of-every Q P j f ps h.1)
+of_every : (Q : Pair → Type 0) (P : ℕ → Type 0) (j : ℕ) → ((x : Pair) → x.job ≡ j → Q x → P x.successor) → (ps : List Pair) → Every Q ps → Every P (successors_of j ps)
+unfolding successors_of
+of_every Q P j f [] h = tt
+of_every Q P j f (x ∷ ps) h = go (eqb x.job j) refl (of_every Q P j f ps h.1)
   where
-    go : (t : Bool) → eqb x.job j ≡ t → Every P (successorsOf j ps) → Every P (cond t (x.successor ∷ successorsOf j ps) (successorsOf j ps))
+    go : (t : Bool) → eqb x.job j ≡ t → Every P (successors_of j ps) → Every P (cond t (x.successor ∷ successors_of j ps) (successors_of j ps))
     go true e q = (f x (eqb-true x.job j e) h.0, q)
     go false e q = q
 
-of-climb : (n j : ℕ) (ps : List Pair) → Ups n ps → Climbs (λ s. s) (successorsOf j ps)
-unfolding successorsOf
-of-climb n j [] h = tt
-of-climb n j (x ∷ ps) h = go (eqb x.job j) refl (of-climb n j ps h.2)
+of_climb : (n j : ℕ) (ps : List Pair) → Ups n ps → Climbs (λ s. s) (successors_of j ps)
+unfolding successors_of
+of_climb n j [] h = tt
+of_climb n j (x ∷ ps) h = go (eqb x.job j) refl (of_climb n j ps h.2)
   where
     less : (y : Pair) → x.job ≡ j → y.job ≡ j → Before x y → x.successor < y.successor
     less y p q (inl b) = absurd (omega arith)
     less y p q (inr b) = b.1
 
-    go : (t : Bool) → eqb x.job j ≡ t → Climbs (λ s. s) (successorsOf j ps) → Climbs (λ s. s) (cond t (x.successor ∷ successorsOf j ps) (successorsOf j ps))
-    go true e q = (of-every (Before x) (λ s. x.successor < s) j (λ y. less y (eqb-true x.job j e)) ps h.1, q)
+    go : (t : Bool) → eqb x.job j ≡ t → Climbs (λ s. s) (successors_of j ps) → Climbs (λ s. s) (cond t (x.successor ∷ successors_of j ps) (successors_of j ps))
+    go true e q = (of_every (Before x) (λ s. x.successor < s) j (λ y. less y (eqb-true x.job j e)) ps h.1, q)
     go false e q = q
 
-pub of-below : (n j : ℕ) (ps : List Pair) → Ups n ps → Every (λ s. s < n) (successorsOf j ps)
-of-below n j ps h = of-every (λ x. (x.job < n) × (x.successor < n)) (λ s. s < n) j (λ x e q. q.1) ps (ups-range n ps h)
+pub of_below : (n j : ℕ) (ps : List Pair) → Ups n ps → Every (λ s. s < n) (successors_of j ps)
+of_below n j ps h = of_every (λ x. (x.job < n) × (x.successor < n)) (λ s. s < n) j (λ x e q. q.1) ps (ups_range n ps h)
 
 -- no more than there are jobs
-pub of-few : (n j : ℕ) (ps : List Pair) → Ups n ps → length (successorsOf j ps) ≤ n
-of-few n j ps h = climb-few (λ s. s) n (successorsOf j ps) (of-climb n j ps h) (of-below n j ps h)
+pub of_few : (n j : ℕ) (ps : List Pair) → Ups n ps → length (successors_of j ps) ≤ n
+of_few n j ps h = climb_few (λ s. s) n (successors_of j ps) (of_climb n j ps h) (of_below n j ps h)
 
 -- ---- the pairs back
 
@@ -61,25 +61,25 @@ from : ℕ → List Pair → List Pair
 from j [] = []
 from j (x ∷ ps) = cond (leb j x.job) (x ∷ from j ps) (from j ps)
 
-of_none : (j : ℕ) (ps : List Pair) → Every (λ y. j < y.job) ps → successorsOf j ps ≡ []
-unfolding successorsOf
+of_none : (j : ℕ) (ps : List Pair) → Every (λ y. j < y.job) ps → successors_of j ps ≡ []
+unfolding successors_of
 of_none j [] h = refl
 of_none j (x ∷ ps) h = rw (ne_eqb x.job j (λ e. omega (arith, h.0))) (of_none j ps h.1)
 
 -- those of j, then those of the jobs behind it
-from-split : (n j : ℕ) (ps : List Pair) → Ups n ps → from j ps ≡ tagged j (successorsOf j ps) ++ from (suc j) ps
-unfolding successorsOf from
-from-split n j [] h = refl
-from-split n j (x ∷ ps) h = go (leb j x.job) (eqb x.job j) (leb (suc j) x.job) refl refl refl (from-split n j ps h.2)
+from_split : (n j : ℕ) (ps : List Pair) → Ups n ps → from j ps ≡ tagged j (successors_of j ps) ++ from (suc j) ps
+unfolding successors_of from
+from_split n j [] h = refl
+from_split n j (x ∷ ps) h = go (leb j x.job) (eqb x.job j) (leb (suc j) x.job) refl refl refl (from_split n j ps h.2)
   where
     later : (y : Pair) → j < x.job → Before x y → j < y.job
     later y l (inl b) = omega arith
     later y l (inr b) = omega arith
 
-    go : (a b d : Bool) → leb j x.job ≡ a → eqb x.job j ≡ b → leb (suc j) x.job ≡ d → from j ps ≡ tagged j (successorsOf j ps) ++ from (suc j) ps
-        → cond a (x ∷ from j ps) (from j ps) ≡ tagged j (cond b (x.successor ∷ successorsOf j ps) (successorsOf j ps)) ++ cond d (x ∷ from (suc j) ps) (from (suc j) ps)
+    go : (a b d : Bool) → leb j x.job ≡ a → eqb x.job j ≡ b → leb (suc j) x.job ≡ d → from j ps ≡ tagged j (successors_of j ps) ++ from (suc j) ps
+        → cond a (x ∷ from j ps) (from j ps) ≡ tagged j (cond b (x.successor ∷ successors_of j ps) (successors_of j ps)) ++ cond d (x ∷ from (suc j) ps) (from (suc j) ps)
     go true true true p q r e = absurd (omega (arith, eqb-true x.job j q, leb-true (suc j) x.job r))
-    go true true false p q r e = let z : x ≡ pair j x.successor = rw (← eqb-true x.job j q) in rw e (ap (λ (y : Pair). y ∷ (tagged j (successorsOf j ps) ++ from (suc j) ps)) z)
+    go true true false p q r e = let z : x ≡ pair j x.successor = rw (← eqb-true x.job j q) in rw e (ap (λ (y : Pair). y ∷ (tagged j (successors_of j ps) ++ from (suc j) ps)) z)
     go true false true p q r e =
         let none = of_none j ps (every_map (Before x) (λ y. j < y.job) (λ y. later y (leb-true (suc j) x.job r)) ps h.1) in
         rw (e, none)
@@ -93,68 +93,68 @@ unfolding from
 from_all [] = refl
 from_all (x ∷ ps) = rw (le-leb 0 x.job (omega arith), from_all ps)
 
-from-none : (n : ℕ) (ps : List Pair) → Ups n ps → from n ps ≡ []
+from_none : (n : ℕ) (ps : List Pair) → Ups n ps → from n ps ≡ []
 unfolding from
-from-none n [] h = refl
-from-none n (x ∷ ps) h = rw (lt-leb n x.job h.0.0) (from-none n ps h.2)
+from_none n [] h = refl
+from_none n (x ∷ ps) h = rw (lt-leb n x.job h.0.0) (from_none n ps h.2)
 
-rows-pairs : (n j : ℕ) (ds qs : List ℕ) (ps : List Pair) → Ups n ps → length ds ≡ length qs → j + length ds ≡ n → pairsFrom j (rows_from j ds qs ps) ≡ from j ps
-unfolding pairsFrom rows_from
-rows-pairs n j [] qs ps h e l = let z : j ≡ n = omega arith in rw z (sym (from-none n ps h))
-rows-pairs n j (d ∷ ds) [] ps h e l = absurd (omega arith)
-rows-pairs n j (d ∷ ds) (q ∷ qs) ps h e l = rw (rows-pairs n (suc j) ds qs ps h (omega arith) (omega arith)) (sym (from-split n j ps h))
+rows_pairs : (n j : ℕ) (ds qs : List ℕ) (ps : List Pair) → Ups n ps → length ds ≡ length qs → j + length ds ≡ n → pairs_from j (rows_from j ds qs ps) ≡ from j ps
+unfolding pairs_from rows_from
+rows_pairs n j [] qs ps h e l = let z : j ≡ n = omega arith in rw z (sym (from_none n ps h))
+rows_pairs n j (d ∷ ds) [] ps h e l = absurd (omega arith)
+rows_pairs n j (d ∷ ds) (q ∷ qs) ps h e l = rw (rows_pairs n (suc j) ds qs ps h (omega arith) (omega arith)) (sym (from_split n j ps h))
 
 -- ---- durations, demands, and how many rows
 
-pub rows-durations : (j : ℕ) (ds qs : List ℕ) (ps : List Pair) → length ds ≡ length qs → durations (rows_from j ds qs ps) ≡ ds
+pub rows_durations : (j : ℕ) (ds qs : List ℕ) (ps : List Pair) → length ds ≡ length qs → durations (rows_from j ds qs ps) ≡ ds
 unfolding rows_from
-rows-durations j [] qs ps e = refl
-rows-durations j (d ∷ ds) [] ps e = absurd (omega arith)
-rows-durations j (d ∷ ds) (q ∷ qs) ps e = ap (λ (xs : List ℕ). d ∷ xs) (rows-durations (suc j) ds qs ps (omega arith))
+rows_durations j [] qs ps e = refl
+rows_durations j (d ∷ ds) [] ps e = absurd (omega arith)
+rows_durations j (d ∷ ds) (q ∷ qs) ps e = ap (λ (xs : List ℕ). d ∷ xs) (rows_durations (suc j) ds qs ps (omega arith))
 
-pub rows-demands : (j : ℕ) (ds qs : List ℕ) (ps : List Pair) → length ds ≡ length qs → demandsOn 0 (rows_from j ds qs ps) ≡ qs
+pub rows_demands : (j : ℕ) (ds qs : List ℕ) (ps : List Pair) → length ds ≡ length qs → demands_on 0 (rows_from j ds qs ps) ≡ qs
 unfolding rows_from
-rows-demands j [] [] ps e = refl
-rows-demands j [] (q ∷ qs) ps e = absurd (omega arith)
-rows-demands j (d ∷ ds) [] ps e = absurd (omega arith)
-rows-demands j (d ∷ ds) (q ∷ qs) ps e = ap (λ (xs : List ℕ). q ∷ xs) (rows-demands (suc j) ds qs ps (omega arith))
+rows_demands j [] [] ps e = refl
+rows_demands j [] (q ∷ qs) ps e = absurd (omega arith)
+rows_demands j (d ∷ ds) [] ps e = absurd (omega arith)
+rows_demands j (d ∷ ds) (q ∷ qs) ps e = ap (λ (xs : List ℕ). q ∷ xs) (rows_demands (suc j) ds qs ps (omega arith))
 
-pub rows-length : (j : ℕ) (ds qs : List ℕ) (ps : List Pair) → length ds ≡ length qs → length (rows_from j ds qs ps) ≡ length ds
+pub rows_length : (j : ℕ) (ds qs : List ℕ) (ps : List Pair) → length ds ≡ length qs → length (rows_from j ds qs ps) ≡ length ds
 unfolding rows_from
-rows-length j [] qs ps e = refl
-rows-length j (d ∷ ds) [] ps e = absurd (omega arith)
-rows-length j (d ∷ ds) (q ∷ qs) ps e = ap suc (rows-length (suc j) ds qs ps (omega arith))
+rows_length j [] qs ps e = refl
+rows_length j (d ∷ ds) [] ps e = absurd (omega arith)
+rows_length j (d ∷ ds) (q ∷ qs) ps e = ap suc (rows_length (suc j) ds qs ps (omega arith))
 
-rows-writable : (n j : ℕ) (ds qs : List ℕ) (ps : List Pair) → Ups n ps → Every (λ x. x ≤ mostTime) ds → Every (λ x. x ≤ mostDemand) qs → Every (WritableRow n 1) (rows_from j ds qs ps)
+rows_writable : (n j : ℕ) (ds qs : List ℕ) (ps : List Pair) → Ups n ps → Every (λ x. x ≤ most_time) ds → Every (λ x. x ≤ most_demand) qs → Every (WritableRow n 1) (rows_from j ds qs ps)
 unfolding rows_from
-rows-writable n j [] qs ps h a b = tt
-rows-writable n j (d ∷ ds) [] ps h a b = tt
-rows-writable n j (d ∷ ds) (q ∷ qs) ps h a b =
-    (record { duration = a.0; demand-each = refl; demands = (b.0, tt); few = of-few n j ps h; successors = of-below n j ps h }, rows-writable n (suc j) ds qs ps h a.1 b.1)
+rows_writable n j [] qs ps h a b = tt
+rows_writable n j (d ∷ ds) [] ps h a b = tt
+rows_writable n j (d ∷ ds) (q ∷ qs) ps h a b =
+    (record { duration = a.0; demand_each = refl; demands = (b.0, tt); few = of_few n j ps h; successors = of_below n j ps h }, rows_writable n (suc j) ds qs ps h a.1 b.1)
 
 -- ---- the project that is made
 
 module _ (n cap : ℕ) (durs dems js ss : List ℕ) (h : Rising n js ss) (e : length js ≡ length ss) (a : length durs ≡ n) (b : length dems ≡ n) where
-  pub pairs-back : pairsOf (made cap durs dems (paired js ss)) ≡ paired js ss
-  pairs-back = rows-pairs n 0 durs dems (paired js ss) (rising-ups n js ss h e) (omega arith) (omega arith) ∙ from_all (paired js ss)
+  pub pairs_back : pairs_of (made cap durs dems (paired js ss)) ≡ paired js ss
+  pairs_back = rows_pairs n 0 durs dems (paired js ss) (rising_ups n js ss h e) (omega arith) (omega arith) ∙ from_all (paired js ss)
 
-  pub durations-back : durations (made cap durs dems (paired js ss)).rows ≡ durs
-  durations-back = rows-durations 0 durs dems (paired js ss) (omega arith)
+  pub durations_back : durations (made cap durs dems (paired js ss)).rows ≡ durs
+  durations_back = rows_durations 0 durs dems (paired js ss) (omega arith)
 
-  pub demands-back : demandsOn 0 (made cap durs dems (paired js ss)).rows ≡ dems
-  demands-back = rows-demands 0 durs dems (paired js ss) (omega arith)
+  pub demands_back : demands_on 0 (made cap durs dems (paired js ss)).rows ≡ dems
+  demands_back = rows_demands 0 durs dems (paired js ss) (omega arith)
 
-  pub made-writable : n ≤ mostJobs → cap ≤ mostDemand → Every (λ x. x ≤ mostTime) durs → Every (λ x. x ≤ mostDemand) dems → Writable (made cap durs dems (paired js ss))
-  made-writable few c p q =
-      let m : length (rows_from 0 durs dems (paired js ss)) ≡ n = rows-length 0 durs dems (paired js ss) (omega arith) ∙ a in
+  pub made_writable : n ≤ most_jobs → cap ≤ most_demand → Every (λ x. x ≤ most_time) durs → Every (λ x. x ≤ most_demand) dems → Writable (made cap durs dems (paired js ss))
+  made_writable few c p q =
+      let m : length (rows_from 0 durs dems (paired js ss)) ≡ n = rows_length 0 durs dems (paired js ss) (omega arith) ∙ a in
       record {
         jobs = omega (arith, m);
         resources = omega arith;
         capacities = (c, tt);
-        rows = rw m (rows-writable n 0 durs dems (paired js ss) (rising-ups n js ss h e) p q);
+        rows = rw m (rows_writable n 0 durs dems (paired js ss) (rising_ups n js ss h e) p q);
       }
 
   -- what the reader gives back of it
-  pub made-back : n ≤ mostJobs → cap ≤ mostDemand → Every (λ x. x ≤ mostTime) durs → Every (λ x. x ≤ mostDemand) dems
-      → patterson (projectText (made cap durs dems (paired js ss))) ≡ good (made cap durs dems (paired js ss)) []
-  made-back few c p q = read_back (made cap durs dems (paired js ss)) (made-writable few c p q)
+  pub made_back : n ≤ most_jobs → cap ≤ most_demand → Every (λ x. x ≤ most_time) durs → Every (λ x. x ≤ most_demand) dems
+      → patterson (project_text (made cap durs dems (paired js ss))) ≡ good (made cap durs dems (paired js ss)) []
+  made_back few c p q = read_back (made cap durs dems (paired js ss)) (made_writable few c p q)

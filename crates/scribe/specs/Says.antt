@@ -3,12 +3,12 @@
 use Rattle.std.specs.Prelude.{ℕ, suc, ◌+◌, ◌*◌, ◌≤◌, ◌<◌, ◌≡◌, Bool, false, cond, List, [], ◌∷◌, ◌++◌, map, ltb, length, take, drop}
 use Rattle.std.proofs.Math.Seq.{slice}
 use Rattle.lists.specs.Lists.{◌!◌}
-use Rattle.joblist.specs.Limits.{mostJobs}
+use Rattle.joblist.specs.Limits.{most_jobs}
 use Rattle.projects.specs.Form.{line_of}
 
 -- no text that we write has more bytes than this: eleven at most for a number and the byte behind it (proofs/Counts.antt)
-abbrev pub mostBytes : ℕ
-mostBytes = 100 + 34 * mostJobs + 11 * (mostJobs * mostJobs)
+abbrev pub most_bytes : ℕ
+most_bytes = 100 + 34 * most_jobs + 11 * (most_jobs * most_jobs)
 
 -- the bytes t from the place `at` on, all others as in the buffer
 abbrev pub pasted : ℕ → List ℕ → List ℕ → List ℕ
@@ -21,7 +21,7 @@ pub record Put (dry : Bool) (at : ℕ) (t buffer after : List ℕ) (r : ℕ) : T
 
 -- the bytes t from the place `at` on can be counted, and have room where they are written
 pub record RoomFor (dry : Bool) (at : ℕ) (t buffer : List ℕ) : Type 0 where
-  pub few : at + length t ≤ mostBytes
+  pub few : at + length t ≤ most_bytes
   pub room : dry ≡ false → at + length t ≤ length buffer
 
 -- from place i to place r there is job j alone, and at r it is not
@@ -41,12 +41,12 @@ rest_of [] = []
 rest_of (v ∷ vs) = line_of (v ∷ vs)
 
 -- the successors from one place of their list to another, numbered from 1
-abbrev pub fromOne : List ℕ → ℕ → ℕ → List ℕ
-fromOne ss from to = map suc (slice from to ss)
+abbrev pub from_one : List ℕ → ℕ → ℕ → List ℕ
+from_one ss from to = map suc (slice from to ss)
 
 -- a part of the list of successors: there are not too many to be counted, and each is a job's number
 pub record Stretch (ss : List ℕ) (from to : ℕ) : Type 0 where
   pub order : from ≤ to
   pub within : to ≤ length ss
-  pub few : to ≤ mostJobs * mostJobs
-  pub below : (k : ℕ) → k < to → ss ! k < mostJobs
+  pub few : to ≤ most_jobs * most_jobs
+  pub below : (k : ℕ) → k < to → ss ! k < most_jobs

@@ -1,9 +1,9 @@
 // The lines of the jobs. The pairs are passed over once: as they rise, those of a job stand side by side.
 ghost use Rattle.std.specs.Prelude.{◌∷◌, ◌-◌, ◌≤◌, length};
 ghost use Rattle.chains.specs.Listed.{paired};
-ghost use Rattle.projects.specs.Form.{line_of, jobLines};
+ghost use Rattle.projects.specs.Form.{line_of, job_lines};
 ghost use Rattle.projects.specs.Made.{rows_from};
-ghost use Rattle.scribe.specs.Says.{RoomFor, Put, RunEnds, Marked, rest_of, fromOne, Stretch};
+ghost use Rattle.scribe.specs.Says.{RoomFor, Put, RunEnds, Marked, rest_of, from_one, Stretch};
 ghost use Rattle.scribe.specs.Writing.{Ready};
 
 use crate::marks::put;
@@ -42,8 +42,8 @@ fn put_successors(
     at: usize,
     buffer: &mut [u8],
 ) -> usize
-    requires { Stretch successors.now from to × RoomFor dry at (rest_of (fromOne successors.now from to)) buffer.old }
-    ensures { Put dry at (rest_of (fromOne successors.now from to)) buffer.old buffer.new result }
+    requires { Stretch successors.now from to × RoomFor dry at (rest_of (from_one successors.now from to)) buffer.old }
+    ensures { Put dry at (rest_of (from_one successors.now from to)) buffer.old buffer.new result }
 {
     let mut i = from;
     let mut place = at;
@@ -65,8 +65,8 @@ fn put_job(
     at: usize,
     buffer: &mut [u8],
 ) -> usize
-    requires { Stretch successors.now from to × RoomFor dry at (line_of (d ∷ q ∷ (to - from) ∷ fromOne successors.now from to)) buffer.old }
-    ensures { Put dry at (line_of (d ∷ q ∷ (to - from) ∷ fromOne successors.now from to)) buffer.old buffer.new result }
+    requires { Stretch successors.now from to × RoomFor dry at (line_of (d ∷ q ∷ (to - from) ∷ from_one successors.now from to)) buffer.old }
+    ensures { Put dry at (line_of (d ∷ q ∷ (to - from) ∷ from_one successors.now from to)) buffer.old buffer.new result }
 {
     let a = put(dry, d, b' ', at, buffer);
     let b = put(dry, q, b' ', a, buffer);
@@ -84,8 +84,8 @@ pub fn put_jobs(
     at: usize,
     buffer: &mut [u8],
 ) -> usize
-    requires { Ready dur.now dem.now jobs.now successors.now × RoomFor dry at (jobLines (rows_from 0 dur.now dem.now (paired jobs.now successors.now))) buffer.old }
-    ensures { Put dry at (jobLines (rows_from 0 dur.now dem.now (paired jobs.now successors.now))) buffer.old buffer.new result }
+    requires { Ready dur.now dem.now jobs.now successors.now × RoomFor dry at (job_lines (rows_from 0 dur.now dem.now (paired jobs.now successors.now))) buffer.old }
+    ensures { Put dry at (job_lines (rows_from 0 dur.now dem.now (paired jobs.now successors.now))) buffer.old buffer.new result }
 {
     let mut j = 0;
     let mut i = 0;

@@ -4,7 +4,7 @@ mod marks;
 
 ghost use Rattle.std.specs.Prelude.{◌≡◌, false, ◌≤◌, length};
 ghost use Rattle.chains.specs.Listed.{paired};
-ghost use Rattle.projects.specs.Form.{projectText};
+ghost use Rattle.projects.specs.Form.{project_text};
 ghost use Rattle.projects.specs.Made.{made};
 ghost use Rattle.scribe.specs.Writing.{Ready, Ran, OutcomeSays};
 
@@ -49,7 +49,7 @@ fn put_project(
     buffer: &mut [u8],
 ) -> usize
     requires ready { Ready dur.now dem.now jobs.now successors.now }
-    requires successors_in_bounds { dry ≡ false → length (projectText (made cap dur.now dem.now (paired jobs.now successors.now))) ≤ length buffer.old }
+    requires successors_in_bounds { dry ≡ false → length (project_text (made cap dur.now dem.now (paired jobs.now successors.now))) ≤ length buffer.old }
     ensures { Ran dry (made cap dur.now dem.now (paired jobs.now successors.now)) buffer.old buffer.new result }
 {
     let a = put(dry, dur.len() as u32, b' ', 0, buffer);

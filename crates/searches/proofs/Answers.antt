@@ -9,35 +9,35 @@ use lib.ListN.{length}
 use Rattle.lists.specs.Lists.{◌!◌}
 use Rattle.lists.specs.Tests.{between, only}
 use Rattle.lists.specs.Extremes.{LastWith, FirstWith, Greatest, Least}
-use Rattle.lists.proofs.Tests.{between-yes}
-use Rattle.lists.proofs.Extremes.{greatest-one, least-one, last_as, first-as, last_none, last_some, first-none, first_some}
+use Rattle.lists.proofs.Tests.{between_yes}
+use Rattle.lists.proofs.Extremes.{greatest-one, least-one, last_as, first_as, last_none, last_some, first-none, first_some}
 use Rattle.narrowing.specs.Windows.{win, Side, early, late, side_of}
-use Rattle.narrowing.proofs.Moves.{side-early, side-late}
+use Rattle.narrowing.proofs.Moves.{side_early, side_late}
 use Rattle.timetable.specs.Time.{Jobs, load, Crowded}
 use Rattle.timetable.specs.Search.{best}
-use Rattle.timetable.specs.Table.{jobsOf, Workable}
-use Rattle.timetable.proofs.Law.{greatest-crowded, least-crowded}
+use Rattle.timetable.specs.Table.{jobs_of, Workable}
+use Rattle.timetable.proofs.Law.{greatest_crowded, least_crowded}
 use Rattle.crowding.specs.Asked.{asked}
-use Rattle.timetable.proofs.Good.{durations-sized, window-long}
+use Rattle.timetable.proofs.Good.{durations_sized, window_long}
 use Rattle.profile.specs.declared.kept.Outline.{Outline}
-use Rattle.loads.specs.Loads.{fullLoad, Loaded}
+use Rattle.loads.specs.Loads.{full_load, Loaded}
 use Rattle.loads.proofs.Full.{load_full}
 use Rattle.searches.specs.declared.Found.{Found}
-use Rattle.searches.specs.Found.{asFound, nextTime}
+use Rattle.searches.specs.Found.{as_found, next_time}
 use Rattle.searches.specs.Busy.{Busy, DemandIn, LastBusy, FirstBusy}
 
 -- an answer, taken back
-pub found_some : (x : Option ℕ) (t : ℕ) → asFound x ≡ Found.At t → x ≡ some t
+pub found_some : (x : Option ℕ) (t : ℕ) → as_found x ≡ Found.At t → x ≡ some t
 found_some none t h = cc
 found_some (some u) t h = cc
 
-pub found_none : (x : Option ℕ) → asFound x ≡ Found.Nothing → x ≡ none
+pub found_none : (x : Option ℕ) → as_found x ≡ Found.Nothing → x ≡ none
 found_none none h = refl
 found_none (some u) h = cc
 
 module _ (e l p r : List ℕ) (cap j : ℕ) where
   abbrev J : Jobs
-  J = jobsOf (asked e l p r cap)
+  J = jobs_of (asked e l p r cap)
 
   abbrev s : ℕ
   s = l ! j - p ! j
@@ -50,63 +50,63 @@ module _ (e l p r : List ℕ) (cap j : ℕ) where
   Is late x = Least (Crowded J (win e l) j) s (p ! j) x
 
   -- what has been found is what the definition finds
-  answers : (side : ℕ) (v : Side) → side_of side ≡ v → (x : Option ℕ) → Is v x → asFound x ≡ asFound (nextTime (asked e l p r cap) j (side_of side))
-  answers side early q x h = rw q (ap asFound (greatest-one (Crowded J (win e l) j) (e ! j) (p ! j) x (best J (win e l) j early) h (greatest-crowded J (win e l) j)))
-  answers side late q x h = rw q (ap asFound (least-one (Crowded J (win e l) j) s (p ! j) x (best J (win e l) j late) h (least-crowded J (win e l) j)))
+  answers : (side : ℕ) (v : Side) → side_of side ≡ v → (x : Option ℕ) → Is v x → as_found x ≡ as_found (next_time (asked e l p r cap) j (side_of side))
+  answers side early q x h = rw q (ap as_found (greatest-one (Crowded J (win e l) j) (e ! j) (p ! j) x (best J (win e l) j early) h (greatest_crowded J (win e l) j)))
+  answers side late q x h = rw q (ap as_found (least-one (Crowded J (win e l) j) s (p ! j) x (best J (win e l) j late) h (least_crowded J (win e l) j)))
 
   -- nothing is crowded for the job
-  pub rests : (side : ℕ) → ((t : ℕ) → Crowded J (win e l) j t → ⊥) → Found.Nothing ≡ asFound (nextTime (asked e l p r cap) j (side_of side))
+  pub rests : (side : ℕ) → ((t : ℕ) → Crowded J (win e l) j t → ⊥) → Found.Nothing ≡ as_found (next_time (asked e l p r cap) j (side_of side))
   rests side h = go (side_of side) refl
     where
-      go : (v : Side) → side_of side ≡ v → Found.Nothing ≡ asFound (nextTime (asked e l p r cap) j (side_of side))
+      go : (v : Side) → side_of side ≡ v → Found.Nothing ≡ as_found (next_time (asked e l p r cap) j (side_of side))
       go early q = answers side early q none (λ t i. h t i.has)
       go late q = answers side late q none (λ t i. h t i.has)
 
   module _ (w : Workable (asked e l p r cap)) (d : j < length p) where
     listed : j < length e
-    listed = omega (arith, durations-sized w.good)
+    listed = omega (arith, durations_sized w.good)
 
-    others : (t : ℕ) → load J (win e l) j t + only (between s f t) (r ! j) ≡ fullLoad p r (win e l) t
+    others : (t : ℕ) → load J (win e l) j t + only (between s f t) (r ! j) ≡ full_load p r (win e l) t
     others t = load_full J (win e l) j t refl listed
 
     -- the load has the job's own demand in it in its sure part
-    demand-in : DemandIn (fullLoad p r (win e l)) (r ! j) s f
-    demand-in t a b = omega (arith, rw (between-yes s f t a b) at (others t))
+    demand_in : DemandIn (full_load p r (win e l)) (r ! j) s f
+    demand_in t a b = omega (arith, rw (between_yes s f t a b) at (others t))
 
-    with-own : (b : Bool) (x y z : ℕ) → x + only b y ≡ z → x + y ≡ z + only (not b) y
-    with-own true x y z h = omega arith
-    with-own false x y z h = omega arith
+    with_own : (b : Bool) (x y z : ℕ) → x + only b y ≡ z → x + y ≡ z + only (not b) y
+    with_own true x y z h = omega arith
+    with_own false x y z h = omega arith
 
-    same : (t : ℕ) → load J (win e l) j t + r ! j ≡ fullLoad p r (win e l) t + only (not (between s f t)) (r ! j)
-    same t = with-own (between s f t) (load J (win e l) j t) (r ! j) (fullLoad p r (win e l) t) (others t)
+    same : (t : ℕ) → load J (win e l) j t + r ! j ≡ full_load p r (win e l) t + only (not (between s f t)) (r ! j)
+    same t = with_own (between s f t) (load J (win e l) j t) (r ! j) (full_load p r (win e l) t) (others t)
 
     module _ (hp : p ! j ≡ 0 → ⊥) (hr : r ! j ≡ 0 → ⊥) where
-      crowds : (t : ℕ) → Busy (fullLoad p r (win e l)) cap (r ! j) s f t → Crowded J (win e l) j t
+      crowds : (t : ℕ) → Busy (full_load p r (win e l)) cap (r ! j) s f t → Crowded J (win e l) j t
       crowds t b = record { lasts = omega arith; takes = omega arith; over = omega (arith, same t) }
 
-      busies : (t : ℕ) → Crowded J (win e l) j t → Busy (fullLoad p r (win e l)) cap (r ! j) s f t
+      busies : (t : ℕ) → Crowded J (win e l) j t → Busy (full_load p r (win e l)) cap (r ! j) s f t
       busies t c = omega (arith, c.over, same t)
 
       module _ (side : ℕ) {ts ld : List ℕ} {k : Outline} (L : Loaded (win e l) p r ts ld k) (x : ℕ) where
         module _ (q : side ≡ 0) (b : LastBusy ts ld k cap (r ! j) s f (e ! j) f x) where
           last : LastWith (Crowded J (win e l) j) (e ! j) f x
-          last = last_as crowds busies (b (fullLoad p r (win e l)) L.keeps demand-in)
+          last = last_as crowds busies (b (full_load p r (win e l)) L.keeps demand_in)
 
-          pub early-rests : x ≤ e ! j → Found.Nothing ≡ asFound (nextTime (asked e l p r cap) j (side_of side))
-          early-rests h = answers side early (side-early side q) none (last_none last h)
+          pub early_rests : x ≤ e ! j → Found.Nothing ≡ as_found (next_time (asked e l p r cap) j (side_of side))
+          early_rests h = answers side early (side_early side q) none (last_none last h)
 
-          pub early-moves : e ! j < x → Found.At (x - 1) ≡ asFound (nextTime (asked e l p r cap) j (side_of side))
-          early-moves h = answers side early (side-early side q) (some (x - 1)) (last_some last (x - 1) (omega arith) (omega arith))
+          pub early_moves : e ! j < x → Found.At (x - 1) ≡ as_found (next_time (asked e l p r cap) j (side_of side))
+          early_moves h = answers side early (side_early side q) (some (x - 1)) (last_some last (x - 1) (omega arith) (omega arith))
 
         module _ (q : side ≡ 0 → ⊥) (b : FirstBusy ts ld k cap (r ! j) s f s (l ! j) x) where
           stretch : s + p ! j ≡ l ! j
-          stretch = omega (arith, window-long w j d)
+          stretch = omega (arith, window_long w j d)
 
           first : FirstWith (Crowded J (win e l) j) s (s + p ! j) x
-          first = rw stretch (first-as crowds busies (b (fullLoad p r (win e l)) L.keeps demand-in))
+          first = rw stretch (first_as crowds busies (b (full_load p r (win e l)) L.keeps demand_in))
 
-          pub late-rests : l ! j ≤ x → Found.Nothing ≡ asFound (nextTime (asked e l p r cap) j (side_of side))
-          late-rests h = answers side late (side-late side q) none (first-none first (omega (arith, stretch)))
+          pub late_rests : l ! j ≤ x → Found.Nothing ≡ as_found (next_time (asked e l p r cap) j (side_of side))
+          late_rests h = answers side late (side_late side q) none (first-none first (omega (arith, stretch)))
 
-          pub late-moves : x < l ! j → Found.At x ≡ asFound (nextTime (asked e l p r cap) j (side_of side))
-          late-moves h = answers side late (side-late side q) (some x) (first_some first (omega (arith, stretch)))
+          pub late_moves : x < l ! j → Found.At x ≡ as_found (next_time (asked e l p r cap) j (side_of side))
+          late_moves h = answers side late (side_late side q) (some x) (first_some first (omega (arith, stretch)))

@@ -6,7 +6,7 @@ use mathlib.Core.Path.{◌≡◌}
 use mathlib.Core.Bool.{true, false}
 use mathlib.Core.List.{List}
 use Rattle.lists.specs.Tests.{between}
-use Rattle.lists.proofs.Tests.{between-yes, between-before, between-behind}
+use Rattle.lists.proofs.Tests.{between_yes, between_before, between_behind}
 use Rattle.minmax.specs.MinMax.{IsLesser, IsGreater}
 use Rattle.profile.specs.declared.kept.Outline.{Outline}
 use Rattle.peaks.specs.Peaks.{LastOver, FirstOver}
@@ -14,103 +14,103 @@ use Rattle.searches.specs.Busy.{Busy, DemandIn, LastBusy, FirstBusy}
 
 module _ (g : ℕ → ℕ) (cap r s f : ℕ) where
   -- in the own part, and beside it
-  busy-in : (t : ℕ) → between s f t ≡ true → cap < g t → Busy g cap r s f t
-  busy-in t o h = rw o (omega arith)
+  busy_in : (t : ℕ) → between s f t ≡ true → cap < g t → Busy g cap r s f t
+  busy_in t o h = rw o (omega arith)
 
-  in-busy : (t : ℕ) → between s f t ≡ true → Busy g cap r s f t → cap < g t
-  in-busy t o h = let z = rw o at h in omega arith
+  in_busy : (t : ℕ) → between s f t ≡ true → Busy g cap r s f t → cap < g t
+  in_busy t o h = let z = rw o at h in omega arith
 
-  busy-beside : (t : ℕ) → between s f t ≡ false → cap < g t + r → Busy g cap r s f t
-  busy-beside t o h = rw o h
+  busy_beside : (t : ℕ) → between s f t ≡ false → cap < g t + r → Busy g cap r s f t
+  busy_beside t o h = rw o h
 
-  beside-busy : (t : ℕ) → between s f t ≡ false → Busy g cap r s f t → cap < g t + r
-  beside-busy t o h = rw o at h
+  beside_busy : (t : ℕ) → between s f t ≡ false → Busy g cap r s f t → cap < g t + r
+  beside_busy t o h = rw o at h
 
   -- a demand above the capacity is too much at every time
-  busy-always : DemandIn g r s f → cap < r → (t : ℕ) → Busy g cap r s f t
-  busy-always C h t =
+  busy_always : DemandIn g r s f → cap < r → (t : ℕ) → Busy g cap r s f t
+  busy_always C h t =
       elim (dec_lt t s) [
-        | yes a ↦ busy-beside t (between-before s f t a) (omega arith)
+        | yes a ↦ busy_beside t (between_before s f t a) (omega arith)
         | no a ↦
             elim (dec_lt t f) [
-              | yes b ↦ busy-in t (between-yes s f t (omega arith) b) (omega (arith, C t (omega arith) b))
-              | no b ↦ busy-beside t (between-behind s f t (omega arith)) (omega arith)
+              | yes b ↦ busy_in t (between_yes s f t (omega arith) b) (omega (arith, C t (omega arith) b))
+              | no b ↦ busy_beside t (between_behind s f t (omega arith)) (omega arith)
             ]
       ]
 
-pub mid-from : (e s f mid : ℕ) → e ≤ s → e ≤ f → IsLesser s f mid → e ≤ mid
-mid-from e s f mid es ef m = elim (dec_lt s f) [ yes d ↦ omega (arith, m.2 d) | no d ↦ omega (arith, m.3 (omega arith)) ]
+pub mid_from : (e s f mid : ℕ) → e ≤ s → e ≤ f → IsLesser s f mid → e ≤ mid
+mid_from e s f mid es ef m = elim (dec_lt s f) [ yes d ↦ omega (arith, m.2 d) | no d ↦ omega (arith, m.3 (omega arith)) ]
 
-pub mid-to : (s f l mid : ℕ) → s ≤ l → f ≤ l → IsGreater s f mid → mid ≤ l
-mid-to s f l mid sl fl m = elim (dec_lt s f) [ yes d ↦ omega (arith, m.2 d) | no d ↦ omega (arith, m.3 (omega arith)) ]
+pub mid_to : (s f l mid : ℕ) → s ≤ l → f ≤ l → IsGreater s f mid → mid ≤ l
+mid_to s f l mid sl fl m = elim (dec_lt s f) [ yes d ↦ omega (arith, m.2 d) | no d ↦ omega (arith, m.3 (omega arith)) ]
 
 module _ (ts ld : List ℕ) (k : Outline) (cap r s f : ℕ) where
   -- ---- side 0: beside up to mid, in from there up to f
 
-  pub last-all : (e : ℕ) → cap < r → e ≤ f → LastBusy ts ld k cap r s f e f f
-  last-all e h i g K C =
-      record { from = i; to = omega arith; has = λ t q a. busy-always g cap r s f C h t; none-behind = λ t a b. absurd (omega arith) }
+  pub last_all : (e : ℕ) → cap < r → e ≤ f → LastBusy ts ld k cap r s f e f f
+  last_all e h i g K C =
+      record { from = i; to = omega arith; has = λ t q a. busy_always g cap r s f C h t; none_behind = λ t a b. absurd (omega arith) }
 
   module _ (e mid : ℕ) (es : e ≤ s) (ef : e ≤ f) (m : IsLesser s f mid) where
-    in-from : (t : ℕ) → mid ≤ t → t < f → between s f t ≡ true
-    in-from t a b = elim (dec_lt s f) [ yes d ↦ between-yes s f t (omega (arith, m.2 d)) b | no d ↦ absurd (omega (arith, m.3 (omega arith))) ]
+    in_from : (t : ℕ) → mid ≤ t → t < f → between s f t ≡ true
+    in_from t a b = elim (dec_lt s f) [ yes d ↦ between_yes s f t (omega (arith, m.2 d)) b | no d ↦ absurd (omega (arith, m.3 (omega arith))) ]
 
-    pub last-own : (x : ℕ) → LastOver ts ld k cap mid f x → mid < x → LastBusy ts ld k cap r s f e f x
-    last-own x L h g K C =
+    pub last_own : (x : ℕ) → LastOver ts ld k cap mid f x → mid < x → LastBusy ts ld k cap r s f e f x
+    last_own x L h g K C =
         let S = L g K in
         record {
-          from = omega (arith, mid-from e s f mid es ef m);
+          from = omega (arith, mid_from e s f mid es ef m);
           to = S.to;
-          has = λ t q a. busy-in g cap r s f t (in-from t (omega arith) (omega (arith, S.to))) (S.has t q (omega arith));
-          none-behind = λ t a b o. S.none-behind t a b (in-busy g cap r s f t (in-from t (omega arith) b) o);
+          has = λ t q a. busy_in g cap r s f t (in_from t (omega arith) (omega (arith, S.to))) (S.has t q (omega arith));
+          none_behind = λ t a b o. S.none_behind t a b (in_busy g cap r s f t (in_from t (omega arith) b) o);
         }
 
-    pub last-beside : (x y : ℕ) → r ≤ cap → LastOver ts ld k cap mid f x → x ≤ mid → LastOver ts ld k (cap - r) e mid y → LastBusy ts ld k cap r s f e f y
-    last-beside x y w L h M g K C =
+    pub last_beside : (x y : ℕ) → r ≤ cap → LastOver ts ld k cap mid f x → x ≤ mid → LastOver ts ld k (cap - r) e mid y → LastBusy ts ld k cap r s f e f y
+    last_beside x y w L h M g K C =
         let S = L g K in
         let T = M g K in
         record {
           from = T.from;
           to = omega (arith, T.to);
-          has = λ t q a. busy-beside g cap r s f t (between-before s f t (omega (arith, T.to))) (omega (arith, T.has t q a));
-          none-behind = λ t a b o.
+          has = λ t q a. busy_beside g cap r s f t (between_before s f t (omega (arith, T.to))) (omega (arith, T.has t q a));
+          none_behind = λ t a b o.
               elim (dec_lt t mid) [
-                | yes d ↦ T.none-behind t a d (omega (arith, beside-busy g cap r s f t (between-before s f t (omega arith)) o))
-                | no d ↦ S.none-behind t (omega arith) b (in-busy g cap r s f t (in-from t (omega arith) b) o)
+                | yes d ↦ T.none_behind t a d (omega (arith, beside_busy g cap r s f t (between_before s f t (omega arith)) o))
+                | no d ↦ S.none_behind t (omega arith) b (in_busy g cap r s f t (in_from t (omega arith) b) o)
               ];
         }
 
   -- ---- side 1: in from s up to mid, beside from there up to l
 
-  pub first-all : (l : ℕ) → cap < r → s ≤ l → FirstBusy ts ld k cap r s f s l s
-  first-all l h i g K C =
-      record { from = omega arith; to = i; has = λ d. busy-always g cap r s f C h s; none_before = λ t a b. absurd (omega arith) }
+  pub first_all : (l : ℕ) → cap < r → s ≤ l → FirstBusy ts ld k cap r s f s l s
+  first_all l h i g K C =
+      record { from = omega arith; to = i; has = λ d. busy_always g cap r s f C h s; none_before = λ t a b. absurd (omega arith) }
 
   module _ (l mid : ℕ) (sl : s ≤ l) (fl : f ≤ l) (m : IsGreater s f mid) where
-    in-to : (t : ℕ) → s ≤ t → t < mid → between s f t ≡ true
-    in-to t a b = elim (dec_lt s f) [ yes d ↦ between-yes s f t a (omega (arith, m.2 d)) | no d ↦ absurd (omega (arith, m.3 (omega arith))) ]
+    in_to : (t : ℕ) → s ≤ t → t < mid → between s f t ≡ true
+    in_to t a b = elim (dec_lt s f) [ yes d ↦ between_yes s f t a (omega (arith, m.2 d)) | no d ↦ absurd (omega (arith, m.3 (omega arith))) ]
 
-    pub first-own : (x : ℕ) → FirstOver ts ld k cap s mid x → x < mid → FirstBusy ts ld k cap r s f s l x
-    first-own x L h g K C =
+    pub first_own : (x : ℕ) → FirstOver ts ld k cap s mid x → x < mid → FirstBusy ts ld k cap r s f s l x
+    first_own x L h g K C =
         let S = L g K in
         record {
           from = S.from;
-          to = omega (arith, mid-to s f l mid sl fl m);
-          has = λ d. busy-in g cap r s f x (in-to x S.from h) (S.has h);
-          none_before = λ t a b o. S.none_before t a b (in-busy g cap r s f t (in-to t a (omega arith)) o);
+          to = omega (arith, mid_to s f l mid sl fl m);
+          has = λ d. busy_in g cap r s f x (in_to x S.from h) (S.has h);
+          none_before = λ t a b o. S.none_before t a b (in_busy g cap r s f t (in_to t a (omega arith)) o);
         }
 
-    pub first-beside : (x y : ℕ) → r ≤ cap → FirstOver ts ld k cap s mid x → mid ≤ x → FirstOver ts ld k (cap - r) mid l y → FirstBusy ts ld k cap r s f s l y
-    first-beside x y w L h M g K C =
+    pub first_beside : (x y : ℕ) → r ≤ cap → FirstOver ts ld k cap s mid x → mid ≤ x → FirstOver ts ld k (cap - r) mid l y → FirstBusy ts ld k cap r s f s l y
+    first_beside x y w L h M g K C =
         let S = L g K in
         let T = M g K in
         record {
           from = omega (arith, T.from);
           to = T.to;
-          has = λ d. busy-beside g cap r s f y (between-behind s f y (omega (arith, T.from))) (omega (arith, T.has d));
+          has = λ d. busy_beside g cap r s f y (between_behind s f y (omega (arith, T.from))) (omega (arith, T.has d));
           none_before = λ t a b o.
               elim (dec_lt t mid) [
-                | yes d ↦ S.none_before t a (omega arith) (in-busy g cap r s f t (in-to t a d) o)
-                | no d ↦ T.none_before t (omega arith) b (omega (arith, beside-busy g cap r s f t (between-behind s f t (omega arith)) o))
+                | yes d ↦ S.none_before t a (omega arith) (in_busy g cap r s f t (in_to t a d) o)
+                | no d ↦ T.none_before t (omega arith) b (omega (arith, beside_busy g cap r s f t (between_behind s f t (omega arith)) o))
               ];
         }

@@ -1,11 +1,11 @@
 // The next time at which a rule moves a job's side, found in the kept load of all jobs (02, Item 5).
 ghost use Rattle.std.specs.Prelude.{◌≡◌, ◌<◌, ◌≤◌, length};
 ghost use Rattle.narrowing.specs.Windows.{win, side_of};
-ghost use Rattle.profile.specs.Steps.{behindAll, Points};
+ghost use Rattle.profile.specs.Steps.{behind_all, Points};
 ghost use Rattle.crowding.specs.Asked.{asked};
 ghost use Rattle.timetable.specs.Table.{Workable};
 ghost use Rattle.loads.specs.Loads.{Loaded};
-ghost use Rattle.searches.specs.Found.{asFound, nextTime};
+ghost use Rattle.searches.specs.Found.{as_found, next_time};
 ghost use Rattle.searches.specs.Busy.{LastBusy, FirstBusy};
 
 use profile::Outline;
@@ -20,7 +20,7 @@ pub enum Found {
 // Side 0: one more than the last time from e up to f that is crowded for a job of demand r, and e where there is none. Its sure part is from s up to f; there
 // the load has its demand in it already.
 fn early(ts: &[u32], ld: &[u32], kept: Outline, cap: u32, r: u32, e: u32, s: u32, f: u32) -> u32
-    requires { Points ts.now ld.now kept.m × (e ≤ s) × (e ≤ f) × (f < behindAll) }
+    requires { Points ts.now ld.now kept.m × (e ≤ s) × (e ≤ f) × (f < behind_all) }
     ensures { LastBusy ts.now ld.now kept cap r s f e f result }
 {
     if cap < r {
@@ -37,7 +37,7 @@ fn early(ts: &[u32], ld: &[u32], kept: Outline, cap: u32, r: u32, e: u32, s: u32
 
 // Side 1: the first time from s up to l that is crowded for a job of demand r, and l where there is none. Its sure part is from s up to f.
 fn late(ts: &[u32], ld: &[u32], kept: Outline, cap: u32, r: u32, s: u32, f: u32, l: u32) -> u32
-    requires { Points ts.now ld.now kept.m × (s ≤ l) × (f ≤ l) × (l < behindAll) }
+    requires { Points ts.now ld.now kept.m × (s ≤ l) × (f ≤ l) × (l < behind_all) }
     ensures { FirstBusy ts.now ld.now kept cap r s f s l result }
 {
     if cap < r {
@@ -66,7 +66,7 @@ pub fn next_time(
     kept: Outline,
 ) -> Found
     requires { Workable (asked est.now lct.now dur.now dem.now cap) × (job < length dur.now) × Loaded (win est.now lct.now) dur.now dem.now ts.now ld.now kept }
-    ensures { result ≡ asFound (nextTime (asked est.now lct.now dur.now dem.now cap) job (side_of side)) }
+    ensures { result ≡ as_found (next_time (asked est.now lct.now dur.now dem.now cap) job (side_of side)) }
 {
     let r = dem[job];
     let p = dur[job];

@@ -2,7 +2,7 @@
 // its three tables.
 ghost use Rattle.std.specs.Prelude.{◌≡◌, ℕ, ◌≤◌, length, drop};
 ghost use Rattle.lists.specs.Lists.{◌!◌};
-ghost use Rattle.joblist.specs.Limits.{mostTime, mostJobs};
+ghost use Rattle.joblist.specs.Limits.{most_time, most_jobs};
 ghost use Rattle.parsing.specs.Parsed.{ParsedSays};
 ghost use Rattle.psplib.specs.Psplib.{tables, psplib};
 
@@ -32,8 +32,8 @@ pub fn parse(
     dur: &mut [u32; screen::MOST_JOBS],
     dem: &mut [u32; screen::MOST_JOBS],
 ) -> Parsed
-    requires { (length dur.old ≡ mostJobs) × (length dem.old ≡ mostJobs) × ((j : ℕ) → dur.old ! j ≤ mostTime) }
-    ensures { ParsedSays (psplib text.now) text.now res dur.new dem.new result × (length dur.new ≡ mostJobs) × (length dem.new ≡ mostJobs) × ((j : ℕ) → dur.new ! j ≤ mostTime) }
+    requires { (length dur.old ≡ most_jobs) × (length dem.old ≡ most_jobs) × ((j : ℕ) → dur.old ! j ≤ most_time) }
+    ensures { ParsedSays (psplib text.now) text.now res dur.new dem.new result × (length dur.new ≡ most_jobs) × (length dem.new ≡ most_jobs) × ((j : ℕ) → dur.new ! j ≤ most_time) }
 {
     let mut places = [0usize; seeker::HEADINGS];
     if !seeker::find(text, &mut places) {
@@ -70,8 +70,8 @@ fn read_tables(
     dur: &mut [u32; screen::MOST_JOBS],
     dem: &mut [u32; screen::MOST_JOBS],
 ) -> Parsed
-    requires { (n ≤ mostJobs) × (length dur.old ≡ mostJobs) × (length dem.old ≡ mostJobs) × ((j : ℕ) → dur.old ! j ≤ mostTime) }
-    ensures { ParsedSays (tables n k (drop from.relations text.now) (drop from.requests text.now) (drop from.capacities text.now)) text.now res dur.new dem.new result × (length dur.new ≡ mostJobs) × (length dem.new ≡ mostJobs) × ((j : ℕ) → dur.new ! j ≤ mostTime) }
+    requires { (n ≤ most_jobs) × (length dur.old ≡ most_jobs) × (length dem.old ≡ most_jobs) × ((j : ℕ) → dur.old ! j ≤ most_time) }
+    ensures { ParsedSays (tables n k (drop from.relations text.now) (drop from.requests text.now) (drop from.capacities text.now)) text.now res dur.new dem.new result × (length dur.new ≡ most_jobs) × (length dem.new ≡ most_jobs) × ((j : ℕ) → dur.new ! j ≤ most_time) }
 {
     let at = linewise::behind_lines(text, from.relations, BEHIND_NAMES);
     match walking::validate(text, at, n, Table::Relations, res, dur, dem) {

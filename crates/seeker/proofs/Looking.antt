@@ -11,20 +11,20 @@ use lib.ListN.{length, drop, set, length-set, drop_of_length-le}
 use lib.Seq.{get_or-set_same, get_or-set_other}
 use borrow.Author.Tests.{eqb-true, eq-eqb, ne_eqb}
 use Rattle.lists.specs.Lists.{◌!◌}
-use Rattle.headings.specs.Lines.{nextLine}
-use Rattle.headings.specs.Headings.{headings, lineMark, marks, inOrder, section}
+use Rattle.headings.specs.Lines.{next_line}
+use Rattle.headings.specs.Headings.{headings, line_mark, marks, in_order, section}
 use Rattle.seeker.specs.Found.{FindSays}
-use Rattle.headings.proofs.Marks.{marks-none, marks-split}
+use Rattle.headings.proofs.Marks.{marks_none, marks_split}
 
 -- in front of a line at `at`: the lines left decide whether all headings are in order, and those found start where `places` says
 pub record Looking (s : List ℕ) (at found : ℕ) (places : List ℕ) : Type 0 where
   pub size : length places ≡ length headings
-  pub test : inOrder 0 (marks s) ≡ inOrder found (marks (drop at s))
+  pub test : in_order 0 (marks s) ≡ in_order found (marks (drop at s))
   pub kept : (k : ℕ) → k < found → section k (marks s) ≡ drop (places ! k) s
   pub later : (j : ℕ) → section (found + j) (marks s) ≡ section j (marks (drop at s))
 
-pub looking-start : (s places : List ℕ) → length places ≡ length headings → Looking s 0 0 places
-looking-start s places h = record {
+pub looking_start : (s places : List ℕ) → length places ≡ length headings → Looking s 0 0 places
+looking_start s places h = record {
   size = h;
   test = refl;
   kept = λ k b. absurd (omega arith);
@@ -33,21 +33,21 @@ looking-start s places h = record {
 
 module _ (s : List ℕ) (at found : ℕ) (places : List ℕ) (l : Looking s at found places) where
   -- the line has no heading
-  pub looking-none : (to : ℕ) → lineMark (drop at s) ≡ [] → drop to s ≡ nextLine (drop at s) → Looking s to found places
-  looking-none to e q =
-      let m : marks (drop at s) ≡ marks (drop to s) = marks-split (drop at s) ∙ rw (e, q) in
-      record { size = l.size; test = l.test ∙ ap (inOrder found) m; kept = l.kept; later = λ j. l.later j ∙ ap (section j) m }
+  pub looking_none : (to : ℕ) → line_mark (drop at s) ≡ [] → drop to s ≡ next_line (drop at s) → Looking s to found places
+  looking_none to e q =
+      let m : marks (drop at s) ≡ marks (drop to s) = marks_split (drop at s) ∙ rw (e, q) in
+      record { size = l.size; test = l.test ∙ ap (in_order found) m; kept = l.kept; later = λ j. l.later j ∙ ap (section j) m }
 
-  module _ (which p : ℕ) (e : lineMark (drop at s) ≡ record { which = which; from = drop p s } ∷ []) where
+  module _ (which p : ℕ) (e : line_mark (drop at s) ≡ record { which = which; from = drop p s } ∷ []) where
     -- it has another one than the next
-    pub looking-other : (which ≡ found → ⊥) → inOrder 0 (marks s) ≡ false
-    unfolding inOrder
-    looking-other h = l.test ∙ rw (marks-split (drop at s), e, ne_eqb _ _ h)
+    pub looking_other : (which ≡ found → ⊥) → in_order 0 (marks s) ≡ false
+    unfolding in_order
+    looking_other h = l.test ∙ rw (marks_split (drop at s), e, ne_eqb _ _ h)
 
     -- it has the next one
-    pub looking-next : (to put : ℕ) → put ≡ p → which ≡ found → which < length headings → drop to s ≡ nextLine (drop at s) → Looking s to (found + 1) (set places which put)
-    unfolding inOrder section
-    looking-next to put g h b q = record {
+    pub looking_next : (to put : ℕ) → put ≡ p → which ≡ found → which < length headings → drop to s ≡ next_line (drop at s) → Looking s to (found + 1) (set places which put)
+    unfolding in_order section
+    looking_next to put g h b q = record {
       size = length-set places which put ∙ l.size;
       test = l.test ∙ rw (add-one, with_it, eq-eqb _ _ h);
       kept = placed;
@@ -55,7 +55,7 @@ module _ (s : List ℕ) (at found : ℕ) (places : List ℕ) (l : Looking s at f
     }
       where
         with_it : marks (drop at s) ≡ record { which = which; from = drop p s } ∷ marks (drop to s)
-        with_it = marks-split (drop at s) ∙ rw (e, q)
+        with_it = marks_split (drop at s) ∙ rw (e, q)
 
         placed : (k : ℕ) → k < found + 1 → section k (marks s) ≡ drop (set places which put ! k) s
         placed k i = elim (ℕ_discrete k which) [
@@ -67,12 +67,12 @@ module _ (s : List ℕ) (at found : ℕ) (places : List ℕ) (l : Looking s at f
         ]
 
   -- no line is left
-  pub looking-end : (n : ℕ) → length s ≤ at → n ≡ length headings → FindSays s places (eqb found n)
-  unfolding inOrder
-  looking-end n h z = go (eqb found n) refl
+  pub looking_end : (n : ℕ) → length s ≤ at → n ≡ length headings → FindSays s places (eqb found n)
+  unfolding in_order
+  looking_end n h z = go (eqb found n) refl
     where
-      over : inOrder 0 (marks s) ≡ eqb found n
-      over = l.test ∙ rw (drop_of_length-le s h, marks-none, z)
+      over : in_order 0 (marks s) ≡ eqb found n
+      over = l.test ∙ rw (drop_of_length-le s h, marks_none, z)
 
       go : (t : Bool) → eqb found n ≡ t → FindSays s places t
       go true e = let f : found ≡ n = eqb-true _ _ e in (over ∙ e, λ k b. l.kept k (omega arith))

@@ -1,7 +1,7 @@
 -- What the functions of this crate say of the headings of a text.
 use Rattle.std.specs.Prelude.{ℕ, ◌<◌, ◌≡◌, Bool, true, false, List, [], ◌∷◌, length, drop}
 use Rattle.lists.specs.Lists.{◌!◌}
-use Rattle.headings.specs.Headings.{headings, mark_of, marks, inOrder, section}
+use Rattle.headings.specs.Headings.{headings, mark_of, marks, in_order, section}
 use Rattle.seeker.specs.declared.Stands.{Stands}
 use Rattle.seeker.specs.declared.Stands.TheVariants.{Heading, Nothing}
 
@@ -12,5 +12,5 @@ StandsSays t Nothing = mark_of 0 headings t ≡ []
 
 -- whether the headings are the five in order, and then where each of them starts
 abbrev pub FindSays : List ℕ → List ℕ → Bool → Type 0
-FindSays s places true = (inOrder 0 (marks s) ≡ true) × ((k : ℕ) → k < length headings → section k (marks s) ≡ drop (places ! k) s)
-FindSays s places false = inOrder 0 (marks s) ≡ false
+FindSays s places true = (in_order 0 (marks s) ≡ true) × ((k : ℕ) → k < length headings → section k (marks s) ≡ drop (places ! k) s)
+FindSays s places false = in_order 0 (marks s) ≡ false

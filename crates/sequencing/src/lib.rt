@@ -4,7 +4,7 @@ ghost use Rattle.std.specs.Prelude.{length};
 ghost use Rattle.narrowing.specs.Windows.{win, Long};
 ghost use Rattle.heads.specs.Promise.{GoodHead};
 ghost use Rattle.mirrors.specs.Back.{told};
-ghost use Rattle.headturns.specs.Turns.{headLists, Both};
+ghost use Rattle.headturns.specs.Turns.{head_lists, Both};
 ghost use Rattle.sequencing.specs.Work.{Works};
 
 use answers::Answer;
@@ -21,9 +21,9 @@ fn take_turns(
     fore: &mut [usize; MOST_JOBS],
     rear: &mut [usize; MOST_JOBS],
 ) -> Answer
-    requires { Both (length starts.old) dur.now (headLists starts.old ends.old fore.old rear.old) × Long (length starts.old) dur.now (told starts.old ends.old) }
+    requires { Both (length starts.old) dur.now (head_lists starts.old ends.old fore.old rear.old) × Long (length starts.old) dur.now (told starts.old ends.old) }
     ensures works { Works (told starts.old ends.old) dur.now result (told starts.new ends.new) }
-    ensures both { Both (length starts.old) dur.now (headLists starts.new ends.new fore.new rear.new) }
+    ensures both { Both (length starts.old) dur.now (head_lists starts.new ends.new fore.new rear.new) }
 {
     let n = starts.len();
     let mut at = Place {

@@ -3,15 +3,15 @@ ghost use Rattle.std.specs.Prelude.{◌≡◌, true, [], ◌*◌, ◌≤◌, ◌
 ghost use Rattle.lists.specs.Tests.{where?};
 ghost use Rattle.narrowing.specs.Windows.{win, side_of};
 ghost use Rattle.members.specs.Members.{has};
-ghost use Rattle.joblist.specs.Limits.{mostTime};
+ghost use Rattle.joblist.specs.Limits.{most_time};
 ghost use Rattle.timetable.specs.Time.{sure};
-ghost use Rattle.codes.specs.Codes.{ownTrue, statedTrue};
-ghost use Rattle.exam.specs.Lent.{jobsIn, Timed, LetThrough};
+ghost use Rattle.codes.specs.Codes.{own_true, stated_true};
+ghost use Rattle.exam.specs.Lent.{jobs_in, Timed, LetThrough};
 
 // The moved job's own fact: on side 0 it starts no earlier than t - p + 1, on side 1 no later than t.
 fn own_true(est: &[u32], lct: &[u32], dur: &[u32], job: usize, side: u32, t: u32) -> bool
-    requires { Timed (win est.now lct.now) dur.now × (job < length dur.now) × (t ≤ mostTime) }
-    ensures { result ≡ ownTrue dur.now (win est.now lct.now) job (side_of side) t }
+    requires { Timed (win est.now lct.now) dur.now × (job < length dur.now) × (t ≤ most_time) }
+    ensures { result ≡ own_true dur.now (win est.now lct.now) job (side_of side) t }
 {
     if side == 0 {
         return windows::no_earlier(est[job], t, dur[job]);
@@ -21,7 +21,7 @@ fn own_true(est: &[u32], lct: &[u32], dur: &[u32], job: usize, side: u32, t: u32
 
 // Whether job k starts no earlier than t - p + 1 and no later than t: its sure part holds t.
 fn sure(est: &[u32], lct: &[u32], dur: &[u32], k: usize, t: u32) -> bool
-    requires { Timed (win est.now lct.now) dur.now × (k < length dur.now) × (t ≤ mostTime) }
+    requires { Timed (win est.now lct.now) dur.now × (k < length dur.now) × (t ≤ most_time) }
     ensures { result ≡ sure dur.now (win est.now lct.now) k t }
 {
     windows::sure(est[k], lct[k], dur[k], t)
@@ -29,7 +29,7 @@ fn sure(est: &[u32], lct: &[u32], dur: &[u32], k: usize, t: u32) -> bool
 
 // Whether k, if it is a member, does so.
 fn member_true(est: &[u32], lct: &[u32], dur: &[u32], set: &[u32], k: usize, t: u32) -> bool
-    requires { Timed (win est.now lct.now) dur.now × (has set.now k ≡ true → k < length dur.now) × (t ≤ mostTime) }
+    requires { Timed (win est.now lct.now) dur.now × (has set.now k ≡ true → k < length dur.now) × (t ≤ most_time) }
     ensures { result ≡ where? (has set.now k) (sure dur.now (win est.now lct.now) k t) }
 {
     if !bits::has(set, k) {
@@ -41,14 +41,14 @@ fn member_true(est: &[u32], lct: &[u32], dur: &[u32], set: &[u32], k: usize, t: 
 // 25: the stated facts are true of the windows. Every bit of the set is looked at.
 pub fn stated_true(est: &[u32], lct: &[u32], dur: &[u32], words: &[u32]) -> bool
     requires { Timed (win est.now lct.now) dur.now × LetThrough (length dur.now) words.now }
-    ensures { result ≡ statedTrue (jobsIn 0 dur.now [] 0) (win est.now lct.now) words.now }
+    ensures { result ≡ stated_true (jobs_in 0 dur.now [] 0) (win est.now lct.now) words.now }
 {
-    let t = words[logbook::TIME_WORD];
-    let job = words[logbook::JOB_WORD] as usize;
-    if !own_true(est, lct, dur, job, words[logbook::SIDE_WORD], t) {
+    let t = words[logs::TIME_WORD];
+    let job = words[logs::JOB_WORD] as usize;
+    if !own_true(est, lct, dur, job, words[logs::SIDE_WORD], t) {
         return false;
     }
-    let set = logbook::set_of(words);
+    let set = logs::set_of(words);
     let mut k = 0;
     while k < bits::BITS * set.len() {
         if !member_true(est, lct, dur, set, k, t) {

@@ -8,8 +8,8 @@ use mathlib.Core.Logic.{◌⊎◌, inl, inr, ◌↔◌}
 use lib.Dec.{leb}
 use borrow.Author.Tests.{leb-true, leb-false, le-leb, lt-leb}
 use Rattle.texts.specs.Tokens.{Token, number, other}
-use Rattle.texts.specs.Readings.{Read, bad, good, and_then, one, in_turn, numbersUpTo, nothingMore}
-use Rattle.texts.proofs.Readings.{bad-not-good, good-same, then-good, then-bad}
+use Rattle.texts.specs.Readings.{Read, bad, good, and_then, one, in_turn, numbers_up_to, nothing_more}
+use Rattle.texts.proofs.Readings.{bad_not_good, good_same, then_good, then_bad}
 
 -- no number stands next: the tokens are at their end, or the next one is anything else
 abbrev pub NoNumber : List Token → Type 0
@@ -23,14 +23,14 @@ NumberThat P ts = (x : ℕ) × (rest : List Token) × (ts ≡ number x ∷ rest)
 abbrev pub OneRefused : ℕ → ℕ → ℕ → List Token → Type 0
 OneRefused top code c ts = (NoNumber ts × (c ≡ 30)) ⊎ (NumberThat (λ x. top < x) ts × (c ≡ code))
 
-one-to : (top code c : ℕ) (ts : List Token) → one top code ts ≡ bad c → OneRefused top code c ts
+one_to : (top code c : ℕ) (ts : List Token) → one top code ts ≡ bad c → OneRefused top code c ts
 unfolding one
-one-to top code c [] e = inl (inl refl, cc)
-one-to top code c (other ∷ ts) e = inl (inr (ts, refl), cc)
-one-to top code c (number x ∷ ts) e = go (leb x top) refl e
+one_to top code c [] e = inl (inl refl, cc)
+one_to top code c (other ∷ ts) e = inl (inr (ts, refl), cc)
+one_to top code c (number x ∷ ts) e = go (leb x top) refl e
   where
     go : (b : Bool) → leb x top ≡ b → cond b (good x ts) (bad code) ≡ bad c → OneRefused top code c (number x ∷ ts)
-    go true h q = bad-not-good (good x ts) c x ts q refl
+    go true h q = bad_not_good (good x ts) c x ts q refl
     go false h q = inr ((x, ts, refl, leb-false x top h), cc)
 
 one_from : (top code c : ℕ) (ts : List Token) → OneRefused top code c ts → one top code ts ≡ bad c
@@ -39,31 +39,31 @@ one_from top code c ts (inl (inl e, q)) = rw (e, q)
 one_from top code c ts (inl (inr (rest, e), q)) = rw (e, q)
 one_from top code c ts (inr ((x, rest, e, h), q)) = rw (e, lt-leb x top h, q)
 
-read-to : (top code : ℕ) (ts : List Token) (v : ℕ) (rest : List Token) → one top code ts ≡ good v rest → (ts ≡ number v ∷ rest) × (v ≤ top)
+read_to : (top code : ℕ) (ts : List Token) (v : ℕ) (rest : List Token) → one top code ts ≡ good v rest → (ts ≡ number v ∷ rest) × (v ≤ top)
 unfolding one
-read-to top code [] v rest e = bad-not-good (bad 30) 30 v rest refl e
-read-to top code (other ∷ ts) v rest e = bad-not-good (bad 30) 30 v rest refl e
-read-to top code (number x ∷ ts) v rest e = go (leb x top) refl e
+read_to top code [] v rest e = bad_not_good (bad 30) 30 v rest refl e
+read_to top code (other ∷ ts) v rest e = bad_not_good (bad 30) 30 v rest refl e
+read_to top code (number x ∷ ts) v rest e = go (leb x top) refl e
   where
     go : (b : Bool) → leb x top ≡ b → cond b (good x ts) (bad code) ≡ good v rest → (number x ∷ ts ≡ number v ∷ rest) × (v ≤ top)
     go true h q = let y : x ≡ v = cc in let u : ts ≡ rest = cc in rw (← y, ← u) (refl, leb-true x top h)
-    go false h q = bad-not-good (bad code) code v rest refl q
+    go false h q = bad_not_good (bad code) code v rest refl q
 
-read-from : (top code : ℕ) (ts : List Token) (v : ℕ) (rest : List Token) → ts ≡ number v ∷ rest → v ≤ top → one top code ts ≡ good v rest
+read_from_lem : (top code : ℕ) (ts : List Token) (v : ℕ) (rest : List Token) → ts ≡ number v ∷ rest → v ≤ top → one top code ts ≡ good v rest
 unfolding one
-read-from top code ts v rest e h = rw (e, le-leb v top h)
+read_from_lem top code ts v rest e h = rw (e, le-leb v top h)
 
-pub one-refused : (top code c : ℕ) (ts : List Token) → (one top code ts ≡ bad c) ↔ OneRefused top code c ts
-one-refused top code c ts = (one-to top code c ts, one_from top code c ts)
+pub one_refused : (top code c : ℕ) (ts : List Token) → (one top code ts ≡ bad c) ↔ OneRefused top code c ts
+one_refused top code c ts = (one_to top code c ts, one_from top code c ts)
 
 -- a number that was read stood there, within its limit
-pub one-read : (top code : ℕ) (ts : List Token) (v : ℕ) (rest : List Token) → (one top code ts ≡ good v rest) ↔ ((ts ≡ number v ∷ rest) × (v ≤ top))
-one-read top code ts v rest = (read-to top code ts v rest, λ q. read-from top code ts v rest q.0 q.1)
+pub one_read : (top code : ℕ) (ts : List Token) (v : ℕ) (rest : List Token) → (one top code ts ≡ good v rest) ↔ ((ts ≡ number v ∷ rest) × (v ≤ top))
+one_read top code ts v rest = (read_to top code ts v rest, λ q. read_from_lem top code ts v rest q.0 q.1)
 
 -- the first of two readings is refused, or the second behind the first
-pub then-refused : {A B : Type 0} (r : Read A) (f : A → List Token → Read B) (c : ℕ)
+pub then_refused : {A B : Type 0} (r : Read A) (f : A → List Token → Read B) (c : ℕ)
     → (and_then r f ≡ bad c) ↔ ((r ≡ bad c) ⊎ ((a : A) × (rest : List Token) × (r ≡ good a rest) × (f a rest ≡ bad c)))
-then-refused {A} {B} r f c = (then-bad r f c, from r)
+then_refused {A} {B} r f c = (then_bad r f c, from r)
   where
     from : (r : Read A) → (r ≡ bad c) ⊎ ((a : A) × (rest : List Token) × (r ≡ good a rest) × (f a rest ≡ bad c)) → and_then r f ≡ bad c
     from r (inl e) = rw e
@@ -73,9 +73,9 @@ then-refused {A} {B} r f c = (then-bad r f c, from r)
 abbrev pub First : {A : Type 0} → Type 0 → Read A → (A → List Token → Type 0) → Type 0
 First {A} Refused r Next = Refused ⊎ ((a : A) × (rest : List Token) × (r ≡ good a rest) × Next a rest)
 
-pub first-refused : {A B : Type 0} (r : Read A) (f : A → List Token → Read B) (Refused : Type 0) (Next : A → List Token → Type 0) (c : ℕ)
+pub first_refused : {A B : Type 0} (r : Read A) (f : A → List Token → Read B) (Refused : Type 0) (Next : A → List Token → Type 0) (c : ℕ)
     → (r ≡ bad c) ↔ Refused → ((a : A) (rest : List Token) → (f a rest ≡ bad c) ↔ Next a rest) → (and_then r f ≡ bad c) ↔ First Refused r Next
-first-refused {A} r f Refused Next c g h = (λ e. to ((then-refused r f c).0 e), λ q. (then-refused r f c).1 (from q))
+first_refused {A} r f Refused Next c g h = (λ e. to ((then_refused r f c).0 e), λ q. (then_refused r f c).1 (from q))
   where
     to : (r ≡ bad c) ⊎ ((a : A) × (rest : List Token) × (r ≡ good a rest) × (f a rest ≡ bad c)) → First Refused r Next
     to (inl e) = inl (g.0 e)
@@ -86,26 +86,26 @@ first-refused {A} r f Refused Next c g h = (λ e. to ((then-refused r f c).0 e),
     from (inr (a, rest, e, q)) = inr (a, rest, e, (h a rest).1 q)
 
 -- the same where both together are the first of another
-pub first-within : {A B C : Type 0} (r : Read A) (f : A → List Token → Read B) (g : B → List Token → Read C) (Refused : Type 0) (Next : A → List Token → Type 0) (c : ℕ)
+pub first_within : {A B C : Type 0} (r : Read A) (f : A → List Token → Read B) (g : B → List Token → Read C) (Refused : Type 0) (Next : A → List Token → Type 0) (c : ℕ)
     → (r ≡ bad c) ↔ Refused → ((a : A) (rest : List Token) → (and_then (f a rest) g ≡ bad c) ↔ Next a rest) → (and_then (and_then r f) g ≡ bad c) ↔ First Refused r Next
-first-within (bad d) f g Refused Next c = first-refused (bad d) (λ a rest. and_then (f a rest) g) Refused Next c
-first-within (good x u) f g Refused Next c = first-refused (good x u) (λ a rest. and_then (f a rest) g) Refused Next c
+first_within (bad d) f g Refused Next c = first_refused (bad d) (λ a rest. and_then (f a rest) g) Refused Next c
+first_within (good x u) f g Refused Next c = first_refused (good x u) (λ a rest. and_then (f a rest) g) Refused Next c
 
 -- the last of them, behind which nothing is refused
-pub last-refused : {A B : Type 0} (r : Read A) (Refused : Type 0) (f : A → List Token → B) (end : A → List Token → List Token) (c : ℕ)
+pub last_refused : {A B : Type 0} (r : Read A) (Refused : Type 0) (f : A → List Token → B) (end : A → List Token → List Token) (c : ℕ)
     → (r ≡ bad c) ↔ Refused → (and_then r (λ a rest. good (f a rest) (end a rest)) ≡ bad c) ↔ Refused
-last-refused (bad d) Refused f end c g = ((λ e. g.0 cc), (λ q. let z = g.1 q in cc))
-last-refused (good a rest) Refused f end c g = ((λ e. bad-not-good (good (f a rest) (end a rest)) c (f a rest) (end a rest) e refl), (λ q. bad-not-good (good a rest) c a rest (g.1 q) refl))
+last_refused (bad d) Refused f end c g = ((λ e. g.0 cc), (λ q. let z = g.1 q in cc))
+last_refused (good a rest) Refused f end c g = ((λ e. bad_not_good (good (f a rest) (end a rest)) c (f a rest) (end a rest) e refl), (λ q. bad_not_good (good a rest) c a rest (g.1 q) refl))
 
 -- text is left over
-pub over-refused : {A : Type 0} (a : A) (ts : List Token) (c : ℕ) → (nothingMore a ts ≡ bad c) ↔ ((c ≡ 30) × ((t : Token) × (rest : List Token) × (ts ≡ t ∷ rest)))
-over-refused {A} a ts c = (to ts, from ts)
+pub over_refused : {A : Type 0} (a : A) (ts : List Token) (c : ℕ) → (nothing_more a ts ≡ bad c) ↔ ((c ≡ 30) × ((t : Token) × (rest : List Token) × (ts ≡ t ∷ rest)))
+over_refused {A} a ts c = (to ts, from ts)
   where
-    to : (ts : List Token) → nothingMore a ts ≡ bad c → (c ≡ 30) × ((t : Token) × (rest : List Token) × (ts ≡ t ∷ rest))
-    to [] e = bad-not-good (good a []) c a [] e refl
+    to : (ts : List Token) → nothing_more a ts ≡ bad c → (c ≡ 30) × ((t : Token) × (rest : List Token) × (ts ≡ t ∷ rest))
+    to [] e = bad_not_good (good a []) c a [] e refl
     to (t ∷ ts) e = (cc, (t, ts, refl))
 
-    from : (ts : List Token) → (c ≡ 30) × ((t : Token) × (rest : List Token) × (ts ≡ t ∷ rest)) → nothingMore a ts ≡ bad c
+    from : (ts : List Token) → (c ≡ 30) × ((t : Token) × (rest : List Token) × (ts ≡ t ∷ rest)) → nothing_more a ts ≡ bad c
     from ts (q, (t, rest, e)) = rw (e, q)
 
 -- behind i of m readings that were good, the next is refused, in the facts of that
@@ -118,10 +118,10 @@ pub record Behind {A : Type 0} (f : ℕ → List Token → Read A) (Refused : �
   pub refused : Refused (j + i) rest
 
 module _ {A : Type 0} (f : ℕ → List Token → Read A) (Refused : ℕ → List Token → Type 0) (c : ℕ) (facts : (j : ℕ) (ts : List Token) → (f j ts ≡ bad c) ↔ Refused j ts) where
-  in-turn-to : (j m : ℕ) (ts : List Token) → in_turn f j m ts ≡ bad c → Behind f Refused j m ts
+  in_turn_to : (j m : ℕ) (ts : List Token) → in_turn f j m ts ≡ bad c → Behind f Refused j m ts
   unfolding in_turn
-  in-turn-to j zero ts e = bad-not-good (good [] ts) c [] ts e refl
-  in-turn-to j (suc m) ts e = go (then-bad (f j ts) (λ a u. and_then (in_turn f (suc j) m u) (λ ys end. good (a ∷ ys) end)) c e) (λ u q. in-turn-to (suc j) m u q)
+  in_turn_to j zero ts e = bad_not_good (good [] ts) c [] ts e refl
+  in_turn_to j (suc m) ts e = go (then_bad (f j ts) (λ a u. and_then (in_turn f (suc j) m u) (λ ys end. good (a ∷ ys) end)) c e) (λ u q. in_turn_to (suc j) m u q)
     where
       here : f j ts ≡ bad c → Behind f Refused j (suc m) ts
       here q = let z : j + 0 ≡ j = omega arith in record { i = 0; before = omega arith; xs = []; rest = ts; read = refl; refused = rw z ((facts j ts).0 q) }
@@ -134,35 +134,35 @@ module _ {A : Type 0} (f : ℕ → List Token → Read A) (Refused : ℕ → Lis
       go : (f j ts ≡ bad c) ⊎ ((a : A) × (u : List Token) × (f j ts ≡ good a u) × (and_then (in_turn f (suc j) m u) (λ ys end. good (a ∷ ys) end) ≡ bad c))
           → ((u : List Token) → in_turn f (suc j) m u ≡ bad c → Behind f Refused (suc j) m u) → Behind f Refused j (suc m) ts
       go (inl q) k = here q
-      go (inr (a, u, q, p)) k = last (then-bad (in_turn f (suc j) m u) (λ ys end. good (a ∷ ys) end) c p)
+      go (inr (a, u, q, p)) k = last (then_bad (in_turn f (suc j) m u) (λ ys end. good (a ∷ ys) end) c p)
         where
           last : (in_turn f (suc j) m u ≡ bad c) ⊎ ((ys : List A) × (v : List Token) × (in_turn f (suc j) m u ≡ good ys v) × (good (a ∷ ys) v ≡ bad c)) → Behind f Refused j (suc m) ts
           last (inl y) = later a u q (k u y)
-          last (inr (ys, v, y, w)) = bad-not-good (good (a ∷ ys) v) c (a ∷ ys) v w refl
+          last (inr (ys, v, y, w)) = bad_not_good (good (a ∷ ys) v) c (a ∷ ys) v w refl
 
-  in-turn-from : (j m i : ℕ) (ts rest : List Token) (xs : List A) → i < m → in_turn f j i ts ≡ good xs rest → f (j + i) rest ≡ bad c → in_turn f j m ts ≡ bad c
+  in_turn_from : (j m i : ℕ) (ts rest : List Token) (xs : List A) → i < m → in_turn f j i ts ≡ good xs rest → f (j + i) rest ≡ bad c → in_turn f j m ts ≡ bad c
   unfolding in_turn
-  in-turn-from j zero i ts rest xs h e q = absurd (omega arith)
-  in-turn-from j (suc m) zero ts rest xs h e q =
-      let u : ts ≡ rest = (good-same [] xs ts rest e).1 in
+  in_turn_from j zero i ts rest xs h e q = absurd (omega arith)
+  in_turn_from j (suc m) zero ts rest xs h e q =
+      let u : ts ≡ rest = (good_same [] xs ts rest e).1 in
       let z : j + 0 ≡ j = omega arith in
       let p : f j ts ≡ bad c = subst (λ (v : List Token). f j v ≡ bad c) (sym u) (subst (λ (k : ℕ). f k rest ≡ bad c) z q) in
       rw p
-  in-turn-from j (suc m) (suc i) ts rest xs h e q =
-      let s = then-good (f j ts) (λ a u. and_then (in_turn f (suc j) i u) (λ ys end. good (a ∷ ys) end)) xs rest e in
-      let t = then-good (in_turn f (suc j) i s.1) (λ ys end. good (s.0 ∷ ys) end) xs rest s.3 in
-      let v : t.1 ≡ rest = (good-same (s.0 ∷ t.0) xs t.1 rest t.3).1 in
+  in_turn_from j (suc m) (suc i) ts rest xs h e q =
+      let s = then_good (f j ts) (λ a u. and_then (in_turn f (suc j) i u) (λ ys end. good (a ∷ ys) end)) xs rest e in
+      let t = then_good (in_turn f (suc j) i s.1) (λ ys end. good (s.0 ∷ ys) end) xs rest s.3 in
+      let v : t.1 ≡ rest = (good_same (s.0 ∷ t.0) xs t.1 rest t.3).1 in
       let z : j + suc i ≡ suc j + i = omega arith in
-      let w = in-turn-from (suc j) m i s.1 rest t.0 (omega arith) (t.2 ∙ ap (good t.0) v) (subst (λ (k : ℕ). f k rest ≡ bad c) z q) in
+      let w = in_turn_from (suc j) m i s.1 rest t.0 (omega arith) (t.2 ∙ ap (good t.0) v) (subst (λ (k : ℕ). f k rest ≡ bad c) z q) in
       rw (s.2, w)
 
-  pub in-turn-refused : (j m : ℕ) (ts : List Token) → (in_turn f j m ts ≡ bad c) ↔ Behind f Refused j m ts
-  in-turn-refused j m ts = (in-turn-to j m ts, λ b. in-turn-from j m b.i ts b.rest b.xs b.before b.read ((facts (j + b.i) b.rest).1 b.refused))
+  pub in_turn_refused : (j m : ℕ) (ts : List Token) → (in_turn f j m ts ≡ bad c) ↔ Behind f Refused j m ts
+  in_turn_refused j m ts = (in_turn_to j m ts, λ b. in_turn_from j m b.i ts b.rest b.xs b.before b.read ((facts (j + b.i) b.rest).1 b.refused))
 
 -- numbers up to a limit: one of them is missing, is none, or is above it, behind numbers that are not
 abbrev pub NumbersRefused : ℕ → ℕ → ℕ → List Token → Type 0
 NumbersRefused top m c ts = Behind (λ j. one top 31) (λ j. OneRefused top 31 c) 0 m ts
 
-pub numbers-refused : (top m c : ℕ) (ts : List Token) → (numbersUpTo top m ts ≡ bad c) ↔ NumbersRefused top m c ts
-unfolding numbersUpTo
-numbers-refused top m c ts = in-turn-refused (λ j. one top 31) (λ j. OneRefused top 31 c) c (λ j u. one-refused top 31 c u) 0 m ts
+pub numbers_refused : (top m c : ℕ) (ts : List Token) → (numbers_up_to top m ts ≡ bad c) ↔ NumbersRefused top m c ts
+unfolding numbers_up_to
+numbers_refused top m c ts = in_turn_refused (λ j. one top 31) (λ j. OneRefused top 31 c) c (λ j u. one_refused top 31 c u) 0 m ts

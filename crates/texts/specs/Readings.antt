@@ -31,11 +31,11 @@ in_turn f j zero ts = good [] ts
 in_turn f j (suc m) ts = and_then (f j ts) (λ a rest. and_then (in_turn f (suc j) m rest) (λ xs end. good (a ∷ xs) end))
 
 -- m numbers up to `top`, 31 where one is above it
-unfoldable pub numbersUpTo : ℕ → ℕ → List Token → Read (List ℕ)
+unfoldable pub numbers_up_to : ℕ → ℕ → List Token → Read (List ℕ)
 unfolding in_turn one
-numbersUpTo top m ts = in_turn (λ j. one top 31) 0 m ts
+numbers_up_to top m ts = in_turn (λ j. one top 31) 0 m ts
 
 -- nothing more: 30 where a token is left over
-abbrev pub nothingMore : {A : Type 0} → A → List Token → Read A
-nothingMore a [] = good a []
-nothingMore a (t ∷ ts) = bad 30
+abbrev pub nothing_more : {A : Type 0} → A → List Token → Read A
+nothing_more a [] = good a []
+nothing_more a (t ∷ ts) = bad 30

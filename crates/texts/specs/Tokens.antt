@@ -12,9 +12,9 @@ unfoldable pub digit : ℕ → Bool
 digit b = both (leb 48 b) (leb b 57)
 
 -- the text goes on with a byte that is no blank
-abbrev pub goesOn : List ℕ → Bool
-goesOn [] = false
-goesOn (b ∷ s) = not (blank b)
+abbrev pub goes_on : List ℕ → Bool
+goes_on [] = false
+goes_on (b ∷ s) = not (blank b)
 
 -- a byte in front of the first run
 abbrev pub onto : ℕ → List (List ℕ) → List (List ℕ)
@@ -22,10 +22,10 @@ onto b [] = (b ∷ []) ∷ []
 onto b (t ∷ ts) = (b ∷ t) ∷ ts
 
 -- the longest runs of bytes other than blanks
-unfoldable pub solidRuns : List ℕ → List (List ℕ)
+unfoldable pub solid_runs : List ℕ → List (List ℕ)
 unfolding blank
-solidRuns [] = []
-solidRuns (b ∷ s) = cond (blank b) (solidRuns s) (cond (goesOn s) (onto b (solidRuns s)) ((b ∷ []) ∷ solidRuns s))
+solid_runs [] = []
+solid_runs (b ∷ s) = cond (blank b) (solid_runs s) (cond (goes_on s) (onto b (solid_runs s)) ((b ∷ []) ∷ solid_runs s))
 
 -- what such a run is: a number, or anything else
 pub data Token : Type 0 where
@@ -38,17 +38,17 @@ more other b = other
 more (number v) b = cond (digit b) (number (v * 10 + (b - 48))) other
 
 -- with all bytes of a run more
-unfoldable pub tokenFrom : Token → List ℕ → Token
+unfoldable pub token_from : Token → List ℕ → Token
 unfolding digit
-tokenFrom w [] = w
-tokenFrom w (b ∷ t) = tokenFrom (more w b) t
+token_from w [] = w
+token_from w (b ∷ t) = token_from (more w b) t
 
 -- a run is a number where all of its bytes are digits
 unfoldable pub token : List ℕ → Token
-unfolding tokenFrom
-token t = tokenFrom (number 0) t
+unfolding token_from
+token t = token_from (number 0) t
 
 -- all of a text's
 unfoldable pub tokens : List ℕ → List Token
-unfolding solidRuns token
-tokens s = map token (solidRuns s)
+unfolding solid_runs token
+tokens s = map token (solid_runs s)

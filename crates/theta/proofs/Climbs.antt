@@ -11,20 +11,20 @@ use mathlib.Core.Logic.{◌⊎◌, inl, inr}
 use lib.IntN.{ℤ, pos}
 use lib.ListN.{set, replicate, get_or-replicate}
 use lib.Signed.{mag}
-use Rattle.joblist.specs.Limits.{mostTime}
+use Rattle.joblist.specs.Limits.{most_time}
 use Rattle.lists.specs.Lists.{◌!◌}
 use Rattle.lists.specs.Sets.{Set, Empty}
 use Rattle.theta.specs.Theta.{far, end_of, empty, joined, Joins, AllJoin, Places, HoldsSet, Ranged, Touched, Climbed}
-use Rattle.theta.proofs.Ranges.{weights, joined-near, sum-here, end-here, sum-else, end-else, ranged-written, joins-written, zeros}
+use Rattle.theta.proofs.Ranges.{weights, joined_near, sum_here, end_here, sum_else, end_else, ranged_written, joins_written, zeros}
 
 -- the state of the climb at node i
 pub record Climbing (m : ℕ) (sums₀ : List ℕ) (ends₀ : List ℤ) (sums : List ℕ) (ends : List ℤ) (i : ℕ) : Type 0 where
   pub changed : Touched m sums ends i
   pub sums_kept : (v : ℕ) → (1 ≤ v → v < m → ⊥) → sums ! v ≡ sums₀ ! v
-  pub ends-kept : (v : ℕ) → (1 ≤ v → v < m → ⊥) → end_of ends v ≡ end_of ends₀ v
+  pub ends_kept : (v : ℕ) → (1 ≤ v → v < m → ⊥) → end_of ends v ≡ end_of ends₀ v
 
-pub climb-start : (m : ℕ) (sums : List ℕ) (ends : List ℤ) (i : ℕ) → Touched m sums ends i → Climbing m sums ends sums ends i
-climb-start m sums ends i c = record { changed = c; sums_kept = λ v q. refl; ends-kept = λ v q. refl }
+pub climb_start : (m : ℕ) (sums : List ℕ) (ends : List ℤ) (i : ℕ) → Touched m sums ends i → Climbing m sums ends sums ends i
+climb_start m sums ends i c = record { changed = c; sums_kept = λ v q. refl; ends_kept = λ v q. refl }
 
 module _ (m : ℕ) (sums₀ : List ℕ) (ends₀ : List ℤ) (sums : List ℕ) (ends : List ℤ) (i v : ℕ)
     (c : Climbing m sums₀ ends₀ sums ends i) (more : 1 < i) (is : v ≡ i / 2) where
@@ -41,10 +41,10 @@ module _ (m : ℕ) (sums₀ : List ℕ) (ends₀ : List ℤ) (sums : List ℕ) (
   lt = omega (arith, c.changed.below)
 
   else : (u : ℕ) → (u ≡ v → ⊥) → (set sums v s ! u ≡ sums ! u) × (end_of (set ends v end) u ≡ end_of ends u)
-  else u d = (sum-else m sums ends r v s end u d, end-else m sums ends r v s end u d)
+  else u d = (sum_else m sums ends r v s end u d, end_else m sums ends r v s end u d)
 
-  joins-next : (u : ℕ) → 1 ≤ u → u < m → (1 < v → u ≡ v / 2 → ⊥) → Joins (set sums v s) (set ends v end) u
-  joins-next u h g away = by (ℕ_discrete u v)
+  joins_next : (u : ℕ) → 1 ≤ u → u < m → (1 < v → u ≡ v / 2 → ⊥) → Joins (set sums v s) (set ends v end) u
+  joins_next u h g away = by (ℕ_discrete u v)
     where
       by : Dec (u ≡ v) → Joins (set sums v s) (set ends v end) u
       by (yes e) =
@@ -52,43 +52,43 @@ module _ (m : ℕ) (sums₀ : List ℕ) (ends₀ : List ℤ) (sums : List ℕ) (
           let right = else (2 * v + 1) (λ q. omega arith) in
           rw e
           (record {
-            sum_is = sum-here m sums ends r v s end lt ∙ sym (rw (left.0, right.0));
-            end_is = end-here m sums ends r v s end lt ∙ sym (rw (left.1, right.1, right.0));
+            sum_is = sum_here m sums ends r v s end lt ∙ sym (rw (left.0, right.0));
+            end_is = end_here m sums ends r v s end lt ∙ sym (rw (left.1, right.1, right.0));
           })
       by (no d) =
-          joins-written m sums ends r v s end u d (λ q. away (omega arith) (omega arith)) (λ q. away (omega arith) (omega arith))
+          joins_written m sums ends r v s end u d (λ q. away (omega arith) (omega arith)) (λ q. away (omega arith) (omega arith))
           (c.changed.joins u h g (λ _ q. d (q ∙ sym is)))
 
-  pub climb-step : Climbing m sums₀ ends₀ (set sums v s) (set ends v end) v
-  climb-step =
+  pub climb_step : Climbing m sums₀ ends₀ (set sums v s) (set ends v end) v
+  climb_step =
       record {
         changed = record {
           from = omega arith;
           below = lt;
-          ranged = ranged-written m sums ends r v s end lt
-              (weights (sums ! (2 * v)) (sums ! (2 * v + 1)) v (2 * mostTime * m) (r.weight (2 * v)) (r.weight (2 * v + 1)))
-              (joined-near (end_of ends (2 * v)) (end_of ends (2 * v + 1)) (sums ! (2 * v)) (sums ! (2 * v + 1)) far (r.near (2 * v)) (r.near (2 * v + 1)));
-          joins = joins-next;
+          ranged = ranged_written m sums ends r v s end lt
+              (weights (sums ! (2 * v)) (sums ! (2 * v + 1)) v (2 * most_time * m) (r.weight (2 * v)) (r.weight (2 * v + 1)))
+              (joined_near (end_of ends (2 * v)) (end_of ends (2 * v + 1)) (sums ! (2 * v)) (sums ! (2 * v + 1)) far (r.near (2 * v)) (r.near (2 * v + 1)));
+          joins = joins_next;
         };
         sums_kept = λ u h. (else u (λ q. h (omega arith) (omega (arith, c.changed.below)))).0 ∙ c.sums_kept u h;
-        ends-kept = λ u h. (else u (λ q. h (omega arith) (omega (arith, c.changed.below)))).1 ∙ c.ends-kept u h;
+        ends_kept = λ u h. (else u (λ q. h (omega arith) (omega (arith, c.changed.below)))).1 ∙ c.ends_kept u h;
       }
 
-pub climb-end : (m : ℕ) (sums₀ : List ℕ) (ends₀ : List ℤ) (sums : List ℕ) (ends : List ℤ) (i : ℕ) → Climbing m sums₀ ends₀ sums ends i → i ≤ 1 → Climbed m sums₀ ends₀ sums ends
-climb-end m sums₀ ends₀ sums ends i c h =
-    record { ranged = c.changed.ranged; joins = λ v a b. c.changed.joins v a b (λ q e. omega arith); sums_kept = c.sums_kept; ends-kept = c.ends-kept }
+pub climb_end : (m : ℕ) (sums₀ : List ℕ) (ends₀ : List ℤ) (sums : List ℕ) (ends : List ℤ) (i : ℕ) → Climbing m sums₀ ends₀ sums ends i → i ≤ 1 → Climbed m sums₀ ends₀ sums ends
+climb_end m sums₀ ends₀ sums ends i c h =
+    record { ranged = c.changed.ranged; joins = λ v a b. c.changed.joins v a b (λ q e. omega arith); sums_kept = c.sums_kept; ends_kept = c.ends_kept }
 
 -- ---- a leaf is filled
 
-pub put-changed : (m : ℕ) (sums : List ℕ) (ends : List ℤ) (x d : ℕ) (end : ℤ) → x < m → Ranged m sums ends → AllJoin m sums ends → d ≤ mostTime → mag end ≤ far
+pub put_changed : (m : ℕ) (sums : List ℕ) (ends : List ℤ) (x d : ℕ) (end : ℤ) → x < m → Ranged m sums ends → AllJoin m sums ends → d ≤ most_time → mag end ≤ far
     → Touched m (set sums (m + x) d) (set ends (m + x) end) (m + x)
-put-changed m sums ends x d end lt r all h k =
+put_changed m sums ends x d end lt r all h k =
     record {
       from = omega arith;
       below = omega arith;
-      ranged = ranged-written m sums ends r (m + x) d end (omega arith)
+      ranged = ranged_written m sums ends r (m + x) d end (omega arith)
           (let top : m + x ≤ 2 * m = omega arith in omega (arith, mul-le-mul_left d top, mul-le-mul_right (2 * m) h)) (omega arith);
-      joins = λ v a b away. joins-written m sums ends r (m + x) d end v (λ q. omega arith)
+      joins = λ v a b away. joins_written m sums ends r (m + x) d end v (λ q. omega arith)
           (λ q. away (omega arith) (omega arith)) (λ q. away (omega arith) (omega arith)) (all v a b);
     }
 
@@ -100,30 +100,30 @@ module _ (n m : ℕ) (e p : List ℕ) (σ : ℕ → ℕ) (O O' : Set) (sums : Li
   abbrev finish : ℤ
   finish = pos (e ! j + p ! j)
 
-  leaf-in : m + σ j < 2 * m
-  leaf-in = omega (arith, places.into j b)
+  leaf_in : m + σ j < 2 * m
+  leaf_in = omega (arith, places.into j b)
 
   -- what the leaf holds, and the leaves of other places
-  own-leaf : (sums' ! (m + σ j) ≡ p ! j) × (end_of ends' (m + σ j) ≡ finish)
-  own-leaf = (
-    climbed.sums_kept (m + σ j) (λ q r. omega arith) ∙ sum-here m sums ends ranged (m + σ j) (p ! j) finish leaf-in,
-    climbed.ends-kept (m + σ j) (λ q r. omega arith) ∙ end-here m sums ends ranged (m + σ j) (p ! j) finish leaf-in,
+  own_leaf : (sums' ! (m + σ j) ≡ p ! j) × (end_of ends' (m + σ j) ≡ finish)
+  own_leaf = (
+    climbed.sums_kept (m + σ j) (λ q r. omega arith) ∙ sum_here m sums ends ranged (m + σ j) (p ! j) finish leaf_in,
+    climbed.ends_kept (m + σ j) (λ q r. omega arith) ∙ end_here m sums ends ranged (m + σ j) (p ! j) finish leaf_in,
   )
 
-  leaf-else : (x : ℕ) → (x ≡ σ j → ⊥) → (sums' ! (m + x) ≡ sums ! (m + x)) × (end_of ends' (m + x) ≡ end_of ends (m + x))
-  leaf-else x d = (
-    climbed.sums_kept (m + x) (λ q r. omega arith) ∙ sum-else m sums ends ranged (m + σ j) (p ! j) finish (m + x) (λ q. d (omega arith)),
-    climbed.ends-kept (m + x) (λ q r. omega arith) ∙ end-else m sums ends ranged (m + σ j) (p ! j) finish (m + x) (λ q. d (omega arith)),
+  leaf_else : (x : ℕ) → (x ≡ σ j → ⊥) → (sums' ! (m + x) ≡ sums ! (m + x)) × (end_of ends' (m + x) ≡ end_of ends (m + x))
+  leaf_else x d = (
+    climbed.sums_kept (m + x) (λ q r. omega arith) ∙ sum_else m sums ends ranged (m + σ j) (p ! j) finish (m + x) (λ q. d (omega arith)),
+    climbed.ends_kept (m + x) (λ q r. omega arith) ∙ end_else m sums ends ranged (m + σ j) (p ! j) finish (m + x) (λ q. d (omega arith)),
   )
 
   pub holds_more : HoldsSet n m e p σ O' sums' ends'
   holds_more =
       record {
         joins = climbed.joins;
-        full-sum = λ i c t. elim (ℕ_discrete i j) [ yes q ↦ rw q own-leaf.0 | no q ↦ (leaf-else (σ i) (λ r. q (places.apart i j c b r))).0 ∙ holds.full-sum i c (old i c t q) ];
-        full-end = λ i c t. elim (ℕ_discrete i j) [ yes q ↦ rw q own-leaf.1 | no q ↦ (leaf-else (σ i) (λ r. q (places.apart i j c b r))).1 ∙ holds.full-end i c (old i c t q) ];
-        bare-sum = λ x c f. (leaf-else x (λ q. f j b own (sym q))).0 ∙ holds.bare-sum x c (λ i d t. f i d (more i d t));
-        bare-end = λ x c f. (leaf-else x (λ q. f j b own (sym q))).1 ∙ holds.bare-end x c (λ i d t. f i d (more i d t));
+        full_sum = λ i c t. elim (ℕ_discrete i j) [ yes q ↦ rw q own_leaf.0 | no q ↦ (leaf_else (σ i) (λ r. q (places.apart i j c b r))).0 ∙ holds.full_sum i c (old i c t q) ];
+        full_end = λ i c t. elim (ℕ_discrete i j) [ yes q ↦ rw q own_leaf.1 | no q ↦ (leaf_else (σ i) (λ r. q (places.apart i j c b r))).1 ∙ holds.full_end i c (old i c t q) ];
+        bare_sum = λ x c f. (leaf_else x (λ q. f j b own (sym q))).0 ∙ holds.bare_sum x c (λ i d t. f i d (more i d t));
+        bare_end = λ x c f. (leaf_else x (λ q. f j b own (sym q))).1 ∙ holds.bare_end x c (λ i d t. f i d (more i d t));
       }
     where
       old : (i : ℕ) → i < n → O' i ≡ true → (i ≡ j → ⊥) → O i ≡ true
@@ -131,17 +131,17 @@ module _ (n m : ℕ) (e p : List ℕ) (σ : ℕ → ℕ) (O O' : Set) (sums : Li
 
 -- ---- the empty tree
 
-pub start-holds : (m n : ℕ) (e p : List ℕ) (σ : ℕ → ℕ) (O : Set) → Empty n O → HoldsSet n m e p σ O (replicate (2 * m) 0) (replicate (2 * m) empty)
-start-holds m n e p σ O none_in =
+pub start_holds : (m n : ℕ) (e p : List ℕ) (σ : ℕ → ℕ) (O : Set) → Empty n O → HoldsSet n m e p σ O (replicate (2 * m) 0) (replicate (2 * m) empty)
+start_holds m n e p σ O none_in =
     record {
       joins = λ v a b. record {
         sum_is = rw (zeros (2 * m) v, zeros (2 * m) (2 * v), zeros (2 * m) (2 * v + 1));
         end_is = rw (bare v (omega arith), bare (2 * v) (omega arith), bare (2 * v + 1) (omega arith), zeros (2 * m) (2 * v + 1));
       };
-      full-sum = λ j b t. absurd (none_in j b t);
-      full-end = λ j b t. absurd (none_in j b t);
-      bare-sum = λ x b f. zeros (2 * m) (m + x);
-      bare-end = λ x b f. bare (m + x) (omega arith);
+      full_sum = λ j b t. absurd (none_in j b t);
+      full_end = λ j b t. absurd (none_in j b t);
+      bare_sum = λ x b f. zeros (2 * m) (m + x);
+      bare_end = λ x b f. bare (m + x) (omega arith);
     }
   where
     bare : (v : ℕ) → v < 2 * m → end_of (replicate (2 * m) empty) v ≡ empty

@@ -27,8 +27,8 @@ walk_start m d sums ends b e =
 
 module _ (m d : ℕ) (sums : List ℕ) (ends : List ℤ) (b v t : ℕ) (all : AllJoin m sums ends) (lt : v < m) (w : Walking m d sums ends b v t) where
   -- the right child's total may come into the tail
-  pub walk-tail : t + sums ! (2 * v + 1) ≤ sums ! 1
-  walk-tail = omega (arith, w.tail, (all v w.start lt).sum_is)
+  pub walk_tail : t + sums ! (2 * v + 1) ≤ sums ! 1
+  walk_tail = omega (arith, w.tail, (all v w.start lt).sum_is)
 
   pub walk_step : (right : Bool) → right ≡ lt_z (pos b) (end_of ends (2 * v + 1) +ℤ pos t)
       → Walking m d sums ends b (pick right (2 * v + 1) (2 * v)) (pick right t (t + sums ! (2 * v + 1)))
@@ -47,7 +47,7 @@ module _ (m d : ℕ) (sums : List ℕ) (ends : List ℤ) (b v t : ℕ) (all : Al
             start = omega arith;
             from = omega (arith, left_is h, add-mul (2 * v) 1 (2 ^ h));
             upto = omega (arith, left_is h, add-mul v 1 (2 ^ suc h), add-mul (2 * v + 1) 1 (2 ^ h), add-mul (2 * v) 1 (2 ^ h), pow-suc 2 h);
-            tail = walk-tail;
+            tail = walk_tail;
             same = s;
           }
       side false h f g s =
@@ -78,6 +78,6 @@ walk_end m d sums ends b v t f w = go w.h w.upto w.same
     go (suc h) g s = absurd (far (2 ^ h) (pow_pos h) (rw (pow-suc 2 h) at g))
 
 -- each step goes to a later node
-pub child-more : (right : Bool) (v : ℕ) → 1 ≤ v → v < pick right (2 * v + 1) (2 * v)
-child-more true v h = omega arith
-child-more false v h = omega arith
+pub child_more : (right : Bool) (v : ℕ) → 1 ≤ v → v < pick right (2 * v + 1) (2 * v)
+child_more true v h = omega arith
+child_more false v h = omega arith

@@ -4,7 +4,7 @@
 use Rattle.std.specs.Prelude.{ℕ, zero, suc, ◌+◌, ◌*◌, ◌/◌, ◌≤◌, ◌<◌, ◌≡◌, true, cond, List, leb, ltb, ℤ, pos, negsuc, ◌+ℤ◌, length, get_or}
 use Rattle.std.proofs.Math.Option.{Option, none, some}
 use Rattle.std.specs.Int.Signed.{mag, lt_z}
-use Rattle.joblist.specs.Limits.{mostTime}
+use Rattle.joblist.specs.Limits.{most_time}
 use Rattle.lists.specs.Lists.{◌!◌}
 use Rattle.lists.specs.Tests.{both, pick}
 use Rattle.lists.specs.Sets.{Set}
@@ -52,14 +52,14 @@ pub record Places (n m : ℕ) (e : List ℕ) (σ : ℕ → ℕ) : Type 0 where
 -- the tree holds the jobs of the set O
 pub record HoldsSet (n m : ℕ) (e p : List ℕ) (σ : ℕ → ℕ) (O : Set) (sums : List ℕ) (ends : List ℤ) : Type 0 where
   pub joins : AllJoin m sums ends
-  pub full-sum : (j : ℕ) → j < n → O j ≡ true → sums ! (m + σ j) ≡ p ! j
-  pub full-end : (j : ℕ) → j < n → O j ≡ true → end_of ends (m + σ j) ≡ pos (e ! j + p ! j)
-  pub bare-sum : (x : ℕ) → x < m → ((j : ℕ) → j < n → O j ≡ true → σ j ≡ x → ⊥) → sums ! (m + x) ≡ 0
-  pub bare-end : (x : ℕ) → x < m → ((j : ℕ) → j < n → O j ≡ true → σ j ≡ x → ⊥) → end_of ends (m + x) ≡ empty
+  pub full_sum : (j : ℕ) → j < n → O j ≡ true → sums ! (m + σ j) ≡ p ! j
+  pub full_end : (j : ℕ) → j < n → O j ≡ true → end_of ends (m + σ j) ≡ pos (e ! j + p ! j)
+  pub bare_sum : (x : ℕ) → x < m → ((j : ℕ) → j < n → O j ≡ true → σ j ≡ x → ⊥) → sums ! (m + x) ≡ 0
+  pub bare_end : (x : ℕ) → x < m → ((j : ℕ) → j < n → O j ≡ true → σ j ≡ x → ⊥) → end_of ends (m + x) ≡ empty
 
 -- the jobs of O whose places are the s from a: the leaves below a node
-abbrev pub atLeaves : (ℕ → ℕ) → Set → ℕ → ℕ → Set
-atLeaves σ O a s j = both (O j) (both (leb a (σ j)) (ltb (σ j) (a + s)))
+abbrev pub at_leaves : (ℕ → ℕ) → Set → ℕ → ℕ → Set
+at_leaves σ O a s j = both (O j) (both (leb a (σ j)) (ltb (σ j) (a + s)))
 
 -- the jobs of O whose places are a and those after it
 abbrev pub onward : (ℕ → ℕ) → Set → ℕ → Set
@@ -75,9 +75,9 @@ descent sums ends b (suc h) v t =
 
 -- what keeps the numbers in range: the lists' lengths, and a bound at each node that its children's bounds give
 pub record Ranged (m : ℕ) (sums : List ℕ) (ends : List ℤ) : Type 0 where
-  pub sums-long : length sums ≡ 2 * m
-  pub ends-long : length ends ≡ 2 * m
-  pub weight : (v : ℕ) → sums ! v * v ≤ 2 * mostTime * m
+  pub sums_long : length sums ≡ 2 * m
+  pub ends_long : length ends ≡ 2 * m
+  pub weight : (v : ℕ) → sums ! v * v ≤ 2 * most_time * m
   pub near : (v : ℕ) → mag (end_of ends v) ≤ far + sums ! v
 
 -- node i has been changed: every inner node but its parent is what its children say
@@ -92,4 +92,4 @@ pub record Climbed (m : ℕ) (sums : List ℕ) (ends : List ℤ) (sums' : List �
   pub ranged : Ranged m sums' ends'
   pub joins : AllJoin m sums' ends'
   pub sums_kept : (v : ℕ) → (1 ≤ v → v < m → ⊥) → sums' ! v ≡ sums ! v
-  pub ends-kept : (v : ℕ) → (1 ≤ v → v < m → ⊥) → end_of ends' v ≡ end_of ends v
+  pub ends_kept : (v : ℕ) → (1 ≤ v → v < m → ⊥) → end_of ends' v ≡ end_of ends v

@@ -2,7 +2,7 @@
 // towards the root.
 ghost use Rattle.std.specs.Prelude.{◌≡◌, ◌+◌, ◌*◌, ◌^◌, ◌≤◌, ◌<◌, pos, ◌+ℤ◌, set};
 ghost use Rattle.std.specs.Int.Signed.{mag, lt_z};
-ghost use Rattle.joblist.specs.Limits.{mostJobs, mostTime};
+ghost use Rattle.joblist.specs.Limits.{most_jobs, most_time};
 ghost use Rattle.lists.specs.Lists.{◌!◌};
 ghost use Rattle.lists.specs.Tests.{pick};
 ghost use Rattle.theta.specs.Theta.{far, end_of, joined, AllJoin, Ranged, Touched, Climbed, descent, depth};
@@ -30,7 +30,7 @@ fn join(left: i64, right: i64, total: u32) -> i64
 
 // Node v is made what its children say.
 fn settle(sums: &mut [u32; NODES], ends: &mut [i64; NODES], v: usize)
-    requires { (Ranged mostJobs sums.old ends.old) × (1 ≤ v) × (v < mostJobs) }
+    requires { (Ranged most_jobs sums.old ends.old) × (1 ≤ v) × (v < most_jobs) }
     ensures sums_after { sums.new ≡ set sums.old v (sums.old ! (2 * v) + sums.old ! (2 * v + 1)) }
     ensures ends_after { ends.new ≡ set ends.old v (joined (end_of ends.old (2 * v)) (end_of ends.old (2 * v + 1)) (sums.old ! (2 * v + 1))) }
 {
@@ -44,8 +44,8 @@ fn settle(sums: &mut [u32; NODES], ends: &mut [i64; NODES], v: usize)
 
 // Every node above a node that was changed is made what its children say.
 fn climb(sums: &mut [u32; NODES], ends: &mut [i64; NODES], changed: usize)
-    requires { Touched mostJobs sums.old ends.old changed }
-    ensures { Climbed mostJobs sums.old ends.old sums.new ends.new }
+    requires { Touched most_jobs sums.old ends.old changed }
+    ensures { Climbed most_jobs sums.old ends.old sums.new ends.new }
 {
     let mut i = changed;
     while 1 < i {
@@ -56,9 +56,9 @@ fn climb(sums: &mut [u32; NODES], ends: &mut [i64; NODES], changed: usize)
 
 // A job of earliest start e and duration p is put in at place x.
 pub fn put(sums: &mut [u32; NODES], ends: &mut [i64; NODES], x: usize, e: u32, p: u32)
-    requires ranged { (Ranged mostJobs sums.old ends.old) × (AllJoin mostJobs sums.old ends.old) }
-    requires x_lt_most_jobs { (x < mostJobs) × (e ≤ mostTime) × (p ≤ mostTime) }
-    ensures { Climbed mostJobs (set sums.old (mostJobs + x) p) (set ends.old (mostJobs + x) (pos (e + p))) sums.new ends.new }
+    requires ranged { (Ranged most_jobs sums.old ends.old) × (AllJoin most_jobs sums.old ends.old) }
+    requires x_lt_most_jobs { (x < most_jobs) × (e ≤ most_time) × (p ≤ most_time) }
+    ensures { Climbed most_jobs (set sums.old (most_jobs + x) p) (set ends.old (most_jobs + x) (pos (e + p))) sums.new ends.new }
 {
     let leaf = MOST + x;
     sums[leaf] = p;
@@ -76,7 +76,7 @@ pub fn exceeds(end: i64, tail: u32, b: u32) -> bool
 
 // The child of node v on that side.
 fn child(right: bool, v: usize) -> usize
-    requires { v < mostJobs }
+    requires { v < most_jobs }
     ensures { result ≡ pick right (2 * v + 1) (2 * v) }
 {
     if right {
@@ -98,7 +98,7 @@ fn tail_of(right: bool, tail: u32, sum: u32) -> u32
 
 // The leaf at which the descent from the root ends.
 pub fn descend(sums: &[u32; NODES], ends: &[i64; NODES], b: u32) -> usize
-    requires { (Ranged mostJobs sums.now ends.now) × (AllJoin mostJobs sums.now ends.now) }
+    requires { (Ranged most_jobs sums.now ends.now) × (AllJoin most_jobs sums.now ends.now) }
     ensures { result ≡ descent sums.now ends.now b depth 1 0 }
 {
     let mut v = 1;

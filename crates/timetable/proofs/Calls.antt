@@ -3,15 +3,15 @@ use native.Mathlib.Omega.{arith}
 use mathlib.Core.Path.{◌≡◌}
 use Rattle.narrowing.proofs.Moves.{Whole}
 use Rattle.promises.proofs.Calls as general
-use Rattle.timetable.specs.Table.{Call, jobsOf, asks, Good, Admitted, refusalOf}
+use Rattle.timetable.specs.Table.{Call, jobs_of, asks, Good, Admitted, refusal_of}
 
-pub admitted-call : (c : Call) → refusalOf c ≡ 0 → Admitted c
-unfolding refusalOf
-admitted-call c h = general.admitted-call (asks c) h
+pub admitted_call : (c : Call) → refusal_of c ≡ 0 → Admitted c
+unfolding refusal_of
+admitted_call c h = general.admitted_call (asks c) h
 
-pub call-admitted : (c : Call) → Admitted c → refusalOf c ≡ 0
-unfolding refusalOf
-call-admitted c g = general.call-admitted (asks c) g
+pub call_admitted : (c : Call) → Admitted c → refusal_of c ≡ 0
+unfolding refusal_of
+call_admitted c g = general.call_admitted (asks c) g
 
-pub whole : (c : Call) → Good c → Whole (jobsOf c).n c.win
+pub whole : (c : Call) → Good c → Whole (jobs_of c).n c.win
 whole c g = record { early = omega arith; late = omega (arith, g.sized.1) }

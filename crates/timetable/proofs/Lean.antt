@@ -12,83 +12,83 @@ use Rattle.lists.specs.Lists.{◌!◌}
 use Rattle.lists.specs.Tests.{both, only}
 use Rattle.lists.specs.Sets.{Set, total_of}
 use Rattle.lists.specs.Spares.{without, amount, NoneSpare}
-use Rattle.lists.proofs.Tests.{both_true, true-both, only-cong}
-use Rattle.lists.proofs.Sums.{total-cong}
-use Rattle.lists.proofs.Sets.{clash, totalOf-sub}
-use Rattle.lists.proofs.Spares.{leaned-in, leaned-exceeds, leaned-none-spare}
+use Rattle.lists.proofs.Tests.{both_true, true_both, only_cong}
+use Rattle.lists.proofs.Sums.{total_cong}
+use Rattle.lists.proofs.Sets.{clash, total_of_sub}
+use Rattle.lists.proofs.Spares.{leaned_in, leaned_exceeds, leaned_none_spare}
 use Rattle.narrowing.specs.Windows.{Win, Side, early}
 use Rattle.narrowing.specs.Search.{Move}
 use Rattle.narrowing.specs.Rounds.{Choice, Chosen}
-use Rattle.members.specs.Members.{setWords}
-use Rattle.members.proofs.Sets.{has-given}
-use Rattle.members.proofs.Spares.{words-exceed, words-none-spare}
-use Rattle.journal.specs.Journal.{job_of, isMember, roomOf, recordAt, logged}
-use Rattle.promises.proofs.Logs.{logged-fine}
+use Rattle.members.specs.Members.{set_words}
+use Rattle.members.proofs.Sets.{has_given}
+use Rattle.members.proofs.Spares.{words_exceed, words_none_spare}
+use Rattle.journal.specs.Journal.{job_of, is_member, room_of, record_at, logged}
+use Rattle.promises.proofs.Logs.{logged_fine}
 use Rattle.timetable.specs.Time.{Jobs, sure, load, Crowded, Applies}
-use Rattle.timetable.specs.Search.{search, Member, member, leanMember, naming, entry}
+use Rattle.timetable.specs.Search.{search, Member, member, lean_member, naming, entry}
 use Rattle.timetable.specs.Reason.{LeanRecord}
-use Rattle.timetable.proofs.Facts.{crowded-at, sure-yes, yes-sure, member-yes, yes-member}
+use Rattle.timetable.proofs.Facts.{crowded_at, sure_yes, yes_sure, member_yes, yes_member}
 use Rattle.timetable.proofs.Entries.{entry_length}
 
 module _ (J : Jobs) (W : Win) (j t : ℕ) where
   -- the demands of 01's members are the others' load
-  pub members-load : total_of J.n J.r (member J W j t) ≡ load J W j t
+  pub members_load : total_of J.n J.r (member J W j t) ≡ load J W j t
   unfolding total_of load
-  members-load =
-      total-cong (λ k. only (member J W j t k) (J.r ! k)) (λ k. only (both (not (eqb k j)) (sure J.p W k t)) (J.r ! k)) J.n
+  members_load =
+      total_cong (λ k. only (member J W j t k) (J.r ! k)) (λ k. only (both (not (eqb k j)) (sure J.p W k t)) (J.r ! k)) J.n
       (λ k c.
-      only-cong (member J W j t k) (both (not (eqb k j)) (sure J.p W k t)) (J.r ! k)
-      (λ q. let m = member-yes J W j t k q in true-both (not (eqb k j)) (sure J.p W k t) (rw (ne_eqb k j m.other)) (yes-sure J.p W k t m.sure-there))
+      only_cong (member J W j t k) (both (not (eqb k j)) (sure J.p W k t)) (J.r ! k)
+      (λ q. let m = member_yes J W j t k q in true_both (not (eqb k j)) (sure J.p W k t) (rw (ne_eqb k j m.other)) (yes_sure J.p W k t m.sure_there))
       (λ q r.
       let d = both_true (not (eqb k j)) (sure J.p W k t) q in
-      yes-member J W j t k
-      (record { listed = c; other = eqb-false k j (not-true (eqb k j) d.0); takes = omega arith; sure-there = sure-yes J.p W k t d.1 })))
+      yes_member J W j t k
+      (record { listed = c; other = eqb-false k j (not-true (eqb k j) d.0); takes = omega arith; sure_there = sure_yes J.p W k t d.1 })))
 
   -- the writer's are some of 01's
-  pub lean-some : (k : ℕ) → leanMember J W j t k ≡ true → member J W j t k ≡ true
-  unfolding leanMember
-  lean-some k h = leaned-in J.n J.r (J.r ! j) J.cap (member J W j t) k h
+  pub lean_some : (k : ℕ) → lean_member J W j t k ≡ true → member J W j t k ≡ true
+  unfolding lean_member
+  lean_some k h = leaned_in J.n J.r (J.r ! j) J.cap (member J W j t) k h
 
-  pub lean-member : (k : ℕ) → leanMember J W j t k ≡ true → Member J W j t k
-  lean-member k h = member-yes J W j t k (lean-some k h)
+  pub lean_member_lem : (k : ℕ) → lean_member J W j t k ≡ true → Member J W j t k
+  lean_member_lem k h = member_yes J W j t k (lean_some k h)
 
-  lean-exceeds : Crowded J W j t → J.cap < amount J.n J.r (J.r ! j) (leanMember J W j t)
-  unfolding leanMember
-  lean-exceeds c = leaned-exceeds J.n J.r (J.r ! j) J.cap (member J W j t) (omega (arith, c.over, members-load))
+  lean_exceeds : Crowded J W j t → J.cap < amount J.n J.r (J.r ! j) (lean_member J W j t)
+  unfolding lean_member
+  lean_exceeds c = leaned_exceeds J.n J.r (J.r ! j) J.cap (member J W j t) (omega (arith, c.over, members_load))
 
-  lean-none-spare : NoneSpare J.n J.r (J.r ! j) J.cap (leanMember J W j t)
-  unfolding leanMember
-  lean-none-spare = leaned-none-spare J.n J.r (J.r ! j) J.cap (member J W j t) (λ k h. (member-yes J W j t k h).listed)
+  lean_none_spare : NoneSpare J.n J.r (J.r ! j) J.cap (lean_member J W j t)
+  unfolding lean_member
+  lean_none_spare = leaned_none_spare J.n J.r (J.r ! j) J.cap (member J W j t) (λ k h. (member_yes J W j t k h).listed)
 
 -- ---- records
 
 -- no part of a lean record's members would do
-pub none-fewer : (J : Jobs) (x : List ℕ) → LeanRecord J x → (S : Set) → ((k : ℕ) → S k ≡ true → isMember x k ≡ true) → (k : ℕ) → isMember x k ≡ true → S k ≡ false
+pub none_fewer : (J : Jobs) (x : List ℕ) → LeanRecord J x → (S : Set) → ((k : ℕ) → S k ≡ true → is_member x k ≡ true) → (k : ℕ) → is_member x k ≡ true → S k ≡ false
     → amount J.n J.r (J.r ! job_of x) S ≤ J.cap
-none-fewer J x h S some k m out =
+none_fewer J x h S some k m out =
     omega (
       arith,
       h.lean k m,
-      totalOf-sub J.n J.r S (without (isMember x) k)
-          (λ i b q. true-both (not (eqb i k)) (isMember x i) (rw (ne_eqb i k (λ e. clash (S k) (rw e at q) out))) (some i q)),
+      total_of_sub J.n J.r S (without (is_member x) k)
+          (λ i b q. true_both (not (eqb i k)) (is_member x i) (rw (ne_eqb i k (λ e. clash (S k) (rw e at q) out))) (some i q)),
     )
 
-module _ (J : Jobs) (few : J.n ≤ 32 * setWords) where
-  pub entry-lean : (m : Move) → Crowded J m.before m.job m.choice → LeanRecord J (entry J m)
+module _ (J : Jobs) (few : J.n ≤ 32 * set_words) where
+  pub entry_lean : (m : Move) → Crowded J m.before m.job m.choice → LeanRecord J (entry J m)
   unfolding naming
-  entry-lean m c =
-      let named = leanMember J m.before m.job m.choice in
+  entry_lean m c =
+      let named = lean_member J m.before m.job m.choice in
       record {
         counted = refl;
-        other = λ h. (lean-member J m.before m.job m.choice m.job (has-given setWords named m.job h)).other refl;
-        exceeds = words-exceed setWords J.n J.r (J.r ! m.job) J.cap named few (lean-exceeds J m.before m.job m.choice c);
-        lean = words-none-spare setWords J.n J.r (J.r ! m.job) J.cap named few (lean-none-spare J m.before m.job m.choice);
+        other = λ h. (lean_member_lem J m.before m.job m.choice m.job (has_given set_words named m.job h)).other refl;
+        exceeds = words_exceed set_words J.n J.r (J.r ! m.job) J.cap named few (lean_exceeds J m.before m.job m.choice c);
+        lean = words_none_spare set_words J.n J.r (J.r ! m.job) J.cap named few (lean_none_spare J m.before m.job m.choice);
       }
 
-  choice-lean : (W : Win) (j : ℕ) (s : Side) (m : Move) → Choice (search J) (Applies J) W j s m → LeanRecord J (entry J m)
-  choice-lean W j s m x =
-      entry-lean m (subst (λ (U : Win). Crowded J U m.job m.choice) (sym x.before) (crowded-at J W m.job m.side m.choice x.applies))
+  choice_lean : (W : Win) (j : ℕ) (s : Side) (m : Move) → Choice (search J) (Applies J) W j s m → LeanRecord J (entry J m)
+  choice_lean W j s m x =
+      entry_lean m (subst (λ (U : Win). Crowded J U m.job m.choice) (sym x.before) (crowded_at J W m.job m.side m.choice x.applies))
 
-  pub logged-lean : (W : Win) (ms : List Move) → Chosen (search J) (Applies J) W 0 early ms → (log : List ℕ) → length ms ≤ roomOf log → (i : ℕ) → i < length ms
-      → LeanRecord J (recordAt (logged (map (entry J) ms) log) i)
-  logged-lean W ms = logged-fine (entry J) (entry_length leanMember J) (search J) (Applies J) (LeanRecord J) choice-lean W 0 early ms
+  pub logged_lean : (W : Win) (ms : List Move) → Chosen (search J) (Applies J) W 0 early ms → (log : List ℕ) → length ms ≤ room_of log → (i : ℕ) → i < length ms
+      → LeanRecord J (record_at (logged (map (entry J) ms) log) i)
+  logged_lean W ms = logged_fine (entry J) (entry_length lean_member J) (search J) (Applies J) (LeanRecord J) choice_lean W 0 early ms

@@ -5,31 +5,31 @@ use mathlib.Core.Path.{refl}
 use Rattle.promises.specs.Ask.{Grounds}
 use Rattle.promises.specs.Promise as promise
 use Rattle.promises.proofs.Meaning as general
-use Rattle.timetable.specs.Table.{Call, jobsOf, asks, After, narrowed, narrowedBy}
+use Rattle.timetable.specs.Table.{Call, jobs_of, asks, After, narrowed, narrowed_by}
 use Rattle.timetable.specs.Promise.{Narrows}
 use Rattle.timetable.proofs.Law.{lawful, searches}
-use Rattle.timetable.proofs.Exact.{exact, fixed-applies}
-use Rattle.timetable.proofs.Lean.{logged-lean}
-use Rattle.timetable.proofs.Unmoved.{unmoved-by}
+use Rattle.timetable.proofs.Exact.{exact, fixed_applies}
+use Rattle.timetable.proofs.Lean.{logged_lean}
+use Rattle.timetable.proofs.Unmoved.{unmoved_by}
 
 pub grounds : (c : Call) → Grounds (asks c)
 grounds c =
-    let J = jobsOf c in
+    let J = jobs_of c in
     record {
       lawful = lawful J;
       searches = searches J;
       exact = exact J;
-      broken = fixed-applies J;
-      fine = λ g ms x b. logged-lean J (omega (arith, g.few)) c.win ms x c.log b;
+      broken = fixed_applies J;
+      fine = λ g ms x b. logged_lean J (omega (arith, g.few)) c.win ms x c.log b;
     }
 
 -- its contract is that of narrowing by rules, and that shorter reasons move nothing
-pub by-rules : (c : Call) (a : After) → Narrows c a → promise.Narrows (asks c) a
-unfolding narrowedBy
-by-rules c a h = record { answered = h.answered; exactly = h.exactly; kept = h.kept; largest = h.largest; reasons = h.reasons }
+pub by_rules : (c : Call) (a : After) → Narrows c a → promise.Narrows (asks c) a
+unfolding narrowed_by
+by_rules c a h = record { answered = h.answered; exactly = h.exactly; kept = h.kept; largest = h.largest; reasons = h.reasons }
 
 pub narrows : (c : Call) → Narrows c (narrowed c)
-unfolding narrowedBy
+unfolding narrowed_by
 narrows c =
     let h = general.narrows (asks c) (grounds c) in
-    record { answered = refl; exactly = h.exactly; kept = h.kept; largest = h.largest; reasons = h.reasons; unmoved = unmoved-by c }
+    record { answered = refl; exactly = h.exactly; kept = h.kept; largest = h.largest; reasons = h.reasons; unmoved = unmoved_by c }

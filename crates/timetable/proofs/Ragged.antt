@@ -10,8 +10,8 @@ use Rattle.timetable.specs.Table.{Call, asks, Good, After, leaves}
 use Rattle.timetable.specs.Promise.{Exactly}
 
 module _ (c : Call) (a : After) (x : Exactly c a) where
-  pub ragged-exactly : (a.says ≡ said Word.refused (7 ∷ [])) ↔ (Good c × Ragged c.log)
-  ragged-exactly = general.ragged-exactly (asks c) a x
+  pub ragged_exactly : (a.says ≡ said Word.refused (7 ∷ [])) ↔ (Good c × Ragged c.log)
+  ragged_exactly = general.ragged_exactly (asks c) a x
 
-  pub ragged-row : Good c → Ragged c.log → a ≡ leaves (said Word.refused (7 ∷ [])) c.win c.log
-  ragged-row = general.ragged-row (asks c) a x
+  pub ragged_row : Good c → Ragged c.log → a ≡ leaves (said Word.refused (7 ∷ [])) c.win c.log
+  ragged_row = general.ragged_row (asks c) a x

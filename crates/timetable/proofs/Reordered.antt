@@ -12,22 +12,22 @@ use Rattle.joblist.specs.Renumbered.{SameColumn}
 use Rattle.journal.specs.Journal.{Ragged}
 use Rattle.promises.specs.Reordered.{SameAsk}
 use Rattle.promises.proofs.Reordered as general
-use Rattle.timetable.specs.Table.{Call, jobsOf, asks, Good, After}
+use Rattle.timetable.specs.Table.{Call, jobs_of, asks, Good, After}
 use Rattle.timetable.specs.Promise.{Room, Narrows}
 use Rattle.timetable.specs.Reordered.{SameCall}
-use Rattle.timetable.proofs.Order.{SameJobs, alike, alike-back}
-use Rattle.timetable.proofs.Meaning.{by-rules}
+use Rattle.timetable.proofs.Order.{SameJobs, alike, alike_back}
+use Rattle.timetable.proofs.Meaning.{by_rules}
 
 module _ (π σ : ℕ → ℕ) (c d : Call) (t : Permutes (jobs c.win) π σ) (s : SameCall π c d) where
-  same-jobs : SameJobs π (jobsOf c) (jobsOf d)
-  same-jobs = record { count = s.count; supply = s.supply; lasts = s.lasts; takes = s.takes }
+  same_jobs : SameJobs π (jobs_of c) (jobs_of d)
+  same_jobs = record { count = s.count; supply = s.supply; lasts = s.lasts; takes = s.takes }
 
   column : (xs ys : List ℕ) (most : ℕ) → length ys ≡ length xs → SameList (jobs c.win) π xs ys
       → SameColumn (jobs c.win) π (record { list = xs; most = most }) (record { list = ys; most = most })
   column xs ys most e f = record { limit = refl; size = e; numbers = λ z. f }
 
-  same-ask : SameAsk π σ (asks c) (asks d)
-  same-ask =
+  same_ask : SameAsk π σ (asks c) (asks d)
+  same_ask =
       record {
         count = s.count;
         lists = (
@@ -37,24 +37,24 @@ module _ (π σ : ℕ → ℕ) (c d : Call) (t : Permutes (jobs c.win) π σ) (s
         numbers = ap supply s.supply;
         windows = s.windows;
         durations = s.lasts;
-        there = alike π σ (jobsOf c) (jobsOf d) t same-jobs;
-        back = alike-back π σ (jobsOf c) (jobsOf d) t same-jobs;
+        there = alike π σ (jobs_of c) (jobs_of d) t same_jobs;
+        back = alike_back π σ (jobs_of c) (jobs_of d) t same_jobs;
       }
 
   module _ (a b : After) (f : Narrows c a) (g : Narrows d b) where
     -- the same refusal, 1 to 3
-    pub refused-there : (k : ℕ) → k ≤ 3 → a.says ≡ said Word.refused (k ∷ []) → b.says ≡ said Word.refused (k ∷ [])
-    refused-there = general.refused-there π σ (asks c) (asks d) t same-ask a b (by-rules c a f) (by-rules d b g)
+    pub refused_there : (k : ℕ) → k ≤ 3 → a.says ≡ said Word.refused (k ∷ []) → b.says ≡ said Word.refused (k ∷ [])
+    refused_there = general.refused_there π σ (asks c) (asks d) t same_ask a b (by_rules c a f) (by_rules d b g)
 
     -- 7 again where the other log is ragged too
-    pub ragged-there : Ragged d.log → a.says ≡ said Word.refused (7 ∷ []) → b.says ≡ said Word.refused (7 ∷ [])
-    ragged-there = general.ragged-there π σ (asks c) (asks d) t same-ask a b (by-rules c a f) (by-rules d b g)
+    pub ragged_there : Ragged d.log → a.says ≡ said Word.refused (7 ∷ []) → b.says ≡ said Word.refused (7 ∷ [])
+    ragged_there = general.ragged_there π σ (asks c) (asks d) t same_ask a b (by_rules c a f) (by_rules d b g)
 
     module _ (good : Good c) (room : Room c) (space : Room d) where
       -- a settled answer here is one there, with the same window for each job
-      pub settled-there : a.says.word ≡ Word.settled → (b.says.word ≡ Word.settled) × SameWin (jobs c.win) π a.win b.win
-      settled-there = general.settled-there π σ (asks c) (asks d) t same-ask a b (by-rules c a f) (by-rules d b g) good room space
+      pub settled_there : a.says.word ≡ Word.settled → (b.says.word ≡ Word.settled) × SameWin (jobs c.win) π a.win b.win
+      settled_there = general.settled_there π σ (asks c) (asks d) t same_ask a b (by_rules c a f) (by_rules d b g) good room space
 
       -- a clash here is a clash there
-      pub clash-there : a.says.word ≡ Word.clash → b.says.word ≡ Word.clash
-      clash-there = general.clash-there π σ (asks c) (asks d) t same-ask a b (by-rules c a f) (by-rules d b g) good room space
+      pub clash_there : a.says.word ≡ Word.clash → b.says.word ≡ Word.clash
+      clash_there = general.clash_there π σ (asks c) (asks d) t same_ask a b (by_rules c a f) (by_rules d b g) good room space

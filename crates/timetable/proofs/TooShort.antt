@@ -12,32 +12,32 @@ use Rattle.journal.specs.Journal.{WholeRecords}
 use Rattle.promises.proofs.TooShort as general
 use Rattle.timetable.specs.Table.{Call, asks, Admitted, TooShort, After, leaves}
 use Rattle.timetable.specs.Promise.{Scheduled, NoneIn, needs, Narrowest, Narrows}
-use Rattle.timetable.proofs.Meaning.{by-rules}
+use Rattle.timetable.proofs.Meaning.{by_rules}
 
 -- ---- of the list alone, and any job whose window is too short
 
 module _ (c : Call) (j : ℕ) (b : j < jobs c.win) (short : c.win.l ! j < c.win.e ! j + c.p ! j) where
-  pub too-short-unscheduled : (s : List ℕ) → Scheduled c c.win s → ⊥
-  too-short-unscheduled = general.too-short-unscheduled (asks c) j b short
+  pub too_short_unscheduled : (s : List ℕ) → Scheduled c c.win s → ⊥
+  too_short_unscheduled = general.too_short_unscheduled (asks c) j b short
 
-  pub too-short-none : NoneIn c
-  too-short-none = general.too-short-none (asks c) j b short
+  pub too_short_none : NoneIn c
+  too_short_none = general.too_short_none (asks c) j b short
 
 -- no record is needed
-pub too-short-needs : (c : Call) (j : ℕ) → TooShort c j → needs c ≡ 0
-too-short-needs c = general.too-short-needs (asks c)
+pub too_short_needs : (c : Call) (j : ℕ) → TooShort c j → needs c ≡ 0
+too_short_needs c = general.too_short_needs (asks c)
 
 -- so demand 3 alone shuts out that such a list is refused, where the log is not ragged
-pub too-short-decided : (c : Call) (a : After) → Narrowest c a → WholeRecords c.log → (j : ℕ) → TooShort c j → a.says.word ≡ Word.refused → ⊥
-too-short-decided c a = general.too-short-decided (asks c) a
+pub too_short_decided : (c : Call) (a : After) → Narrowest c a → WholeRecords c.log → (j : ℕ) → TooShort c j → a.says.word ≡ Word.refused → ⊥
+too_short_decided c a = general.too_short_decided (asks c) a
 
 -- ---- of the answer
 
 module _ (c : Call) (a : After) (h : Narrows c a) (j : ℕ) where
   -- what such a list gets
-  pub too-short-row : Admitted c → TooShort c j → a ≡ leaves (said Word.clash (0 ∷ j ∷ [])) c.win c.log
-  too-short-row = general.too-short-row (asks c) a (by-rules c a h) j
+  pub too_short_row : Admitted c → TooShort c j → a ≡ leaves (said Word.clash (0 ∷ j ∷ [])) c.win c.log
+  too_short_row = general.too_short_row (asks c) a (by_rules c a h) j
 
   -- and no other list
-  pub too-short-exactly : (a.says ≡ said Word.clash (0 ∷ j ∷ [])) ↔ (Admitted c × TooShort c j)
-  too-short-exactly = general.too-short-exactly (asks c) a (by-rules c a h) j
+  pub too_short_exactly : (a.says ≡ said Word.clash (0 ∷ j ∷ [])) ↔ (Admitted c × TooShort c j)
+  too_short_exactly = general.too_short_exactly (asks c) a (by_rules c a h) j

@@ -5,9 +5,9 @@ use Rattle.lists.specs.Lists.{◌!◌}
 use Rattle.lists.specs.Tests.{either}
 use Rattle.lists.specs.Spares.{amount, NoneSpare}
 use Rattle.narrowing.specs.Windows.{Win, Side, early, late}
-use Rattle.members.specs.Members.{onesOf}
-use Rattle.journal.specs.Journal.{countWord, setOfRecord, job_of, isMember}
-use Rattle.timetable.specs.Time.{Jobs, drawnBy}
+use Rattle.members.specs.Members.{ones_of}
+use Rattle.journal.specs.Journal.{count_word, set_of_record, job_of, is_member}
+use Rattle.timetable.specs.Time.{Jobs, drawn_by}
 
 -- the moved job, on side 0, starts no earlier than t - p + 1; on side 1, no later than t
 abbrev pub OwnFact : List ℕ → List ℕ → ℕ → Side → ℕ → Type 0
@@ -20,9 +20,9 @@ pub record Stated (n : ℕ) (p s : List ℕ) (M : ℕ → Bool) (j : ℕ) (side 
   pub own : OwnFact p s j side t
 
 -- the demands of the named jobs, members and moved job, that run at t
-unfoldable pub namedDrawn : Jobs → List ℕ → (ℕ → Bool) → ℕ → ℕ → ℕ
-unfolding drawnBy
-namedDrawn J s M j t = drawnBy J (λ k. either (M k) (eqb k j)) s t
+unfoldable pub named_drawn : Jobs → List ℕ → (ℕ → Bool) → ℕ → ℕ → ℕ
+unfolding drawn_by
+named_drawn J s M j t = drawn_by J (λ k. either (M k) (eqb k j)) s t
 
 -- the change: on side 0 the moved job starts no earlier than t + 1, on side 1 it ends by t
 abbrev pub Changed : List ℕ → List ℕ → ℕ → Side → ℕ → Type 0
@@ -31,7 +31,7 @@ Changed p s j late t = s ! j + p ! j ≤ t
 
 -- from these facts and the capacity at t alone follows the change, for any whole starts
 abbrev pub Implied : Jobs → (ℕ → Bool) → ℕ → Side → ℕ → Type 0
-Implied J M j side t = (s : List ℕ) → Stated J.n J.p s M j side t → namedDrawn J s M j t ≤ J.cap → Changed J.p s j side t
+Implied J M j side t = (s : List ℕ) → Stated J.n J.p s M j side t → named_drawn J s M j t ≤ J.cap → Changed J.p s j side t
 
 -- starts within the windows W
 pub record StartsWithin (n : ℕ) (p : List ℕ) (W : Win) (s : List ℕ) : Type 0 where
@@ -42,11 +42,11 @@ pub record StartsWithin (n : ℕ) (p : List ℕ) (W : Win) (s : List ℕ) : Type
 
 -- the demands named, members' and moved job's together
 abbrev pub named : Jobs → List ℕ → ℕ
-named J x = amount J.n J.r (J.r ! job_of x) (isMember x)
+named J x = amount J.n J.r (J.r ! job_of x) (is_member x)
 
 -- the fourth word is the number of ones
 abbrev pub Counted : List ℕ → Type 0
-Counted x = x ! countWord ≡ onesOf (setOfRecord x)
+Counted x = x ! count_word ≡ ones_of (set_of_record x)
 
 -- the demands named exceed the capacity
 abbrev pub Exceeds : Jobs → List ℕ → Type 0
@@ -54,11 +54,11 @@ Exceeds J x = J.cap < named J x
 
 -- no member is spare: without any one of them the demands named do not exceed the capacity
 abbrev pub Lean : Jobs → List ℕ → Type 0
-Lean J x = NoneSpare J.n J.r (J.r ! job_of x) J.cap (isMember x)
+Lean J x = NoneSpare J.n J.r (J.r ! job_of x) J.cap (is_member x)
 
 -- a record that names enough, and no member that it can do without
 pub record LeanRecord (J : Jobs) (x : List ℕ) : Type 0 where
   pub counted : Counted x
-  pub other : isMember x (job_of x) ≡ true → ⊥
+  pub other : is_member x (job_of x) ≡ true → ⊥
   pub exceeds : Exceeds J x
   pub lean : Lean J x

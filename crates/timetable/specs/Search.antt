@@ -9,7 +9,7 @@ use Rattle.lists.specs.Sets.{Set}
 use Rattle.lists.specs.Spares.{leaned}
 use Rattle.narrowing.specs.Windows.{Win, Side, early, late, number}
 use Rattle.narrowing.specs.Search.{Search, Move}
-use Rattle.members.specs.Members.{setWords, setOf}
+use Rattle.members.specs.Members.{set_words, setOf}
 use Rattle.journal.specs.Journal.{in_words}
 use Rattle.timetable.specs.Time.{Jobs, Sure, sure, load, bound}
 
@@ -37,7 +37,7 @@ pub record Member (J : Jobs) (W : Win) (j t k : ℕ) : Type 0 where
   pub listed : k < J.n
   pub other : k ≡ j → ⊥
   pub takes : 1 ≤ J.r ! k
-  pub sure-there : Sure J.p W k t
+  pub sure_there : Sure J.p W k t
 
 -- the test of `Member`
 unfoldable pub member : Names
@@ -46,15 +46,15 @@ member J W j t k = both (ltb k J.n) (both (not (eqb k j)) (both (leb 1 (J.r ! k)
 
 -- those that the writer names: going through them by rising number, each one without whom the demands named, members' and moved job's together, still
 -- exceed the capacity is dropped
-unfoldable pub leanMember : Names
+unfoldable pub lean_member : Names
 unfolding leaned member
-leanMember J W j t = leaned J.n J.r (J.r ! j) J.cap (member J W j t)
+lean_member J W j t = leaned J.n J.r (J.r ! j) J.cap (member J W j t)
 
 -- the record of a move: its job, side, time and those named
 unfoldable pub naming : Names → Jobs → Move → List ℕ
 unfolding setOf
-naming M J m = in_words m.job (number m.side) m.choice (setOf setWords (M J m.before m.job m.choice))
+naming M J m = in_words m.job (number m.side) m.choice (setOf set_words (M J m.before m.job m.choice))
 
 -- the writer's
 abbrev pub entry : Jobs → Move → List ℕ
-entry = naming leanMember
+entry = naming lean_member

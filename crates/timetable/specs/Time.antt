@@ -22,17 +22,17 @@ pub record Runs (p s : List ℕ) (k t : ℕ) : Type 0 where
   pub from : s ! k ≤ t
   pub to : t < s ! k + p ! k
 
-unfoldable pub runsAt : List ℕ → List ℕ → ℕ → ℕ → Bool
-runsAt p s k t = both (leb (s ! k) t) (ltb t (s ! k + p ! k))
+unfoldable pub runs_at : List ℕ → List ℕ → ℕ → ℕ → Bool
+runs_at p s k t = both (leb (s ! k) t) (ltb t (s ! k + p ! k))
 
 -- the demands of the jobs of M that run at t; of all jobs
-unfoldable pub drawnBy : Jobs → Set → List ℕ → ℕ → ℕ
-unfolding total runsAt
-drawnBy J M s t = total (λ k. only (both (M k) (runsAt J.p s k t)) (J.r ! k)) J.n
+unfoldable pub drawn_by : Jobs → Set → List ℕ → ℕ → ℕ
+unfolding total runs_at
+drawn_by J M s t = total (λ k. only (both (M k) (runs_at J.p s k t)) (J.r ! k)) J.n
 
 unfoldable pub drawn : Jobs → List ℕ → ℕ → ℕ
-unfolding total runsAt
-drawn J s t = total (λ k. only (runsAt J.p s k t) (J.r ! k)) J.n
+unfolding total runs_at
+drawn J s t = total (λ k. only (runs_at J.p s k t) (J.r ! k)) J.n
 
 -- at every time they add up to at most the capacity
 unfoldable pub Fits : Jobs → List ℕ → Type 0

@@ -2,7 +2,7 @@
 // windows; where it ends in a clash, the marks of the walk back are given.
 ghost use Rattle.std.specs.Prelude.{◌≡◌};
 ghost use Rattle.narrowing.specs.Windows.{win};
-ghost use Rattle.answers.specs.Said.{saysCheck, saysConflict};
+ghost use Rattle.answers.specs.Said.{says_check, says_conflict};
 ghost use Rattle.timetable.specs.Table.{call, Good};
 ghost use Rattle.checks.specs.Replay.{checked};
 ghost use Rattle.conflicts.specs.Table.{blame, unmarked};
@@ -12,7 +12,7 @@ use answers::{CheckAnswer, Conflict, ConflictAnswer};
 
 // A refusal leaves no mark.
 fn refused(number: u32) -> Conflict
-    ensures { blame (saysConflict result.answer) result.set ≡ unmarked number }
+    ensures { blame (says_conflict result.answer) result.set ≡ unmarked number }
 {
     let set = bits::empty();
     Conflict {
@@ -32,7 +32,7 @@ fn check_copies(
     count: usize,
 ) -> CheckAnswer
     requires { Good (call (win est.now lct.now) dur.now dem.now cap log.now) }
-    ensures { saysCheck result ≡ (checked (call (win est.now lct.now) dur.now dem.now cap log.now) count).says }
+    ensures { says_check result ≡ (checked (call (win est.now lct.now) dur.now dem.now cap log.now) count).says }
 {
     let n = est.len();
     let mut starts = [0u32; screen::MOST_JOBS];
@@ -53,7 +53,7 @@ pub fn conflict(
     log: &[u32],
     count: usize,
 ) -> Conflict
-    ensures { Blames (call (win est.now lct.now) dur.now dem.now cap log.now) count (blame (saysConflict result.answer) result.set) }
+    ensures { Blames (call (win est.now lct.now) dur.now dem.now cap log.now) count (blame (says_conflict result.answer) result.set) }
 {
     let number = admission::refusal(est, lct, dur, dem, cap, log);
     if number != 0 {

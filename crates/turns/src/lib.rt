@@ -4,7 +4,7 @@ ghost use Rattle.std.specs.Prelude.{◌≡◌, ◌<◌, ◌≤◌, length};
 ghost use Rattle.narrowing.specs.Windows.{win};
 ghost use Rattle.timetable.specs.Table.{call, Workable};
 ghost use Rattle.loads.specs.Loads.{Loaded};
-ghost use Rattle.turns.specs.Places.{onwardOf};
+ghost use Rattle.turns.specs.Places.{onward_of};
 ghost use Rattle.turns.specs.Moves.{TurnSays};
 
 use profile::Outline;
@@ -30,7 +30,7 @@ pub enum Turn {
 // place past all jobs where the round has changed nothing.
 pub fn onward(at: Place, n: usize) -> Place
     requires { at.job < n }
-    ensures { result ≡ onwardOf at n }
+    ensures { result ≡ onward_of at n }
 {
     if at.side == 0 {
         return Place {
@@ -84,7 +84,7 @@ pub fn take_turn(
     match found {
         searches::Found::Nothing => Turn::Rests,
         searches::Found::At(t) => {
-            if logbook::room(log) <= count {
+            if logs::room(log) <= count {
                 return Turn::Full;
             }
             noting::note(est, lct, dur, dem, cap, job, side, t, log, count);

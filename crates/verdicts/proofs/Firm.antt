@@ -2,10 +2,10 @@
 use Prim.Native.Nat.{ℕ, suc}
 use mathlib.Core.Path.{◌≡◌, refl, sym, ap, ◌∙◌}
 use Rattle.answers.specs.Said.{Word, Said}
-use Rattle.answers.proofs.Same.{word-discrete}
+use Rattle.answers.proofs.Same.{word_discrete}
 use Rattle.journal.specs.Journal.{records}
-use Rattle.promises.specs.Ask.{Ask, jobCount, lasts}
-use Rattle.verdicts.specs.Replay.{Trial, Verdict, holds, clashes, rejected, verdictOn, Checked, finds, judged, refuses, checked}
+use Rattle.promises.specs.Ask.{Ask, job_count, lasts}
+use Rattle.verdicts.specs.Replay.{Trial, Verdict, holds, clashes, rejected, verdict_on, Checked, finds, judged, refuses, checked}
 use Rattle.verdicts.specs.Promise.{Judges, Exactly}
 use Rattle.verdicts.proofs.Rows.{Case, tested, six, judges, cased, exactly}
 
@@ -18,7 +18,7 @@ module _ (T : Trial) (A : Ask) (count : ℕ) where
     facts = exactly T A count y due refl
 
     left : (s : Said) → due.says ≡ s → a.says ≡ s → a.win ≡ due.win
-    left s d e = go (word-discrete s.word Word.holds)
+    left s d e = go (word_discrete s.word Word.holds)
       where
         word_of : (b : Checked) → b.says ≡ s → b.says.word ≡ s.word
         word_of b q = ap (λ (z : Said). z.word) q
@@ -27,8 +27,8 @@ module _ (T : Trial) (A : Ask) (count : ℕ) where
         go (yes q) = x.reached (word_of a e ∙ q) ∙ sym (facts.reached (word_of due d ∙ q))
         go (no f) = x.submitted (λ z. f (sym (word_of a e) ∙ z)) ∙ sym (facts.submitted (λ z. f (sym (word_of due d) ∙ z)))
 
-    pub facts-answer : a ≡ due
-    facts-answer = go (cased T A count due refl)
+    pub facts_answer : a ≡ due
+    facts_answer = go (cased T A count due refl)
       where
         same : (s : Said) → due.says ≡ s → a.says ≡ s → a ≡ due
         same s d e = ap (λ (z : Said). finds z a.win) (e ∙ sym d) ∙ ap (finds due.says) (left s d e)
@@ -44,4 +44,4 @@ module _ (T : Trial) (A : Ask) (count : ℕ) where
         go : Case T A count due → a ≡ due
         go (tested k d q) = refusal (suc k) q
         go (six g b q) = refusal 6 q
-        go (judges g b q) = by (verdictOn T (jobCount A) (lasts A) A.win (records A.log 0 count)) (ap (λ (z : Checked). z.says) q)
+        go (judges g b q) = by (verdict_on T (job_count A) (lasts A) A.win (records A.log 0 count)) (ap (λ (z : Checked). z.says) q)

@@ -7,42 +7,42 @@ use mathlib.Core.Bool.{true, false}
 use mathlib.Core.List.{List, [], ◌∷◌, map}
 use mathlib.Core.Option.{none, some}
 use Rattle.lists.specs.Lists.{◌!◌}
-use Rattle.lists.proofs.Lists.{set-any}
+use Rattle.lists.proofs.Lists.{set_any}
 use Rattle.narrowing.specs.Windows.{Win, Side, early, late, Long, LowestTooShort, Tighter, moved, closes}
 use Rattle.narrowing.specs.Search.{Move, move, after}
 use Rattle.narrowing.specs.Run.{Out, settled, clash, short, push, work}
-use Rattle.narrowing.proofs.TooShort.{finds-too-short, run_by}
-use Rattle.narrowing.proofs.Runs.{work-ind}
-use Rattle.joblist.specs.Limits.{mostTime}
+use Rattle.narrowing.proofs.TooShort.{finds_too_short, run_by}
+use Rattle.narrowing.proofs.Runs.{work_ind}
+use Rattle.joblist.specs.Limits.{most_time}
 use Rattle.journal.specs.Journal.{job_of}
-use Rattle.promises.specs.Ask.{Ask, Grounds, jobCount, lasts, Good}
+use Rattle.promises.specs.Ask.{Ask, Grounds, job_count, lasts, Good}
 use Rattle.promises.specs.Table.{ran}
-use Rattle.verdicts.specs.Replay.{Trial, holds, clashes, replay, verdictOn}
+use Rattle.verdicts.specs.Replay.{Trial, holds, clashes, replay, verdict_on}
 use Rattle.verdicts.specs.Promise.{Judges, WritesGood}
 
 -- ---- one record
 
 module _ (T : Trial) (p : List ℕ) (W U : Win) (x : List ℕ) (j : ℕ) (good : T.code W x ≡ 0) (to : T.changed W x ≡ U) (job : job_of x ≡ j) where
-  replay-on : closes p U j ≡ false → (i : ℕ) (rs : List (List ℕ)) → replay T p W i (x ∷ rs) ≡ replay T p U (suc i) rs
+  replay_on : closes p U j ≡ false → (i : ℕ) (rs : List (List ℕ)) → replay T p W i (x ∷ rs) ≡ replay T p U (suc i) rs
   unfolding replay
-  replay-on e i rs = rw (good, to, job, e)
+  replay_on e i rs = rw (good, to, job, e)
 
-  replay-end : closes p U j ≡ true → (i : ℕ) → replay T p W i (x ∷ []) ≡ clashes j
+  replay_end : closes p U j ≡ true → (i : ℕ) → replay T p W i (x ∷ []) ≡ clashes j
   unfolding replay
-  replay-end e i = rw (good, to, job, e)
+  replay_end e i = rw (good, to, job, e)
 
-replay-none : (T : Trial) (p : List ℕ) (W : Win) (i : ℕ) → replay T p W i [] ≡ holds W
+replay_none : (T : Trial) (p : List ℕ) (W : Win) (i : ℕ) → replay T p W i [] ≡ holds W
 unfolding replay
-replay-none T p W i = refl
+replay_none T p W i = refl
 
 -- no latest end is above the limit of times
 Small : Win → Type 0
-Small W = (k : ℕ) → W.l ! k ≤ mostTime
+Small W = (k : ℕ) → W.l ! k ≤ most_time
 
-small-after : (W : Win) (j : ℕ) (s : Side) (b : ℕ) → Tighter W j s b → Small W → Small (moved W j s b)
+small_after : (W : Win) (j : ℕ) (s : Side) (b : ℕ) → Tighter W j s b → Small W → Small (moved W j s b)
 unfolding Small
-small-after W j early b a h = h
-small-after W j late b a h = λ k. set-any (λ (x : ℕ). x ≤ mostTime) W.l j b k (λ e. omega (arith, a, h j)) (h k)
+small_after W j early b a h = h
+small_after W j late b a h = λ k. set_any (λ (x : ℕ). x ≤ most_time) W.l j b k (λ e. omega (arith, a, h j)) (h k)
 
 module _ (T : Trial) (A : Ask) (y : Judges T A) (z : WritesGood T A) (x : Grounds A) (g : Good A) where
   -- what the replay of an end's records comes to, and the verdict on them
@@ -52,38 +52,38 @@ module _ (T : Trial) (A : Ask) (y : Judges T A) (z : WritesGood T A) (x : Ground
   Replays W short = Unit {0}
 
   abbrev pub Ends : Win → Out → Type 0
-  Ends W (settled U ms) = verdictOn T (jobCount A) (lasts A) W (map A.entry ms) ≡ holds U
-  Ends W (clash j ms) = verdictOn T (jobCount A) (lasts A) W (map A.entry ms) ≡ clashes j
+  Ends W (settled U ms) = verdict_on T (job_count A) (lasts A) W (map A.entry ms) ≡ holds U
+  Ends W (clash j ms) = verdict_on T (job_count A) (lasts A) W (map A.entry ms) ≡ clashes j
   Ends W short = Unit {0}
 
-  push-replays : (W U : Win) (m : Move) (o : Out) → ((i : ℕ) (rs : List (List ℕ)) → replay T (lasts A) W i (A.entry m ∷ rs) ≡ replay T (lasts A) U (suc i) rs)
+  push_replays : (W U : Win) (m : Move) (o : Out) → ((i : ℕ) (rs : List (List ℕ)) → replay T (lasts A) W i (A.entry m ∷ rs) ≡ replay T (lasts A) U (suc i) rs)
       → Replays U o → Replays W (push m o)
-  push-replays W U m (settled X ms) f h = λ i. f i (map A.entry ms) ∙ h (suc i)
-  push-replays W U m (clash j ms) f h = λ i. f i (map A.entry ms) ∙ h (suc i)
-  push-replays W U m short f h = tt
+  push_replays W U m (settled X ms) f h = λ i. f i (map A.entry ms) ∙ h (suc i)
+  push_replays W U m (clash j ms) f h = λ i. f i (map A.entry ms) ∙ h (suc i)
+  push_replays W U m short f h = tt
 
-  long-ends : (W : Win) (o : Out) → Long (jobCount A) (lasts A) W → Replays W o → Ends W o
-  unfolding verdictOn
-  long-ends W (settled U ms) L f = rw (finds-too-short (jobCount A) (lasts A) W none L) (f 0)
-  long-ends W (clash j ms) L f = rw (finds-too-short (jobCount A) (lasts A) W none L) (f 0)
-  long-ends W short L f = tt
+  long_ends : (W : Win) (o : Out) → Long (job_count A) (lasts A) W → Replays W o → Ends W o
+  unfolding verdict_on
+  long_ends W (settled U ms) L f = rw (finds_too_short (job_count A) (lasts A) W none L) (f 0)
+  long_ends W (clash j ms) L f = rw (finds_too_short (job_count A) (lasts A) W none L) (f 0)
+  long_ends W short L f = tt
 
-  too-short-ends : (W : Win) (j : ℕ) → LowestTooShort (jobCount A) (lasts A) W j → Ends W (clash j [])
-  unfolding verdictOn
-  too-short-ends W j s = rw (finds-too-short (jobCount A) (lasts A) W (some j) s)
+  too_short_ends : (W : Win) (j : ℕ) → LowestTooShort (job_count A) (lasts A) W j → Ends W (clash j [])
+  unfolding verdict_on
+  too_short_ends W j s = rw (finds_too_short (job_count A) (lasts A) W (some j) s)
 
-  work-replays : (room : ℕ) (W : Win) → Long (jobCount A) (lasts A) W → Small W → Replays W (work A.search room W 0 early)
+  work_replays : (room : ℕ) (W : Win) → Long (job_count A) (lasts A) W → Small W → Replays W (work A.search room W 0 early)
   unfolding Small
-  work-replays room W L h =
-      work-ind A.search A.rules x.searches (λ room W j s o. Small W → Replays W o)
-      (λ room W j s L q h i. replay-none T (lasts A) W i)
+  work_replays room W L h =
+      work_ind A.search A.rules x.searches (λ room W j s o. Small W → Replays W o)
+      (λ room W j s L q h i. replay_none T (lasts A) W i)
       (λ W j s i v c L a h. tt)
       (λ room W j s i v c L a e h k.
-      replay-end T (lasts A) W (after A.search W i v c) (A.entry (move W i v c)) i ((y.goods _ _).1 (z.good g W L h j s i v c a)) (z.to W i v c) (z.job (move W i v c)) e k)
+      replay_end T (lasts A) W (after A.search W i v c) (A.entry (move W i v c)) i ((y.goods _ _).1 (z.good g W L h j s i v c a)) (z.to W i v c) (z.job (move W i v c)) e k)
       (λ room W j s i v c o L a e r h.
-      push-replays W (after A.search W i v c) (move W i v c) o
-      (λ k rs. replay-on T (lasts A) W (after A.search W i v c) (A.entry (move W i v c)) i ((y.goods _ _).1 (z.good g W L h j s i v c a)) (z.to W i v c) (z.job (move W i v c)) e k rs)
-      (r (small-after W i v (A.search.bound v c) (x.lawful.tighter W i v (A.search.bound v c) a.listed a.applies) h)))
+      push_replays W (after A.search W i v c) (move W i v c) o
+      (λ k rs. replay_on T (lasts A) W (after A.search W i v c) (A.entry (move W i v c)) i ((y.goods _ _).1 (z.good g W L h j s i v c a)) (z.to W i v c) (z.job (move W i v c)) e k rs)
+      (r (small_after W i v (A.search.bound v c) (x.lawful.tighter W i v (A.search.bound v c) a.listed a.applies) h)))
       room W 0 early L (omega arith) h
 
   -- how the run ends is what the verdict says
@@ -91,5 +91,5 @@ module _ (T : Trial) (A : Ask) (y : Judges T A) (z : WritesGood T A) (x : Ground
   unfolding Small
   ran_ends =
       run_by A.search A.room A.win (Ends A.win)
-      (λ L. long-ends A.win (work A.search A.room A.win 0 early) L (work-replays A.room A.win L g.within.1.0))
-      (λ j s. too-short-ends A.win j s)
+      (λ L. long_ends A.win (work A.search A.room A.win 0 early) L (work_replays A.room A.win L g.within.1.0))
+      (λ j s. too_short_ends A.win j s)

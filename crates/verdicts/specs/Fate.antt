@@ -3,17 +3,17 @@
 use Rattle.std.specs.Prelude.{ℕ, zero, suc, ◌+◌, ◌≤◌, ◌<◌, ◌≡◌, List, ◌⊎◌}
 use Rattle.lists.specs.Lists.{◌!◌}
 use Rattle.narrowing.specs.Windows.{Win, Long}
-use Rattle.journal.specs.Journal.{job_of, recordAt}
-use Rattle.promises.specs.Ask.{Ask, jobCount, lasts, TooShort}
+use Rattle.journal.specs.Journal.{job_of, record_at}
+use Rattle.promises.specs.Ask.{Ask, job_count, lasts, TooShort}
 use Rattle.verdicts.specs.Replay.{Trial, Verdict, holds, clashes, rejected}
 
 -- record i of the call's log
 abbrev pub nth : Ask → ℕ → List ℕ
-nth A i = recordAt A.log i
+nth A i = record_at A.log i
 
 -- the windows reached by the first i records of the log
 unfoldable pub reached : Trial → Ask → ℕ → Win
-unfolding recordAt
+unfolding record_at
 reached T A zero = A.win
 reached T A (suc i) = T.changed (reached T A i) (nth A i)
 
@@ -30,7 +30,7 @@ Closed T A i = (reached T A (suc i)).l ! job_of (nth A i) < (reached T A (suc i)
 
 -- no window is too short, and the first i records are good and close none
 pub record Open (T : Trial) (A : Ask) (i : ℕ) : Type 0 where
-  pub long : Long (jobCount A) (lasts A) A.win
+  pub long : Long (job_count A) (lasts A) A.win
   pub held : (h : ℕ) → h < i → Takes T A h × Held T A h
 
 -- record h is the first that closes a window

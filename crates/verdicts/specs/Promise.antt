@@ -8,9 +8,9 @@ use Rattle.narrowing.specs.Schedules.{Sound}
 use Rattle.narrowing.specs.Search.{Move, move, after}
 use Rattle.narrowing.specs.Rounds.{Choice}
 use Rattle.answers.specs.Said.{Word, Said, said}
-use Rattle.joblist.specs.Limits.{mostTime}
-use Rattle.journal.specs.Journal.{recordWords, job_of, roomOf}
-use Rattle.promises.specs.Ask.{Ask, jobCount, lasts, Good, Admitted, TurnedAway}
+use Rattle.joblist.specs.Limits.{most_time}
+use Rattle.journal.specs.Journal.{record_words, job_of, room_of}
+use Rattle.promises.specs.Ask.{Ask, job_count, lasts, Good, Admitted, TurnedAway}
 use Rattle.promises.specs.Table.{After}
 use Rattle.promises.specs.Promise.{Scheduled, Narrows}
 use Rattle.verdicts.specs.Replay.{Trial, rejected, Checked, finds, checked}
@@ -21,34 +21,34 @@ use Rattle.verdicts.specs.Fate.{nth, reached, Open, Shut, Fate}
 pub record Judges (T : Trial) (A : Ask) : Type 0 where
   pub codes : (W : Win) (x : List ℕ) (k : ℕ) → (T.code W x ≡ k) ↔ T.coded W x k
   pub goods : (W : Win) (x : List ℕ) → (T.code W x ≡ 0) ↔ T.good W x
-  pub listed : (W : Win) (x : List ℕ) → T.good W x → job_of x < jobCount A
-  pub step : (W : Win) (x : List ℕ) → T.good W x → Step (jobCount A) (lasts A) A.rules W (T.changed W x)
+  pub listed : (W : Win) (x : List ℕ) → T.good W x → job_of x < job_count A
+  pub step : (W : Win) (x : List ℕ) → T.good W x → Step (job_count A) (lasts A) A.rules W (T.changed W x)
   pub reasons : (W : Win) (x : List ℕ) → T.good W x → T.reasoned W x
-  pub sound : Sound (jobCount A) (lasts A) A.rules A.fits
+  pub sound : Sound (job_count A) (lasts A) A.rules A.fits
 
 -- the number of records that an answer takes: all where it holds or clashes, those before the bad one where it is rejected
-abbrev pub takenBy : Word → ℕ → ℕ
-takenBy Word.holds k = k
-takenBy Word.clash k = k
-takenBy Word.rejected k = k
-takenBy Word.settled k = 0
-takenBy Word.refused k = 0
-takenBy Word.none k = 0
-takenBy Word.overload k = 0
-takenBy Word.written k = 0
-takenBy Word.read k = 0
-takenBy Word.marked k = 0
+abbrev pub taken_by : Word → ℕ → ℕ
+taken_by Word.holds k = k
+taken_by Word.clash k = k
+taken_by Word.rejected k = k
+taken_by Word.settled k = 0
+taken_by Word.refused k = 0
+taken_by Word.none k = 0
+taken_by Word.overload k = 0
+taken_by Word.written k = 0
+taken_by Word.read k = 0
+taken_by Word.marked k = 0
 
 abbrev pub taken : Said → ℕ
-taken a = takenBy a.word (a.numbers ! 0)
+taken a = taken_by a.word (a.numbers ! 0)
 
 -- refusal k's row: turned away, by 1 to 3 or 7; or 6: the log is shorter than a record's words for each claimed record
 abbrev pub RefusedRow : Ask → ℕ → ℕ → Type 0
-RefusedRow A count k = TurnedAway A k ⊎ ((k ≡ 6) × Admitted A × (length A.log < recordWords * count))
+RefusedRow A count k = TurnedAway A k ⊎ ((k ≡ 6) × Admitted A × (length A.log < record_words * count))
 
 -- the list is good, whole records fill the log, and the claimed ones are among them
 abbrev pub Claimed : Ask → ℕ → Type 0
-Claimed A count = Admitted A × (count ≤ roomOf A.log)
+Claimed A count = Admitted A × (count ≤ room_of A.log)
 
 -- each answer exactly when the paper says so, in facts of the log, and the windows that it leaves
 pub record Exactly (T : Trial) (A : Ask) (count : ℕ) (a : Checked) : Type 0 where
@@ -77,14 +77,14 @@ pub record Checks (T : Trial) (A : Ask) (count : ℕ) (a : Checked) : Type 0 whe
 -- ---- the planner's logs
 
 -- the call with another log, and its room
-abbrev pub withLog : Ask → List ℕ → Ask
-withLog A log =
+abbrev pub with_log : Ask → List ℕ → Ask
+with_log A log =
     record {
       win = A.win;
       beside = A.beside;
       alone = A.alone;
       log = log;
-      room = roomOf log;
+      room = room_of log;
       search = A.search;
       rules = A.rules;
       fits = A.fits;
@@ -95,15 +95,15 @@ withLog A log =
 
 -- a log that narrowing left on these windows, whatever stood in it before, with all its records claimed, is taken to the same end
 pub record TakesLogs (A : Ask) (count : ℕ) (a : Checked) : Type 0 where
-  pub settled : (before : List ℕ) (b : After) → Narrows (withLog A before) b → b.log ≡ A.log → b.says ≡ said Word.settled (count ∷ [])
+  pub settled : (before : List ℕ) (b : After) → Narrows (with_log A before) b → b.log ≡ A.log → b.says ≡ said Word.settled (count ∷ [])
       → a ≡ finds (said Word.holds (count ∷ [])) b.win
-  pub clash : (before : List ℕ) (b : After) → Narrows (withLog A before) b → b.log ≡ A.log → (j : ℕ) → b.says ≡ said Word.clash (count ∷ j ∷ [])
+  pub clash : (before : List ℕ) (b : After) → Narrows (with_log A before) b → b.log ≡ A.log → (j : ℕ) → b.says ≡ said Word.clash (count ∷ j ∷ [])
       → a ≡ finds (said Word.clash (count ∷ j ∷ [])) A.win
 
 -- what is asked of the records that the planner writes: on long windows within the limit of times each is good, stands for its move and names its job
 pub record WritesGood (T : Trial) (A : Ask) : Type 0 where
-  pub words : (m : Move) → length (A.entry m) ≡ recordWords
+  pub words : (m : Move) → length (A.entry m) ≡ record_words
   pub job : (m : Move) → job_of (A.entry m) ≡ m.job
   pub to : (W : Win) (j : ℕ) (s : Side) (c : ℕ) → T.changed W (A.entry (move W j s c)) ≡ after A.search W j s c
-  pub good : Good A → (W : Win) → Long (jobCount A) (lasts A) W → ((k : ℕ) → W.l ! k ≤ mostTime) → (j : ℕ) (s : Side) (i : ℕ) (v : Side) (c : ℕ)
+  pub good : Good A → (W : Win) → Long (job_count A) (lasts A) W → ((k : ℕ) → W.l ! k ≤ most_time) → (j : ℕ) (s : Side) (i : ℕ) (v : Side) (c : ℕ)
       → Choice A.search A.rules W j s (move W i v c) → T.good W (A.entry (move W i v c))

@@ -2,10 +2,10 @@
 -- change that a record stands for: records in turn, to the first bad one. A window that is too short is closed before any record.
 use Rattle.std.specs.Prelude.{ℕ, zero, suc, Bool, true, false, List, [], ◌∷◌, ltb}
 use Rattle.std.proofs.Math.Option.{Option, none, some}
-use Rattle.narrowing.specs.Windows.{Win, closes, lowestTooShort}
+use Rattle.narrowing.specs.Windows.{Win, closes, lowest_too_short}
 use Rattle.answers.specs.Said.{Word, Said, said}
-use Rattle.journal.specs.Journal.{job_of, roomOf, records}
-use Rattle.promises.specs.Ask.{Ask, jobCount, lasts, refusalOf}
+use Rattle.journal.specs.Journal.{job_of, room_of, records}
+use Rattle.promises.specs.Ask.{Ask, job_count, lasts, refusal_of}
 
 -- how a record is judged on the windows reached so far: the code of the first test that fails, 0 where none does; the windows after it; in facts, what a
 -- good record is and when a code is given; and what is promised of a record that is taken
@@ -27,13 +27,13 @@ abbrev pub closing : ℕ → ℕ → List (List ℕ) → Verdict
 closing i j [] = clashes j
 closing i j (x ∷ xs) = rejected i 20
 
-abbrev pub orBad : ℕ → ℕ → Verdict → Verdict
-orBad i zero v = v
-orBad i (suc c) v = rejected i (suc c)
+abbrev pub or_bad : ℕ → ℕ → Verdict → Verdict
+or_bad i zero v = v
+or_bad i (suc c) v = rejected i (suc c)
 
-abbrev pub orClosed : Bool → Verdict → Verdict → Verdict
-orClosed true a b = a
-orClosed false a b = b
+abbrev pub or_closed : Bool → Verdict → Verdict → Verdict
+or_closed true a b = a
+or_closed false a b = b
 
 -- the records from place i on, on the windows reached so far, of jobs that last p
 unfoldable pub replay : Trial → List ℕ → Win → ℕ → List (List ℕ) → Verdict
@@ -41,18 +41,18 @@ replay T p W i [] = holds W
 replay T p W i (x ∷ xs) =
     let U = T.changed W x in
     let rest = replay T p U (suc i) xs in
-    let good = orClosed (closes p U (job_of x)) (closing (suc i) (job_of x) xs) rest in
-    orBad i (T.code W x) good
+    let good = or_closed (closes p U (job_of x)) (closing (suc i) (job_of x) xs) rest in
+    or_bad i (T.code W x) good
 
 -- where a window is too short, it is closed before the first record
-abbrev pub orTooShort : Option ℕ → List (List ℕ) → Verdict → Verdict
-orTooShort none xs v = v
-orTooShort (some j) xs v = closing 0 j xs
+abbrev pub or_too_short : Option ℕ → List (List ℕ) → Verdict → Verdict
+or_too_short none xs v = v
+or_too_short (some j) xs v = closing 0 j xs
 
 -- all records, from the submitted windows
-unfoldable pub verdictOn : Trial → ℕ → List ℕ → Win → List (List ℕ) → Verdict
-unfolding lowestTooShort replay
-verdictOn T n p W xs = let replayed = replay T p W 0 xs in orTooShort (lowestTooShort n p W) xs replayed
+unfoldable pub verdict_on : Trial → ℕ → List ℕ → Win → List (List ℕ) → Verdict
+unfolding lowest_too_short replay
+verdict_on T n p W xs = let replayed = replay T p W 0 xs in or_too_short (lowest_too_short n p W) xs replayed
 
 -- what the checker answers and leaves in the windows; the log is only read
 pub record Checked : Type 0 where
@@ -72,16 +72,16 @@ abbrev pub refuses : Win → ℕ → Checked
 refuses W k = finds (said Word.refused (k ∷ [])) W
 
 -- 6: the log is shorter than a record's words for each claimed record
-abbrev pub orSix : {X : Type 0} → Bool → X → X → X
-orSix true six v = six
-orSix false six v = v
+abbrev pub or_six : {X : Type 0} → Bool → X → X → X
+or_six true six v = six
+or_six false six v = v
 
 -- what is made of a call with so many claimed records, where number k turns it away or, 0, none does: of k, of 6, else of the verdict. The checker's rows
 unfoldable pub rows_of : {X : Type 0} → (ℕ → X) → (Verdict → X) → Trial → Ask → ℕ → ℕ → X
-unfolding roomOf records verdictOn
+unfolding room_of records verdict_on
 rows_of refuse judge T A count zero =
-    let v = judge (verdictOn T (jobCount A) (lasts A) A.win (records A.log 0 count)) in
-    orSix (ltb (roomOf A.log) count) (refuse 6) v
+    let v = judge (verdict_on T (job_count A) (lasts A) A.win (records A.log 0 count)) in
+    or_six (ltb (room_of A.log) count) (refuse 6) v
 rows_of refuse judge T A count (suc k) = refuse (suc k)
 
 unfoldable pub rows : Trial → Ask → ℕ → ℕ → Checked
@@ -90,5 +90,5 @@ rows T A count k = rows_of (refuses A.win) (judged A.win count) T A count k
 
 -- the checker's answer on a call with so many claimed records
 unfoldable pub checked : Trial → Ask → ℕ → Checked
-unfolding rows refusalOf
-checked T A count = rows T A count (refusalOf A)
+unfolding rows refusal_of
+checked T A count = rows T A count (refusal_of A)

@@ -8,12 +8,12 @@ use mathlib.Core.Logic.{inl, inr}
 use lib.ListN.{length, drop, take, set, length-append, length-set}
 use lib.Seq.{take-suc-set}
 use Rattle.lists.specs.Lists.{◌!◌}
-use Rattle.lists.proofs.Lists.{set-any}
-use Rattle.joblist.specs.Limits.{mostTime, mostJobs}
+use Rattle.lists.proofs.Lists.{set_any}
+use Rattle.joblist.specs.Limits.{most_time, most_jobs}
 use Rattle.chains.specs.Paths.{Pair, pair, Precedes, Below}
 use Rattle.texts.specs.Tokens.{Token, tokens}
 use Rattle.texts.specs.Readings.{Read, bad, good}
-use Rattle.walking.specs.Walk.{Seen, seeing, addPair, addRow, see, Fit, StepSays, WalkedSays}
+use Rattle.walking.specs.Walk.{Seen, seeing, add_pair, add_row, see, Fit, StepSays, WalkedSays}
 use Rattle.walking.specs.declared.Walk.{Walk}
 use Rattle.rowheads.specs.declared.Table.{Table}
 use Rattle.walking.specs.declared.Step.{Step}
@@ -29,85 +29,85 @@ behind-nil : (r : Read Seen) → behind [] [] [] r ≡ r
 behind-nil (bad c) = refl
 behind-nil (good x ts) = refl
 
-behind-pair : (ds qs : List ℕ) (ps : List Pair) (p : Pair) (r : Read Seen) → behind ds qs ps (addPair p r) ≡ behind ds qs (ps ++ p ∷ []) r
-behind-pair ds qs ps p (bad c) = refl
-behind-pair ds qs ps p (good x ts) = rw (append_assoc ps (p ∷ []) x.pairs)
+behind_pair : (ds qs : List ℕ) (ps : List Pair) (p : Pair) (r : Read Seen) → behind ds qs ps (add_pair p r) ≡ behind ds qs (ps ++ p ∷ []) r
+behind_pair ds qs ps p (bad c) = refl
+behind_pair ds qs ps p (good x ts) = rw (append_assoc ps (p ∷ []) x.pairs)
 
-behind-row : (ds qs : List ℕ) (ps : List Pair) (d q : ℕ) (r : Read Seen) → behind ds qs ps (addRow d q r) ≡ behind (ds ++ d ∷ []) (qs ++ q ∷ []) ps r
-behind-row ds qs ps d q (bad c) = refl
-behind-row ds qs ps d q (good x ts) = rw (append_assoc ds (d ∷ []) x.durs, append_assoc qs (q ∷ []) x.dems)
+behind_row : (ds qs : List ℕ) (ps : List Pair) (d q : ℕ) (r : Read Seen) → behind ds qs ps (add_row d q r) ≡ behind (ds ++ d ∷ []) (qs ++ q ∷ []) ps r
+behind_row ds qs ps d q (bad c) = refl
+behind_row ds qs ps d q (good x ts) = rw (append_assoc ds (d ∷ []) x.durs, append_assoc qs (q ∷ []) x.dems)
 
-below-snoc : (n : ℕ) (ps : List Pair) (p : Pair) → Below n (Precedes ps) → p.job < n → p.successor < n → Below n (Precedes (ps ++ p ∷ []))
-below-snoc n [] p f h k a b (inl e) = (rw (← e.0) h, rw (← e.1) k)
-below-snoc n [] p f h k a b (inr e) = absurd e
-below-snoc n (x ∷ ps) p f h k a b (inl e) = f a b (inl e)
-below-snoc n (x ∷ ps) p f h k a b (inr r) = below-snoc n ps p (λ c d q. f c d (inr q)) h k a b r
+below_snoc : (n : ℕ) (ps : List Pair) (p : Pair) → Below n (Precedes ps) → p.job < n → p.successor < n → Below n (Precedes (ps ++ p ∷ []))
+below_snoc n [] p f h k a b (inl e) = (rw (← e.0) h, rw (← e.1) k)
+below_snoc n [] p f h k a b (inr e) = absurd e
+below_snoc n (x ∷ ps) p f h k a b (inl e) = f a b (inl e)
+below_snoc n (x ∷ ps) p f h k a b (inr r) = below_snoc n ps p (λ c d q. f c d (inr q)) h k a b r
 
 pub record Checking (n : ℕ) (table : Table) (res : ℕ) (t₀ : List Token) (s durs dems : List ℕ) (w : Walk) (pairs : ℕ) : Type 0 where
   pub fit : Fit n w
-  pub room : pairs + w.left ≤ mostJobs * w.next
+  pub room : pairs + w.left ≤ most_jobs * w.next
   pub ps : List Pair
   pub count : length ps ≡ pairs
   pub range : Below n (Precedes ps)
-  pub long-durs : length durs ≡ mostJobs
-  pub long-dems : length dems ≡ mostJobs
-  pub low : (j : ℕ) → durs ! j ≤ mostTime
+  pub long_durs : length durs ≡ most_jobs
+  pub long_dems : length dems ≡ most_jobs
+  pub low : (j : ℕ) → durs ! j ≤ most_time
   pub same : seeing n table res 0 0 t₀ ≡ behind (take w.next durs) (take w.next dems) ps (see n table res s w)
 
 module _ (n : ℕ) (table : Table) (res : ℕ) (s : List ℕ) where
-  pub checking-start : (at : ℕ) (durs dems : List ℕ) → length durs ≡ mostJobs → length dems ≡ mostJobs → ((j : ℕ) → durs ! j ≤ mostTime)
+  pub checking_start : (at : ℕ) (durs dems : List ℕ) → length durs ≡ most_jobs → length dems ≡ most_jobs → ((j : ℕ) → durs ! j ≤ most_time)
       → Checking n table res (tokens (drop at s)) s durs dems (record { next = 0; left = 0; at = at }) 0
-  checking-start at durs dems p q low = record {
+  checking_start at durs dems p q low = record {
     fit = record { begun = omega arith; owned = omega arith };
     room = omega arith;
     ps = [];
     count = refl;
     range = λ a b r. absurd r;
-    long-durs = p;
-    long-dems = q;
+    long_durs = p;
+    long_dems = q;
     low = low;
     same = sym (behind-nil (seeing n table res 0 0 (tokens (drop at s))));
   }
 
   module _ (t₀ : List Token) (durs dems : List ℕ) (w : Walk) (pairs : ℕ) (g : Checking n table res t₀ s durs dems w pairs) where
-    pub checking-successor : (v : ℕ) (u : Walk) → StepSays n table res s w (Successor v u) → Checking n table res t₀ s durs dems u (pairs + 1)
-    checking-successor v u t =
+    pub checking_successor : (v : ℕ) (u : Walk) → StepSays n table res s w (Successor v u) → Checking n table res t₀ s durs dems u (pairs + 1)
+    checking_successor v u t =
         let p : Pair = pair (w.next - 1) v in
         record {
           fit = t.1;
           room = omega (arith, g.room, t.4, t.5);
           ps = g.ps ++ p ∷ [];
           count = omega (arith, g.count, length-append g.ps (p ∷ []));
-          range = below-snoc n g.ps p g.range (omega (arith, g.fit.begun, g.fit.owned, t.5)) t.3;
-          long-durs = g.long-durs;
-          long-dems = g.long-dems;
+          range = below_snoc n g.ps p g.range (omega (arith, g.fit.begun, g.fit.owned, t.5)) t.3;
+          long_durs = g.long_durs;
+          long_dems = g.long_dems;
           low = g.low;
           same =
               g.same ∙ ap (behind (take w.next durs) (take w.next dems) g.ps) t.0
-              ∙ behind-pair (take w.next durs) (take w.next dems) g.ps p (see n table res s u)
+              ∙ behind_pair (take w.next durs) (take w.next dems) g.ps p (see n table res s u)
               ∙ ap (λ (x : ℕ). behind (take x durs) (take x dems) (g.ps ++ p ∷ []) (see n table res s u)) (sym t.4);
         }
 
-    pub checking-begun : (d q : ℕ) (u : Walk) → n ≤ mostJobs → StepSays n table res s w (Begun d q u) → Checking n table res t₀ s (set durs w.next d) (set dems w.next q) u pairs
-    checking-begun d q u b t =
-        let below : w.next < mostJobs = omega (arith, t.5, t.1.begun) in
+    pub checking_begun : (d q : ℕ) (u : Walk) → n ≤ most_jobs → StepSays n table res s w (Begun d q u) → Checking n table res t₀ s (set durs w.next d) (set dems w.next q) u pairs
+    checking_begun d q u b t =
+        let below : w.next < most_jobs = omega (arith, t.5, t.1.begun) in
         record {
           fit = t.1;
           room = omega (arith, g.room, t.4, t.5, t.6);
           ps = g.ps;
           count = g.count;
           range = g.range;
-          low = λ j. set-any (λ (z : ℕ). z ≤ mostTime) durs w.next d j (λ e. t.3) (g.low j);
-          long-durs = length-set durs w.next d ∙ g.long-durs;
-          long-dems = length-set dems w.next q ∙ g.long-dems;
+          low = λ j. set_any (λ (z : ℕ). z ≤ most_time) durs w.next d j (λ e. t.3) (g.low j);
+          long_durs = length-set durs w.next d ∙ g.long_durs;
+          long_dems = length-set dems w.next q ∙ g.long_dems;
           same =
               g.same ∙ ap (behind (take w.next durs) (take w.next dems) g.ps) t.0
-              ∙ behind-row (take w.next durs) (take w.next dems) g.ps d q (see n table res s u)
-              ∙ rw (t.5, add-one w.next, take-suc-set durs w.next d (rw g.long-durs below), take-suc-set dems w.next q (rw g.long-dems below));
+              ∙ behind_row (take w.next durs) (take w.next dems) g.ps d q (see n table res s u)
+              ∙ rw (t.5, add-one w.next, take-suc-set durs w.next d (rw g.long_durs below), take-suc-set dems w.next q (rw g.long_dems below));
         }
 
-    pub checking-done : StepSays n table res s w Done → WalkedSays (seeing n table res 0 0 t₀) s n durs dems (Walked.Read pairs w.at)
-    checking-done t = (
+    pub checking_done : StepSays n table res s w Done → WalkedSays (seeing n table res 0 0 t₀) s n durs dems (Walked.Read pairs w.at)
+    checking_done t = (
       record { durs = take n durs; dems = take n dems; pairs = g.ps },
       g.same ∙ ap (behind (take w.next durs) (take w.next dems) g.ps) t.0 ∙ rw (t.1, append-nil (take n durs), append-nil (take n dems), append-nil g.ps),
       refl,
@@ -116,5 +116,5 @@ module _ (n : ℕ) (table : Table) (res : ℕ) (s : List ℕ) where
       g.range,
     )
 
-    pub checking-refused : (c : ℕ) → StepSays n table res s w (Step.Refused c) → WalkedSays (seeing n table res 0 0 t₀) s n durs dems (Walked.Refused c)
-    checking-refused c t = g.same ∙ ap (behind (take w.next durs) (take w.next dems) g.ps) t
+    pub checking_refused : (c : ℕ) → StepSays n table res s w (Step.Refused c) → WalkedSays (seeing n table res 0 0 t₀) s n durs dems (Walked.Refused c)
+    checking_refused c t = g.same ∙ ap (behind (take w.next durs) (take w.next dems) g.ps) t

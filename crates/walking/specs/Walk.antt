@@ -1,11 +1,11 @@
 -- The rows of a text as code walks them: what is left at a place among them, and what the functions of this crate say. Durations and demands are
 -- kept in arrays for one resource; pairs are met one by one.
 use Rattle.std.specs.Prelude.{ℕ, ◌+◌, ◌-◌, ◌*◌, ◌≤◌, ◌<◌, ◌≡◌, List, [], ◌∷◌, ◌++◌, length, drop, take}
-use Rattle.joblist.specs.Limits.{mostTime, mostJobs}
+use Rattle.joblist.specs.Limits.{most_time, most_jobs}
 use Rattle.chains.specs.Paths.{Pair, pair, Precedes, Below}
 use Rattle.texts.specs.Tokens.{Token, tokens}
 use Rattle.texts.specs.Readings.{Read, bad, good, and_then, in_turn}
-use Rattle.projects.specs.Projects.{link, tagged, pairsFrom, durations, demandsOn}
+use Rattle.projects.specs.Projects.{link, tagged, pairs_from, durations, demands_on}
 use Rattle.rowheads.specs.Heads.{row_in}
 use Rattle.rowheads.specs.declared.Table.{Table}
 use Rattle.walking.specs.declared.Walk.{Walk}
@@ -21,29 +21,29 @@ pub record Seen : Type 0 where
 
 -- what is left: `left` successors of job next - 1, then the rows from `next` on
 unfoldable pub seeing : ℕ → Table → ℕ → ℕ → ℕ → List Token → Read Seen
-unfolding in_turn link row_in pairsFrom
+unfolding in_turn link row_in pairs_from
 seeing n table res next left ts =
     and_then (in_turn (λ i. link n) 0 left ts) (λ ss t₁.
     and_then (in_turn (row_in table n) next (n - next) t₁) (λ rs t₂.
-    good (record { durs = durations rs; dems = demandsOn res rs; pairs = tagged (next - 1) ss ++ pairsFrom next rs }) t₂))
+    good (record { durs = durations rs; dems = demands_on res rs; pairs = tagged (next - 1) ss ++ pairs_from next rs }) t₂))
 
 -- the same with a pair more, and with a row more, in front
-abbrev pub addPair : Pair → Read Seen → Read Seen
-addPair p (bad c) = bad c
-addPair p (good x ts) = good (record { durs = x.durs; dems = x.dems; pairs = p ∷ x.pairs }) ts
+abbrev pub add_pair : Pair → Read Seen → Read Seen
+add_pair p (bad c) = bad c
+add_pair p (good x ts) = good (record { durs = x.durs; dems = x.dems; pairs = p ∷ x.pairs }) ts
 
-abbrev pub addRow : ℕ → ℕ → Read Seen → Read Seen
-addRow d q (bad c) = bad c
-addRow d q (good x ts) = good (record { durs = d ∷ x.durs; dems = q ∷ x.dems; pairs = x.pairs }) ts
+abbrev pub add_row : ℕ → ℕ → Read Seen → Read Seen
+add_row d q (bad c) = bad c
+add_row d q (good x ts) = good (record { durs = d ∷ x.durs; dems = q ∷ x.dems; pairs = x.pairs }) ts
 
 -- what is left at a place of the walk
 abbrev pub see : ℕ → Table → ℕ → List ℕ → Walk → Read Seen
 see n table res s w = seeing n table res w.next w.left (tokens (drop w.at s))
 
--- successors are left only of rows that were begun, at most mostJobs of each
+-- successors are left only of rows that were begun, at most most_jobs of each
 pub record Fit (n : ℕ) (w : Walk) : Type 0 where
   pub begun : w.next ≤ n
-  pub owned : w.left ≤ mostJobs * w.next
+  pub owned : w.left ≤ most_jobs * w.next
 
 -- fewer tokens are left at u than at w
 abbrev pub Further : List ℕ → Walk → Walk → Type 0
@@ -52,9 +52,9 @@ Further s w u = length (tokens (drop u.at s)) < length (tokens (drop w.at s))
 -- a step's answer: what is left before it, by what is left behind it
 abbrev pub StepSays : ℕ → Table → ℕ → List ℕ → Walk → Step → Type 0
 StepSays n table res s w (Successor v u) =
-    (see n table res s w ≡ addPair (pair (w.next - 1) v) (see n table res s u)) × Fit n u × Further s w u × (v < n) × (u.next ≡ w.next) × (w.left ≡ u.left + 1)
+    (see n table res s w ≡ add_pair (pair (w.next - 1) v) (see n table res s u)) × Fit n u × Further s w u × (v < n) × (u.next ≡ w.next) × (w.left ≡ u.left + 1)
 StepSays n table res s w (Begun d q u) =
-    (see n table res s w ≡ addRow d q (see n table res s u)) × Fit n u × Further s w u × (d ≤ mostTime) × (w.left ≡ 0) × (u.next ≡ w.next + 1) × (u.left ≤ mostJobs)
+    (see n table res s w ≡ add_row d q (see n table res s u)) × Fit n u × Further s w u × (d ≤ most_time) × (w.left ≡ 0) × (u.next ≡ w.next + 1) × (u.left ≤ most_jobs)
 StepSays n table res s w Done = (see n table res s w ≡ good (record { durs = []; dems = []; pairs = [] }) (tokens (drop w.at s))) × (w.next ≡ n)
 StepSays n table res s w (Step.Refused c) = see n table res s w ≡ bad c
 

@@ -2,7 +2,7 @@
 // them checked.
 ghost use Rattle.std.specs.Prelude.{◌≡◌, ℕ, ◌≤◌, length, drop};
 ghost use Rattle.lists.specs.Lists.{◌!◌};
-ghost use Rattle.joblist.specs.Limits.{mostTime, mostJobs};
+ghost use Rattle.joblist.specs.Limits.{most_time, most_jobs};
 ghost use Rattle.texts.specs.Tokens.{tokens};
 ghost use Rattle.walking.specs.Walk.{Fit, StepSays, WalkedSays, seeing};
 
@@ -35,7 +35,7 @@ pub enum Walked {
 
 // One step along the rows.
 pub fn advance(text: &[u8], n: u32, table: Table, res: u32, w: Walk) -> Step
-    requires { Fit n w × (n ≤ mostJobs) }
+    requires { Fit n w × (n ≤ most_jobs) }
     ensures { StepSays n table res text.now w result }
 {
     let at = w.at;
@@ -85,8 +85,8 @@ pub fn validate(
     dur: &mut [u32; screen::MOST_JOBS],
     dem: &mut [u32; screen::MOST_JOBS],
 ) -> Walked
-    requires { (n ≤ mostJobs) × (length dur.old ≡ mostJobs) × (length dem.old ≡ mostJobs) × ((j : ℕ) → dur.old ! j ≤ mostTime) }
-    ensures { WalkedSays (seeing n table res 0 0 (tokens (drop at text.now))) text.now n dur.new dem.new result × (length dur.new ≡ mostJobs) × (length dem.new ≡ mostJobs) × ((j : ℕ) → dur.new ! j ≤ mostTime) }
+    requires { (n ≤ most_jobs) × (length dur.old ≡ most_jobs) × (length dem.old ≡ most_jobs) × ((j : ℕ) → dur.old ! j ≤ most_time) }
+    ensures { WalkedSays (seeing n table res 0 0 (tokens (drop at text.now))) text.now n dur.new dem.new result × (length dur.new ≡ most_jobs) × (length dem.new ≡ most_jobs) × ((j : ℕ) → dur.new ! j ≤ most_time) }
 {
     let mut w = Walk {
         next: 0,

@@ -2,9 +2,9 @@
 // the checker both stand on it.
 ghost use Rattle.std.specs.Prelude.{◌≡◌, ◌+◌, ◌≤◌, ◌<◌, ◌++◌, leb, ltb, pos, ◌+ℤ◌, ◌-ℤ◌, length, take, drop};
 ghost use Rattle.lists.specs.Tests.{both};
-ghost use Rattle.lists.specs.Extremes.{foundOr};
-ghost use Rattle.narrowing.specs.Windows.{win, closes, lowestTooShort, moved, side_of};
-ghost use Rattle.joblist.specs.Limits.{mostJobs, mostTime};
+ghost use Rattle.lists.specs.Extremes.{found_or};
+ghost use Rattle.narrowing.specs.Windows.{win, closes, lowest_too_short, moved, side_of};
+ghost use Rattle.joblist.specs.Limits.{most_jobs, most_time};
 ghost use Rattle.timetable.specs.Time.{bound};
 ghost use Rattle.windows.specs.Bounds.{bound_at};
 
@@ -25,7 +25,7 @@ pub fn closed(est: &[u32], lct: &[u32], dur: &[u32], job: usize) -> bool
 // The lowest job whose window is too short for it, and the number of jobs where there is none.
 pub fn lowest_too_short(est: &[u32], lct: &[u32], dur: &[u32]) -> usize
     requires { (length lct.now ≡ length est.now) × (length dur.now ≡ length est.now) }
-    ensures { result ≡ foundOr (length est.now) (lowestTooShort (length est.now) dur.now (win est.now lct.now)) }
+    ensures { result ≡ found_or (length est.now) (lowest_too_short (length est.now) dur.now (win est.now lct.now)) }
 {
     let mut i = 0;
     while i < est.len() {
@@ -53,15 +53,15 @@ pub fn copy(from: &[u32], to: &mut [u32])
 
 // A copy of a list in a local array.
 pub fn save(from: &[u32], to: &mut [u32; screen::MOST_JOBS])
-    requires { (length from.now ≤ mostJobs) × (length to.old ≡ mostJobs) }
-    ensures { (to.new ≡ from.now ++ drop (length from.now) to.old) × (length to.new ≡ mostJobs) }
+    requires { (length from.now ≤ most_jobs) × (length to.old ≡ most_jobs) }
+    ensures { (to.new ≡ from.now ++ drop (length from.now) to.old) × (length to.new ≡ most_jobs) }
 {
     copy(from, to);
 }
 
 // A list from the front of such an array.
 pub fn restore(from: &[u32; screen::MOST_JOBS], to: &mut [u32])
-    requires { (length to.old ≤ mostJobs) × (length from.now ≡ mostJobs) }
+    requires { (length to.old ≤ most_jobs) × (length from.now ≡ most_jobs) }
     ensures { to.new ≡ take (length to.old) from.now }
 {
     copy(from, to);
@@ -70,7 +70,7 @@ pub fn restore(from: &[u32; screen::MOST_JOBS], to: &mut [u32])
 // The move of a rule at a time: on side 0 the earliest start becomes the time after it, on side 1 the latest end becomes the time. It
 // returns the bound that was there.
 pub fn shift(est: &mut [u32], lct: &mut [u32], job: usize, side: u32, time: u32) -> u32
-    requires { (job < length est.old) × (job < length lct.old) × (time ≤ mostTime) }
+    requires { (job < length est.old) × (job < length lct.old) × (time ≤ most_time) }
     ensures { (win est.new lct.new ≡ moved (win est.old lct.old) job (side_of side) (bound (side_of side) time)) × (result ≡ bound_at (win est.old lct.old) job (side_of side)) }
 {
     let after = time + 1;
@@ -86,7 +86,7 @@ pub fn shift(est: &mut [u32], lct: &mut [u32], job: usize, side: u32, time: u32)
 
 // The lower limit t - p + 1 of a start. It may lie below zero; it is signed, and then no restriction.
 fn low(t: u32, p: u32) -> i32
-    requires { (t ≤ mostTime) × (p ≤ mostTime) }
+    requires { (t ≤ most_time) × (p ≤ most_time) }
     ensures { result ≡ (pos t -ℤ pos p) +ℤ pos 1 }
 {
     (t as i32) - (p as i32) + 1
@@ -94,7 +94,7 @@ fn low(t: u32, p: u32) -> i32
 
 // Whether an earliest start e is no earlier than t - p + 1.
 pub fn no_earlier(e: u32, t: u32, p: u32) -> bool
-    requires { (e ≤ mostTime) × (t ≤ mostTime) × (p ≤ mostTime) }
+    requires { (e ≤ most_time) × (t ≤ most_time) × (p ≤ most_time) }
     ensures { result ≡ ltb t (e + p) }
 {
     low(t, p) <= (e as i32)
@@ -102,7 +102,7 @@ pub fn no_earlier(e: u32, t: u32, p: u32) -> bool
 
 // Whether a latest start l - p is no later than t.
 pub fn no_later(l: u32, t: u32, p: u32) -> bool
-    requires { (t ≤ mostTime) × (p ≤ mostTime) }
+    requires { (t ≤ most_time) × (p ≤ most_time) }
     ensures { result ≡ leb l (t + p) }
 {
     l <= t + p
@@ -110,7 +110,7 @@ pub fn no_later(l: u32, t: u32, p: u32) -> bool
 
 // Whether a sure part holds t: the job, with the window from e to l, starts no later than t and no earlier than t - p + 1.
 pub fn sure(e: u32, l: u32, p: u32, t: u32) -> bool
-    requires { (e ≤ mostTime) × (p ≤ mostTime) × (t ≤ mostTime) }
+    requires { (e ≤ most_time) × (p ≤ most_time) × (t ≤ most_time) }
     ensures { result ≡ both (leb l (t + p)) (ltb t (e + p)) }
 {
     if !no_later(l, t, p) {

@@ -1,15 +1,15 @@
 -- The runs on the record come out as document 01 says. A wrong row is refused at its own line, with the row and the place where it differs.
 use mathlib.Core.Path.{refl}
 use Rattle.lists.specs.Lists.{Every}
-use Rattle.members.specs.Members.{onesOf}
-use Rattle.timetable.specs.Search.{leanMember, naming}
-use Rattle.timetable.specs.Table.{narrowedBy}
-use Rattle.overloads.specs.Promise.{overloadSaid}
+use Rattle.members.specs.Members.{ones_of}
+use Rattle.timetable.specs.Search.{lean_member, naming}
+use Rattle.timetable.specs.Table.{narrowed_by}
+use Rattle.overloads.specs.Promise.{overload_said}
 use Rattle.worked.specs.Rows.{Right}
-use Rattle.worked.specs.Cases.{onRecord}
+use Rattle.worked.specs.Cases.{on_record}
 
-pub cases : Every Right onRecord
-unfolding narrowedBy naming leanMember overloadSaid onesOf
+pub cases : Every Right on_record
+unfolding narrowed_by naming lean_member overload_said ones_of
 cases = (
   refl,  -- 1
   (

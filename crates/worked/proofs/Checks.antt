@@ -5,13 +5,13 @@ use mathlib.Core.List.{List}
 use Rattle.lists.specs.Lists.{Every}
 use Rattle.lists.proofs.Every.{every_map}
 use Rattle.checks.specs.Replay.{checked}
-use Rattle.checks.proofs.Rows.{facts-answer}
+use Rattle.checks.proofs.Rows.{facts_answer}
 use Rattle.worked.specs.Logs.{Log, Due, Pinned}
 use Rattle.worked.specs.Checks.{checks}
 
-pub checks-right : Every Due checks
+pub checks_right : Every Due checks
 unfolding checked
-checks-right = (
+checks_right = (
   refl,  -- 40
   (
     refl,  -- 40
@@ -141,7 +141,7 @@ checks-right = (
 
 -- what the definition finds is what the field asks for
 pub pinned : (xs : List Log) → Every Due xs → Every Pinned xs
-pinned xs h = every_map Due Pinned (λ x d a y. facts-answer x.given x.count a y ∙ d) xs h
+pinned xs h = every_map Due Pinned (λ x d a y. facts_answer x.given x.count a y ∙ d) xs h
 
-pub checks-pinned : Every Pinned checks
-checks-pinned = pinned checks checks-right
+pub checks_pinned : Every Pinned checks
+checks_pinned = pinned checks checks_right

@@ -3,12 +3,12 @@ use mathlib.Core.Path.{refl}
 use Rattle.lists.specs.Lists.{Every}
 use Rattle.checks.specs.Replay.{checked}
 use Rattle.worked.specs.Logs.{Due, Pinned}
-use Rattle.worked.specs.CloseChecks.{closeChecks}
+use Rattle.worked.specs.CloseChecks.{close_checks}
 use Rattle.worked.proofs.Checks.{pinned}
 
-pub close-checks-right : Every Due closeChecks
+pub close_checks_right : Every Due close_checks
 unfolding checked
-close-checks-right = (
+close_checks_right = (
   refl,  -- 25
   (
     refl,  -- 41
@@ -70,5 +70,5 @@ close-checks-right = (
   ),
 )
 
-pub close-checks-pinned : Every Pinned closeChecks
-close-checks-pinned = pinned closeChecks close-checks-right
+pub close_checks_pinned : Every Pinned close_checks
+close_checks_pinned = pinned close_checks close_checks_right

@@ -2,16 +2,16 @@
 -- at its own line.
 use mathlib.Core.Path.{refl}
 use Rattle.lists.specs.Lists.{Every}
-use Rattle.timetable.specs.Table.{narrowedBy}
+use Rattle.timetable.specs.Table.{narrowed_by}
 use Rattle.checks.specs.Replay.{checked}
 use Rattle.worked.specs.Rows.{Right}
 use Rattle.worked.specs.Logs.{Due, Pinned}
-use Rattle.worked.specs.Ragged.{raggedRuns, raggedLogs}
+use Rattle.worked.specs.Ragged.{ragged_runs, ragged_logs}
 use Rattle.worked.proofs.Checks.{pinned}
 
-pub ragged-runs : Every Right raggedRuns
-unfolding narrowedBy
-ragged-runs = (
+pub ragged_runs_lem : Every Right ragged_runs
+unfolding narrowed_by
+ragged_runs_lem = (
   refl,  -- 90
   (
     refl,  -- 90
@@ -61,9 +61,9 @@ ragged-runs = (
   ),
 )
 
-pub ragged-logs-right : Every Due raggedLogs
+pub ragged_logs_right : Every Due ragged_logs
 unfolding checked
-ragged-logs-right = (
+ragged_logs_right = (
   refl,  -- 7
   (
     refl,  -- 7
@@ -107,5 +107,5 @@ ragged-logs-right = (
   ),
 )
 
-pub ragged-logs-pinned : Every Pinned raggedLogs
-ragged-logs-pinned = pinned raggedLogs ragged-logs-right
+pub ragged_logs_pinned : Every Pinned ragged_logs
+ragged_logs_pinned = pinned ragged_logs ragged_logs_right

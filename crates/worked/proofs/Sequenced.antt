@@ -6,18 +6,18 @@ use mathlib.Core.List.{List}
 use Rattle.lists.specs.Lists.{Every}
 use Rattle.lists.proofs.Every.{every_map}
 use Rattle.heads.specs.Promise.{sequenced}
-use Rattle.heads.proofs.Laws.{fields-answer}
+use Rattle.heads.proofs.Laws.{fields_answer}
 use Rattle.worked.specs.HeadRuns.{HeadRun, HeadDue, HeadPinned}
-use Rattle.worked.specs.Sequenced.{headRuns}
+use Rattle.worked.specs.Sequenced.{head_runs}
 
-pub head-pinned : (x : HeadRun) → HeadDue x → HeadPinned x
-head-pinned x d a h = fields-answer x.win x.p a h ∙ d
+pub head_pinned : (x : HeadRun) → HeadDue x → HeadPinned x
+head_pinned x d a h = fields_answer x.win x.p a h ∙ d
 
 -- ---- the runs
 
-pub head-runs-right : Every HeadDue headRuns
+pub head_runs_right : Every HeadDue head_runs
 unfolding sequenced
-head-runs-right = (
+head_runs_right = (
   refl,  -- 100
   (
     refl,  -- 101
@@ -130,5 +130,5 @@ head-runs-right = (
   ),
 )
 
-pub head-runs-pinned : Every HeadPinned headRuns
-head-runs-pinned = every_map HeadDue HeadPinned head-pinned headRuns head-runs-right
+pub head_runs_pinned : Every HeadPinned head_runs
+head_runs_pinned = every_map HeadDue HeadPinned head_pinned head_runs head_runs_right

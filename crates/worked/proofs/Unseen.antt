@@ -3,15 +3,15 @@
 use mathlib.Core.Path.{refl}
 use Rattle.lists.specs.Lists.{Every}
 use Rattle.lists.proofs.Every.{every_map}
-use Rattle.timetable.specs.Table.{narrowedBy}
+use Rattle.timetable.specs.Table.{narrowed_by}
 use Rattle.heads.specs.Promise.{sequenced}
 use Rattle.worked.specs.HeadRuns.{HeadRun, HeadDue, HeadPinned, Unseen}
 use Rattle.worked.specs.Sequenced.{unseen}
-use Rattle.worked.proofs.Sequenced.{head-pinned}
+use Rattle.worked.proofs.Sequenced.{head_pinned}
 
-pub unseen-right : Every (λ (x : HeadRun). HeadDue x × Unseen x) unseen
-unfolding sequenced narrowedBy
-unseen-right = (
+pub unseen_right : Every (λ (x : HeadRun). HeadDue x × Unseen x) unseen
+unfolding sequenced narrowed_by
+unseen_right = (
   (refl, refl),  -- 170
   (
     (refl, refl),  -- 170
@@ -58,5 +58,5 @@ unseen-right = (
   ),
 )
 
-pub unseen-pinned : Every HeadPinned unseen
-unseen-pinned = every_map (λ (x : HeadRun). HeadDue x × Unseen x) HeadPinned (λ x d. head-pinned x d.0) unseen unseen-right
+pub unseen_pinned : Every HeadPinned unseen
+unseen_pinned = every_map (λ (x : HeadRun). HeadDue x × Unseen x) HeadPinned (λ x d. head_pinned x d.0) unseen unseen_right

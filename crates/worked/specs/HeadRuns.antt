@@ -5,8 +5,8 @@ use Rattle.narrowing.specs.Windows.{Win}
 use Rattle.answers.specs.Said.{Word, said}
 use Rattle.promises.specs.Counted.{ExactlyCounts}
 use Rattle.timetable.specs.Table.{call, leaves, narrowed}
-use Rattle.heads.specs.Promise.{headAsk, Left, left, sequenced}
-use Rattle.worked.specs.Rows.{Job, job, windowsOf, durationsOf, Span, spans}
+use Rattle.heads.specs.Promise.{head_ask, Left, left, sequenced}
+use Rattle.worked.specs.Rows.{Job, job, windows_of, durations_of, Span, spans}
 
 pub record HeadRun : Type 0 where
   pub number : ℕ
@@ -20,7 +20,7 @@ HeadDue x = sequenced x.win x.p ≡ x.due
 
 -- so does whatever meets the contract's facts
 abbrev pub HeadPinned : HeadRun → Type 0
-HeadPinned x = (a : Left) → ExactlyCounts (headAsk x.win x.p) a → a ≡ x.due
+HeadPinned x = (a : Left) → ExactlyCounts (head_ask x.win x.p) a → a ≡ x.due
 
 -- time-tabling finds nothing to move where each job draws the one head that there is
 abbrev pub Unseen : HeadRun → Type 0
@@ -29,25 +29,25 @@ Unseen x = narrowed (call x.win x.p (map (λ (k : ℕ). 1) x.p) 1 []) ≡ leaves
 -- ---- rows
 
 -- a job on the head: e, l, p
-abbrev pub headJob : ℕ → ℕ → ℕ → Job
-headJob e l p = job e l p 1
+abbrev pub head_job : ℕ → ℕ → ℕ → Job
+head_job e l p = job e l p 1
 
-abbrev pub headRow : ℕ → List Job → Left → HeadRun
-headRow number js due = record { number = number; win = windowsOf js; p = durationsOf js; due = due }
+abbrev pub head_row : ℕ → List Job → Left → HeadRun
+head_row number js due = record { number = number; win = windows_of js; p = durations_of js; due = due }
 
-abbrev pub headSettles : ℕ → List Job → ℕ → List Span → HeadRun
-headSettles number js count xs = headRow number js (left (said Word.settled (count ∷ [])) (spans xs))
+abbrev pub head_settles : ℕ → List Job → ℕ → List Span → HeadRun
+head_settles number js count xs = head_row number js (left (said Word.settled (count ∷ [])) (spans xs))
 
 -- with no move
-abbrev pub headRests : ℕ → List Job → HeadRun
-headRests number js = headRow number js (left (said Word.settled (0 ∷ [])) (windowsOf js))
+abbrev pub head_rests : ℕ → List Job → HeadRun
+head_rests number js = head_row number js (left (said Word.settled (0 ∷ [])) (windows_of js))
 
-abbrev pub headClashes : ℕ → List Job → ℕ → ℕ → HeadRun
-headClashes number js count j = headRow number js (left (said Word.clash (count ∷ j ∷ [])) (windowsOf js))
+abbrev pub head_clashes : ℕ → List Job → ℕ → ℕ → HeadRun
+head_clashes number js count j = head_row number js (left (said Word.clash (count ∷ j ∷ [])) (windows_of js))
 
-abbrev pub headRefuses : ℕ → List Job → ℕ → HeadRun
-headRefuses number js k = headRow number js (left (said Word.refused (k ∷ [])) (windowsOf js))
+abbrev pub head_refuses : ℕ → List Job → ℕ → HeadRun
+head_refuses number js k = head_row number js (left (said Word.refused (k ∷ [])) (windows_of js))
 
 -- lists of unequal lengths
-abbrev pub headUnequal : ℕ → Win → List ℕ → HeadRun
-headUnequal number W p = record { number = number; win = W; p = p; due = left (said Word.refused (1 ∷ [])) W }
+abbrev pub head_unequal : ℕ → Win → List ℕ → HeadRun
+head_unequal number W p = record { number = number; win = W; p = p; due = left (said Word.refused (1 ∷ [])) W }

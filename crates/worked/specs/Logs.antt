@@ -6,7 +6,7 @@ use Rattle.answers.specs.Said.{Word, Said, said}
 use Rattle.timetable.specs.Table.{Call}
 use Rattle.checks.specs.Replay.{Checked, finds, checked}
 use Rattle.checks.specs.Promise.{Exactly}
-use Rattle.worked.specs.Rows.{Job, windowsOf, with, Span, spans}
+use Rattle.worked.specs.Rows.{Job, windows_of, with, Span, spans}
 
 -- a log: its number, the call, the claimed records, and what is due
 pub record Log : Type 0 where
@@ -30,7 +30,7 @@ abbrev pub holding : ℕ → List Job → ℕ → List ℕ → List Span → Log
 holding cap js count log xs = logs 40 cap js count log (said Word.holds (count ∷ [])) (spans xs)
 
 abbrev pub clashing : ℕ → List Job → ℕ → List ℕ → ℕ → Log
-clashing cap js count log j = logs 41 cap js count log (said Word.clash (count ∷ j ∷ [])) (windowsOf js)
+clashing cap js count log j = logs 41 cap js count log (said Word.clash (count ∷ j ∷ [])) (windows_of js)
 
 abbrev pub refused : ℕ → Call → ℕ → Log
 refused k c count = record { number = k; given = c; count = count; due = finds (said Word.refused (k ∷ [])) c.win }
@@ -39,4 +39,4 @@ abbrev pub refusing : ℕ → ℕ → List Job → ℕ → List ℕ → Log
 refusing k cap js count log = refused k (with cap js log) count
 
 abbrev pub rejecting : ℕ → ℕ → ℕ → List Job → ℕ → List ℕ → Log
-rejecting code place cap js count log = logs code cap js count log (said Word.rejected (place ∷ code ∷ [])) (windowsOf js)
+rejecting code place cap js count log = logs code cap js count log (said Word.rejected (place ∷ code ∷ [])) (windows_of js)

@@ -1,5 +1,5 @@
 // The writer of project texts (document 02, Item 13): the tests in their order, and then the text, which the lists say.
-ghost use Rattle.answers.specs.Said.{saysWrite};
+ghost use Rattle.answers.specs.Said.{says_write};
 ghost use Rattle.exchange.specs.Write.{Writes};
 
 use answers::WriteAnswer;
@@ -16,7 +16,7 @@ pub fn write_patterson(
 ) -> WriteAnswer
     ensures { Writes
         (record { cap = cap; dur = dur.now; dem = dem.now; jobs = jobs.now; successors = successors.now; buffer = buffer.old })
-        (record { says = saysWrite result; buffer = buffer.new }) }
+        (record { says = says_write result; buffer = buffer.new }) }
 {
     let number = screen::refusal_of_two(dur, dem, cap);
     if number != 0 {

@@ -7,10 +7,10 @@ use borrow.Author.Rules.{rules}
 use lib.ListN.{length}
 use Rattle.lists.specs.Lists.{◌!◌}
 use Rattle.lists.specs.Sweeps.{sweep}
-use Rattle.lists.proofs.Sweeps.{sweep-more}
+use Rattle.lists.proofs.Sweeps.{sweep_more}
 use Rattle.heads.specs.Search.{firsts}
 use Rattle.mirrors.specs.Back.{told}
-use Rattle.ahead.proofs.Passes.{listed, member_is, sweep-zero, sweep-under, bound-is}
+use Rattle.ahead.proofs.Passes.{listed, member_is, sweep_zero, sweep_under, bound_is}
 use Rattle.ahead.proofs.bound_of.Statement.{statement}
 use Rattle.ahead.proofs.bound_of.Tie as tie
 
@@ -21,16 +21,16 @@ abbrev decreases-loop : tie.decreases-loop
 decreases-loop starts ends dur order job end done₀ m₀ done m = length starts - m
 
 shared-slice-read-end-2 : tie.Need-shared-slice-read-end-2 invariant-loop decreases-loop
-shared-slice-read-end-2 c = omega (arith, c.before.before.before.before.before.requires.0.lent.p-long)
+shared-slice-read-end-2 c = omega (arith, c.before.before.before.before.before.requires.0.lent.p_long)
 
 add-end : tie.Need-overflow-add-end invariant-loop decreases-loop
 add-end c =
     let r = c.before.before.before.before.before.requires.0.lent in
     let j = c.before.before.before.before.before.args.job in
-    omega (arith, r.starts-most j, r.p-most j)
+    omega (arith, r.starts_most j, r.p_most j)
 
 loop-holds : tie.Need-loop-init invariant-loop decreases-loop
-loop-holds c = (omega arith, sym (sweep-zero _ _ _ _))
+loop-holds c = (omega arith, sym (sweep_zero _ _ _ _))
 
 element-copy-out-k : tie.Need-element-copy-out-k invariant-loop decreases-loop
 element-copy-out-k c = omega (arith, c.before.before.before.before.before.before.before.requires.0.room, c.before.before.before.before.before.before.before.requires.0.lent.few)
@@ -64,7 +64,7 @@ comes-first-requires c κs =
     let l = c.before.before.before.before.loop in
     let r = c.before.before.before.before.before.before.before.before.before.before.requires.0.lent in
     let s = c.before.before.before.before.before.before.before.before.before.before.args in
-    (omega (arith, r.starts-most s.job, r.p-most s.job), r.ends-most (s.order.now ! l.m), r.p-most (s.order.now ! l.m))
+    (omega (arith, r.starts_most s.job, r.p_most s.job), r.ends_most (s.order.now ! l.m), r.p_most (s.order.now ! l.m))
 
 mul-advance : tie.Need-overflow-mul-advance invariant-loop decreases-loop
 mul-advance c =
@@ -96,7 +96,7 @@ advance-requires c κs =
     let r = c.before.before.before.before.before.before.before.before.before.before.before.before.before.requires.0.lent in
     let s = c.before.before.before.before.before.before.before.before.before.before.before.before.before.args in
     let k = s.order.now ! l.m in
-    (omega (arith, l.invariant, r.few, sweep-under s.starts.now s.dur.now (firsts s.dur.now (told s.starts.now s.ends.now) s.job) s.order.now r.starts-most r.p-most l.m), r.starts-most k, r.p-most k)
+    (omega (arith, l.invariant, r.few, sweep_under s.starts.now s.dur.now (firsts s.dur.now (told s.starts.now s.ends.now) s.job) s.order.now r.starts_most r.p_most l.m), r.starts_most k, r.p_most k)
 
 loop-again : tie.Need-loop-preserved invariant-loop decreases-loop
 loop-again c =
@@ -105,13 +105,13 @@ loop-again c =
     let p = c.before.before.before.before.before.before.before.before.before.before.before.before.before.before.requires in
     let q = member_is s.starts.now s.ends.now s.dur.now (s.order.now ! l.m) s.job (omega (arith, listed p.0 l.m (omega arith))) p.2 in (
       omega arith,
-      rw (c.advance.ensures, c.before.before.before.comes-first.ensures, q, l.invariant.1) (sym (sweep-more s.starts.now s.dur.now (firsts s.dur.now (told s.starts.now s.ends.now) s.job) s.order.now l.m)),
+      rw (c.advance.ensures, c.before.before.before.comes-first.ensures, q, l.invariant.1) (sym (sweep_more s.starts.now s.dur.now (firsts s.dur.now (told s.starts.now s.ends.now) s.job) s.order.now l.m)),
     )
 
 returns : tie.Need-returns invariant-loop decreases-loop
 returns c =
     let l = c.before.loop in
-    l.invariant.1 ∙ bound-is _ _ _ _ _ _ c.before.before.before.before.before.before.before.requires.0 (omega arith)
+    l.invariant.1 ∙ bound_is _ _ _ _ _ _ c.before.before.before.before.before.before.before.requires.0 (omega arith)
 
 pub bound-of-spec : {M : Type 1} → statement M
 bound-of-spec =

@@ -3,14 +3,14 @@ use mathlib.Core.Path.{◌≡◌}
 use borrow.Author.Rules.{rules}
 use lib.ListN.{length}
 use Rattle.mirrors.specs.Back.{told}
-use Rattle.ahead.proofs.Passes.{start-stays, start_is}
+use Rattle.ahead.proofs.Passes.{start_stays, start_is}
 use Rattle.ahead.proofs.start.Statement.{statement}
 use Rattle.ahead.proofs.start.Tie as tie
 
 returns : tie.Need-returns
 returns c =
     let s = c.before.before.before.before.before.before.args in
-    start-stays (length s.starts.now) s.dur.now (told s.starts.now s.ends.now) s.job c.if1.true
+    start_stays (length s.starts.now) s.dur.now (told s.starts.now s.ends.now) s.job c.if1.true
 
 returns-2 : tie.Need-returns-2
 returns-2 c =

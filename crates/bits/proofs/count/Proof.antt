@@ -6,13 +6,13 @@ use native.Mathlib.Omega.{arith}
 use borrow.Author.Rules.{rules}
 use lib.Count.{ones-le}
 use lib.ListN.{length, drop}
-use Rattle.members.specs.Members.{onesOf}
-use Rattle.members.proofs.Sets.{ones-drop, ones-end}
+use Rattle.members.specs.Members.{ones_of}
+use Rattle.members.proofs.Sets.{ones_drop, ones_end}
 use Rattle.bits.proofs.count.Statement.{statement}
 use Rattle.bits.proofs.count.Tie as tie
 
 abbrev invariant-loop : tie.invariant-loop
-invariant-loop set n₀ i₀ n i = (i ≤ length set) × (n ≤ 32 * i) × (n + onesOf (drop i set) ≡ onesOf set)
+invariant-loop set n₀ i₀ n i = (i ≤ length set) × (n ≤ 32 * i) × (n + ones_of (drop i set) ≡ ones_of set)
 
 abbrev decreases-loop : tie.decreases-loop
 decreases-loop set n₀ i₀ n i = length set - i
@@ -40,10 +40,10 @@ loop-again c =
     let x = c.before.before.before.args.set.now in
     let i = c.before.before.loop.i in
     let small = (c.shared-slice-known.given i).fits in
-    (omega arith, omega (arith, ones-le 32 _ small), omega (arith, ones-drop x i c.before.loop-test.true small))
+    (omega arith, omega (arith, ones-le 32 _ small), omega (arith, ones_drop x i c.before.loop-test.true small))
 
 returns : tie.Need-returns invariant-loop decreases-loop
-returns c = omega (arith, ones-end c.before.before.args.set.now c.before.loop.i c.loop-test.false)
+returns c = omega (arith, ones_end c.before.before.args.set.now c.before.loop.i c.loop-test.false)
 
 pub count_spec : {M : Type 1} → statement M
 count_spec =

@@ -2,12 +2,12 @@
 use mathlib.Core.Path.{sym}
 use native.Mathlib.Omega.{arith}
 use borrow.Author.Rules.{rules}
-use Rattle.members.proofs.Sets.{has-past, has-mask}
+use Rattle.members.proofs.Sets.{has_past, has_mask}
 use Rattle.bits.proofs.has.Statement.{statement}
 use Rattle.bits.proofs.has.Tie as tie
 
 returns : tie.Need-returns
-returns c = sym (has-past _ _ (omega arith))
+returns c = sym (has_past _ _ (omega arith))
 
 mul-result : tie.Need-overflow-mul-result
 mul-result c = search rules
@@ -19,7 +19,7 @@ mask-requires : tie.Need-mask-requires
 mask-requires c κs = search rules
 
 returns-2 : tie.Need-returns-2
-returns-2 c = let a = c.before.before.before.before.args in rw c.mask.ensures (has-mask a.set.now a.k)
+returns-2 c = let a = c.before.before.before.before.args in rw c.mask.ensures (has_mask a.set.now a.k)
 
 pub has-spec : {M : Type 1} → statement M
 has-spec = tie.close (tie.spec returns mul-result shared-slice-read-result mask-requires returns-2)

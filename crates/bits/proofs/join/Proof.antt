@@ -6,7 +6,7 @@ use native.Mathlib.Omega.{arith}
 use borrow.Author.Rules.{rules}
 use lib.ListN.{length, take}
 use Rattle.members.specs.Members.{joined}
-use Rattle.members.proofs.Joined.{joined-start, joined-next, joined-full, joined-all}
+use Rattle.members.proofs.Joined.{joined_start, joined_next, joined_full, joined_all}
 use Rattle.bits.proofs.join.Statement.{statement}
 use Rattle.bits.proofs.join.Tie as tie
 
@@ -17,7 +17,7 @@ abbrev decreases-loop : tie.decreases-loop
 decreases-loop set₀ more i₀ set i = length set₀ - i
 
 loop-holds : tie.Need-loop-init invariant-loop decreases-loop
-loop-holds c = (search rules, sym (joined-start c.args.set.now c.args.more.now))
+loop-holds c = (search rules, sym (joined_start c.args.set.now c.args.more.now))
 
 same_length : tie.Need-same-length invariant-loop decreases-loop
 same_length c = search rules
@@ -26,7 +26,7 @@ returns : tie.Need-returns invariant-loop decreases-loop
 returns c =
     let l = c.before.before.loop in
     let a = c.before.before.before.args in
-    l.invariant.1 ∙ joined-all a.set.now a.more.now l.i c.if1.true
+    l.invariant.1 ∙ joined_all a.set.now a.more.now l.i c.if1.true
 
 mul-set : tie.Need-overflow-mul-set invariant-loop decreases-loop
 mul-set c = search rules
@@ -54,7 +54,7 @@ loop-again c =
     let l = c.before.before.before.before.loop in
     let a = c.before.before.before.before.before.args in
     let in-set = c.before.before.before.loop-test.true in
-    (search rules, rw l.invariant.1 (joined-next a.set.now a.more.now l.i (omega (arith, l.invariant.0, in-set)) (omega (arith, c.before.before.if1.false))))
+    (search rules, rw l.invariant.1 (joined_next a.set.now a.more.now l.i (omega (arith, l.invariant.0, in-set)) (omega (arith, c.before.before.if1.false))))
 
 same-length-2 : tie.Need-same-length-2 invariant-loop decreases-loop
 same-length-2 c = search rules
@@ -63,7 +63,7 @@ returns-2 : tie.Need-returns-2 invariant-loop decreases-loop
 returns-2 c =
     let l = c.before.loop in
     let a = c.before.before.args in
-    l.invariant.1 ∙ joined-full a.set.now a.more.now l.i (omega (arith, l.invariant.0, c.loop-test.false))
+    l.invariant.1 ∙ joined_full a.set.now a.more.now l.i (omega (arith, l.invariant.0, c.loop-test.false))
 
 pub join-spec : {M : Type 1} → statement M
 join-spec =

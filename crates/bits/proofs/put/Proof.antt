@@ -3,12 +3,12 @@ use mathlib.Core.Path.{sym}
 use native.Mathlib.Omega.{arith}
 use borrow.Author.Rules.{rules}
 use Rattle.members.specs.Members.{inserted}
-use Rattle.members.proofs.Inserted.{inserted-past}
+use Rattle.members.proofs.Inserted.{inserted_past}
 use Rattle.bits.proofs.put.Statement.{statement}
 use Rattle.bits.proofs.put.Tie as tie
 
 returns : tie.Need-returns
-returns c = sym (inserted-past _ _ (omega arith))
+returns c = sym (inserted_past _ _ (omega arith))
 
 mask-requires : tie.Need-mask-requires
 mask-requires c κs = search rules

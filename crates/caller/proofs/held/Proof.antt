@@ -1,9 +1,9 @@
 -- `caller::held` meets its contract: each answer's word is the one asked for, or another. Assumes nothing.
 use native.Mathlib.Omega.{arith}
 use Rattle.answers.specs.declared.CheckAnswer.{CheckAnswer}
-use Rattle.answers.specs.Said.{Word, saysCheck}
-use Rattle.answers.proofs.Same.{not-said}
-use Rattle.caller.proofs.Telling.{yes-exactly, no-exactly}
+use Rattle.answers.specs.Said.{Word, says_check}
+use Rattle.answers.proofs.Same.{not_said}
+use Rattle.caller.proofs.Telling.{yes_exactly, no_exactly}
 use borrow.Author.Rules.{rules}
 use Rattle.caller.proofs.held.Statement.{statement}
 use Rattle.caller.proofs.held.Tie as tie
@@ -21,16 +21,16 @@ enum-told-4 : tie.Need-enum-told-4
 enum-told-4 c = search rules
 
 returns : tie.Need-returns
-returns c = yes-exactly (λ (x : CheckAnswer). (saysCheck x).word) _ _ c.enum_told.given.1
+returns c = yes_exactly (λ (x : CheckAnswer). (says_check x).word) _ _ c.enum_told.given.1
 
 returns-2 : tie.Need-returns-2
-returns-2 c = no-exactly (λ (x : CheckAnswer). (saysCheck x).word) _ _ Word.holds (not-said Word.clash Word.holds (λ z. omega arith)) c.enum-told2.given.1
+returns-2 c = no_exactly (λ (x : CheckAnswer). (says_check x).word) _ _ Word.holds (not_said Word.clash Word.holds (λ z. omega arith)) c.enum-told2.given.1
 
 returns-3 : tie.Need-returns-3
-returns-3 c = no-exactly (λ (x : CheckAnswer). (saysCheck x).word) _ _ Word.holds (not-said Word.rejected Word.holds (λ z. omega arith)) c.enum-told3.given.1
+returns-3 c = no_exactly (λ (x : CheckAnswer). (says_check x).word) _ _ Word.holds (not_said Word.rejected Word.holds (λ z. omega arith)) c.enum-told3.given.1
 
 returns-4 : tie.Need-returns-4
-returns-4 c = no-exactly (λ (x : CheckAnswer). (saysCheck x).word) _ _ Word.holds (not-said Word.refused Word.holds (λ z. omega arith)) c.enum-told4.given.1
+returns-4 c = no_exactly (λ (x : CheckAnswer). (says_check x).word) _ _ Word.holds (not_said Word.refused Word.holds (λ z. omega arith)) c.enum-told4.given.1
 
 pub held_spec : {M : Type 1} → statement M
 held_spec =

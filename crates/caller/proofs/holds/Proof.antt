@@ -1,5 +1,5 @@
 -- `caller::holds` tells what it says, from the desk's promise alone and the answer's word. Assumes nothing.
-use Rattle.caller.proofs.Telling.{tells-holds}
+use Rattle.caller.proofs.Telling.{tells_holds}
 use borrow.Author.Rules.{rules}
 use Rattle.caller.proofs.holds.Statement.{statement}
 use Rattle.caller.proofs.holds.Tie as tie
@@ -21,7 +21,7 @@ same-length-2 : tie.Need-same-length-2
 same-length-2 c = search rules
 
 returns : tie.Need-returns
-returns c = tells-holds _ _ _ (called c).check-log.result _ (called c).check-log.ensures c.held.ensures
+returns c = tells_holds _ _ _ (called c).check-log.result _ (called c).check-log.ensures c.held.ensures
 
 pub holds-spec : {M : Type 1} → statement M
 holds-spec = tie.close (tie.spec check-log-requires held-requires same_length same-length-2 returns)

@@ -1,5 +1,5 @@
 -- `caller::reads` tells what it says, from the desk's promise alone and the answer's word. Assumes nothing.
-use Rattle.caller.proofs.Telling.{tells-reads}
+use Rattle.caller.proofs.Telling.{tells_reads}
 use borrow.Author.Rules.{rules}
 use Rattle.caller.proofs.reads.Statement.{statement}
 use Rattle.caller.proofs.reads.Tie as tie
@@ -33,7 +33,7 @@ same-length-6 : tie.Need-same-length-6
 same-length-6 c = search rules
 
 returns : tie.Need-returns
-returns c = tells-reads _ _ (called c).read-patterson.result _ (called c).read-patterson.ensures c.read.ensures
+returns c = tells_reads _ _ (called c).read-patterson.result _ (called c).read-patterson.ensures c.read.ensures
 
 pub reads-spec : {M : Type 1} → statement M
 reads-spec =

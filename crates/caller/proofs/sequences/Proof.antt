@@ -1,5 +1,5 @@
 -- `caller::sequences` tells what it says, from the desk's promise alone and the answer's word. Assumes nothing.
-use Rattle.caller.proofs.Telling.{tells-sequences}
+use Rattle.caller.proofs.Telling.{tells_sequences}
 use borrow.Author.Rules.{rules}
 use Rattle.caller.proofs.sequences.Statement.{statement}
 use Rattle.caller.proofs.sequences.Tie as tie
@@ -21,7 +21,7 @@ same-length-2 : tie.Need-same-length-2
 same-length-2 c = search rules
 
 returns : tie.Need-returns
-returns c = tells-sequences _ _ _ (called c).sequence.result _ (called c).sequence.ensures c.settled.ensures
+returns c = tells_sequences _ _ _ (called c).sequence.result _ (called c).sequence.ensures c.settled.ensures
 
 pub sequences-spec : {M : Type 1} → statement M
 sequences-spec = tie.close (tie.spec sequence-requires settled-requires same_length same-length-2 returns)

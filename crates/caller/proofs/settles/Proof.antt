@@ -1,5 +1,5 @@
 -- `caller::settles` tells what it says, from the desk's promise alone and the answer's word. Assumes nothing.
-use Rattle.caller.proofs.Telling.{tells-settles}
+use Rattle.caller.proofs.Telling.{tells_settles}
 use borrow.Author.Rules.{rules}
 use Rattle.caller.proofs.settles.Statement.{statement}
 use Rattle.caller.proofs.settles.Tie as tie
@@ -24,7 +24,7 @@ same-length-3 : tie.Need-same-length-3
 same-length-3 c = search rules
 
 returns : tie.Need-returns
-returns c = tells-settles _ _ _ (called c).narrow.result _ (called c).narrow.ensures c.settled.ensures
+returns c = tells_settles _ _ _ (called c).narrow.result _ (called c).narrow.ensures c.settled.ensures
 
 pub settles-spec : {M : Type 1} → statement M
 settles-spec =

@@ -8,15 +8,15 @@ use lib.ListN.{length, take, drop}
 use lib.Seq.{take_at}
 use borrow.Author.Rules.{rules}
 use Rattle.narrowing.specs.Windows.{Win, win}
-use Rattle.joblist.specs.Limits.{mostJobs}
-use Rattle.windows.proofs.Copies.{saved-back, kept-length}
+use Rattle.joblist.specs.Limits.{most_jobs}
+use Rattle.windows.proofs.Copies.{saved_back, kept_length}
 use Rattle.journal.specs.Journal.{records}
 use Rattle.timetable.specs.Table.{Call, call}
-use Rattle.timetable.proofs.Good.{ends-sized}
+use Rattle.timetable.proofs.Good.{ends_sized}
 use Rattle.checks.specs.Replay.{Verdict, replay}
-use Rattle.exam.specs.Lent.{jobsIn}
+use Rattle.exam.specs.Lent.{jobs_in}
 use Rattle.replay.specs.Ended.{verdict}
-use Rattle.checker.proofs.Answered.{row-holds, row-clash, row-rejected}
+use Rattle.checker.proofs.Answered.{row_holds, row_clash, row_rejected}
 use Rattle.checker.proofs.on_copies.Statement.{statement}
 use Rattle.checker.proofs.on_copies.Tie as tie
 
@@ -28,7 +28,7 @@ asked s = let a = s.args in call (win a.est.now a.lct.now) a.dur.now a.dem.now a
 abbrev meant : tie.Start → Verdict
 meant s =
     let a = s.args in
-    replay (jobsIn (length a.dur.now) a.dur.now a.dem.now a.cap) (win a.est.now a.lct.now) 0 (records a.log.now 0 a.count)
+    replay (jobs_in (length a.dur.now) a.dur.now a.dem.now a.cap) (win a.est.now a.lct.now) 0 (records a.log.now 0 a.count)
 
 -- ---- once both lists are saved: the fronts of the copies
 
@@ -42,13 +42,13 @@ abbrev ends : tie.After-save2 → List ℕ
 ends d = d.save2.new.1.0
 
 same : (d : tie.After-save2) → length (begun d).args.est.now ≡ length (begun d).args.lct.now
-same d = sym (ends-sized (begun d).requires.0)
+same d = sym (ends_sized (begun d).requires.0)
 
 starts-front : (d : tie.After-save2) → take (length (begun d).args.est.now) (starts d) ≡ (begun d).args.est.now
-starts-front d = saved-back (begun d).args.est.now _ (starts d) _ d.before.before.before.save.ensures.0 refl
+starts-front d = saved_back (begun d).args.est.now _ (starts d) _ d.before.before.before.save.ensures.0 refl
 
 ends-front : (d : tie.After-save2) → take (length (begun d).args.est.now) (ends d) ≡ (begun d).args.lct.now
-ends-front d = saved-back (begun d).args.lct.now _ (ends d) _ d.save2.ensures.0 (same d)
+ends-front d = saved_back (begun d).args.lct.now _ (ends d) _ d.save2.ensures.0 (same d)
 
 -- ---- after the replay: the windows that it left, its verdict, and as many words as before
 
@@ -67,7 +67,7 @@ starts-length d = d.replayed.auto.0 ∙ ap length (starts-front (saved d))
 ends-length : (d : tie.After-replayed) → length d.replayed.new.1.0 ≡ length (begun (saved d)).args.est.now
 ends-length d = d.replayed.auto.1.0 ∙ ap length (ends-front (saved d)) ∙ sym (same (saved d))
 
-few : (d : tie.After-replayed) → length (begun (saved d)).args.est.now ≤ mostJobs
+few : (d : tie.After-replayed) → length (begun (saved d)).args.est.now ≤ most_jobs
 few d = (begun (saved d)).requires.0.few
 
 -- ---- the needs; those that the search closes are answered in the list at the end
@@ -86,12 +86,12 @@ replayed-requires c κs =
 restore-requires : tie.Need-restore-requires
 restore-requires c κs =
     let d = c.before.before.before.before.before.before in
-    (few d, kept-length _ mostJobs (starts (saved d)) d.replayed.new.0 (saved d).before.before.before.save.ensures.1 (few d) (starts-length d))
+    (few d, kept_length _ most_jobs (starts (saved d)) d.replayed.new.0 (saved d).before.before.before.save.ensures.1 (few d) (starts-length d))
 
 restore-requires-2 : tie.Need-restore-requires-2
 restore-requires-2 c κs =
     let d = c.before.before.before.before.before.before.before.before.before.before.before in
-    (omega (arith, few d, same (saved d)), kept-length _ mostJobs (ends (saved d)) d.replayed.new.1.0 (saved d).save2.ensures.1 (few d) (ends-length d))
+    (omega (arith, few d, same (saved d)), kept_length _ most_jobs (ends (saved d)) d.replayed.new.1.0 (saved d).save2.ensures.1 (few d) (ends-length d))
 
 returns : tie.Need-returns
 returns c =
@@ -101,19 +101,19 @@ returns c =
     let n = length s.args.est.now in
     let e = back.before.before.before.before.before.restore.ensures ∙ take_at d.replayed.new.0 (drop n (starts (saved d))) n (starts-length d) in
     let l = back.restore2.ensures ∙ take_at d.replayed.new.1.0 (drop n (ends (saved d))) (length s.args.lct.now) (ends-length d ∙ same (saved d)) in
-    row-holds (asked s) s.args.count (meant s) _ (left d) (came d) _ (rw (e, l)) back.before.before.before.before.before.before.before.before.enum_told.given.1
+    row_holds (asked s) s.args.count (meant s) _ (left d) (came d) _ (rw (e, l)) back.before.before.before.before.before.before.before.before.enum_told.given.1
 
 returns-2 : tie.Need-returns-2
 returns-2 c =
     let d = c.before.before.before.before.before in
     let s = begun (saved d) in
-    row-clash (asked s) s.args.count (meant s) _ (left d) (came d) _ c.before.end.given.1
+    row_clash (asked s) s.args.count (meant s) _ (left d) (came d) _ c.before.end.given.1
 
 returns-3 : tie.Need-returns-3
 returns-3 c =
     let d = c.before.before.before.before.before in
     let s = begun (saved d) in
-    row-rejected (asked s) s.args.count (meant s) _ (left d) (came d) _ _ c.before.end2.given.1
+    row_rejected (asked s) s.args.count (meant s) _ (left d) (came d) _ _ c.before.end2.given.1
 
 pub on-copies-spec : {M : Type 1} → statement M
 on-copies-spec =

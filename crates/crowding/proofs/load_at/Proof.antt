@@ -6,21 +6,21 @@ use mathlib.Core.Path.{◌≡◌, sym, ap, ◌∙◌}
 use lib.ListN.{length}
 use borrow.Author.Rules.{rules}
 use Rattle.narrowing.specs.Windows.{win}
-use Rattle.timetable.specs.Table.{jobsOf}
+use Rattle.timetable.specs.Table.{jobs_of}
 use Rattle.crowding.specs.Asked.{asked}
-use Rattle.timetable.proofs.Good.{start-most, ends-sized, durations-sized, demands-sized, duration-most}
-use Rattle.crowding.proofs.Steps.{loadBelow, load-zero, load-more, load-all, load_fits}
+use Rattle.timetable.proofs.Good.{start_most, ends_sized, durations_sized, demands_sized, duration_most}
+use Rattle.crowding.proofs.Steps.{load_below, load_zero, load_more, load_all, load_fits}
 use Rattle.crowding.proofs.load_at.Statement.{statement}
 use Rattle.crowding.proofs.load_at.Tie as tie
 
 abbrev invariant-loop : tie.invariant-loop
-invariant-loop est lct dur dem job t sum₀ k₀ sum k = (k ≤ length est) × (sum ≡ loadBelow (jobsOf (asked est lct dur dem 0)) (win est lct) job t k)
+invariant-loop est lct dur dem job t sum₀ k₀ sum k = (k ≤ length est) × (sum ≡ load_below (jobs_of (asked est lct dur dem 0)) (win est lct) job t k)
 
 abbrev decreases-loop : tie.decreases-loop
 decreases-loop est lct dur dem job t sum₀ k₀ sum k = length est - k
 
 loop-holds : tie.Need-loop-init invariant-loop decreases-loop
-loop-holds c = (omega arith, sym (load-zero _ _ _ _))
+loop-holds c = (omega arith, sym (load_zero _ _ _ _))
 
 -- ---- a turn, and the start of the call
 
@@ -40,31 +40,31 @@ mul-share-2 : tie.Need-overflow-mul-share-2 invariant-loop decreases-loop
 mul-share-2 c = search rules
 
 shared-slice-read-share-2 : tie.Need-shared-slice-read-share-2 invariant-loop decreases-loop
-shared-slice-read-share-2 c = omega (arith, ends-sized (started c.before.before).pre.0)
+shared-slice-read-share-2 c = omega (arith, ends_sized (started c.before.before).pre.0)
 
 mul-share-3 : tie.Need-overflow-mul-share-3 invariant-loop decreases-loop
 mul-share-3 c = search rules
 
 shared-slice-read-share-3 : tie.Need-shared-slice-read-share-3 invariant-loop decreases-loop
-shared-slice-read-share-3 c = omega (arith, durations-sized (started c.before.before.before).pre.0)
+shared-slice-read-share-3 c = omega (arith, durations_sized (started c.before.before.before).pre.0)
 
 mul-share-4 : tie.Need-overflow-mul-share-4 invariant-loop decreases-loop
 mul-share-4 c = search rules
 
 shared-slice-read-share-4 : tie.Need-shared-slice-read-share-4 invariant-loop decreases-loop
-shared-slice-read-share-4 c = omega (arith, demands-sized (started c.before.before.before.before).pre.0)
+shared-slice-read-share-4 c = omega (arith, demands_sized (started c.before.before.before.before).pre.0)
 
 share-requires : tie.Need-share-requires invariant-loop decreases-loop
 share-requires c κs =
     let d = c.before.before.before.before in
     let s = (started d).requires in
-    (start-most s.0 d.before.loop.k, duration-most s.0 d.before.loop.k, s.1)
+    (start_most s.0 d.before.loop.k, duration_most s.0 d.before.loop.k, s.1)
 
 -- used by `add-sum` too: what fits is the load with one job more
 loop-again : tie.Need-loop-preserved invariant-loop decreases-loop
 loop-again c =
     let l = c.before.before.before.before.before.before in
-    (omega arith, rw (l.loop.invariant.1, c.share.ensures) (sym (load-more _ _ _ _ _)))
+    (omega arith, rw (l.loop.invariant.1, c.share.ensures) (sym (load_more _ _ _ _ _)))
 
 add-sum : tie.Need-overflow-add-sum invariant-loop decreases-loop
 add-sum c =
@@ -82,7 +82,7 @@ returns : tie.Need-returns invariant-loop decreases-loop
 returns c =
     let a = c.before.before.before.before.before.before.args in
     let e : c.before.loop.k ≡ length a.est.now = omega arith in
-    c.before.loop.invariant.1 ∙ ap (loadBelow _ _ _ _) e ∙ load-all _ _ _ _
+    c.before.loop.invariant.1 ∙ ap (load_below _ _ _ _) e ∙ load_all _ _ _ _
 
 pub load-at-spec : {M : Type 1} → statement M
 load-at-spec =

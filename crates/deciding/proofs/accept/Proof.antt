@@ -7,12 +7,12 @@ use native.Mathlib.Omega.{arith}
 use borrow.Author.Rules.{rules}
 use borrow.Author.Tests.{not-true, not-false}
 use lib.ListN.{length}
-use Rattle.joblist.specs.Limits.{mostTime}
+use Rattle.joblist.specs.Limits.{most_time}
 use Rattle.parsing.specs.declared.Parsed.{Parsed}
 use Rattle.parsing.specs.declared.Shape.{Shape}
-use Rattle.parsing.proofs.Parsing.{parsing-range}
+use Rattle.parsing.proofs.Parsing.{parsing_range}
 use Rattle.lent.specs.Parts.{RoomSays}
-use Rattle.deciding.proofs.Deciding.{too_far, text-refused, few-jobs, no-resource, no_room, no-order, all-passed}
+use Rattle.deciding.proofs.Deciding.{too_far, text_refused, few_jobs, no_resource, no_room, no_order, all_passed}
 use Rattle.deciding.proofs.accept.Statement.{statement}
 use Rattle.deciding.proofs.accept.Tie as tie
 
@@ -27,7 +27,7 @@ started e = e.before.before.before.before
 abbrev shape : ReadText → Shape
 shape e = e.parsed2.given.0.0
 
-near : (e : ReadText) → (started e).args.horizon ≤ mostTime
+near : (e : ReadText) → (started e).args.horizon ≤ most_time
 near e = e.before.before.if1.false
 
 is_read : (e : ReadText) → (started e).args.parsed ≡ Parsed.Read (shape e)
@@ -66,7 +66,7 @@ returns-2 : tie.Need-returns-2
 returns-2 c =
     let e = c.before.before.before in
     let s = (started e).requires.0 in
-    ((λ r q t L long. (no-resource r _ _ L _ long (near e) _ _ _ _ (rw (is_read e) at t) (omega (arith, c.if2.true)), λ z. omega (arith, z))), ap length s.2, ap length s.3)
+    ((λ r q t L long. (no_resource r _ _ L _ long (near e) _ _ _ _ (rw (is_read e) at t) (omega (arith, c.if2.true)), λ z. omega (arith, z))), ap length s.2, ap length s.3)
 
 roomy-requires : tie.Need-roomy-requires
 roomy-requires c κs = search rules
@@ -83,7 +83,7 @@ longest-chains-requires : tie.Need-longest-chains-requires
 longest-chains-requires c κs =
     let e = read-before (chosen-before c.before.before) in
     let s = (started e).pre in
-    ((few-jobs _ _ _ _ _ _ _ (is_read e) s.0.0.2, s.0.1, s.0.2, s.0.3, near e), s.1)
+    ((few_jobs _ _ _ _ _ _ _ (is_read e) s.0.0.2, s.0.1, s.0.2, s.0.3, near e), s.1)
 
 returns-4 : tie.Need-returns-4
 returns-4 c =
@@ -94,7 +94,7 @@ returns-4 c =
     let failed : c.before.longest-chains.result ≡ 0 → ⊥ = λ z. omega (arith, c.if4.true, z) in (
       (λ r q t L long.
           let u = rw (is_read e) at t in
-          (no-order r _ _ L _ long (near e) _ _ _ _ u (chosen d) (room f) _ _ _ failed (o.0 _ _ u.2.come (parsing-range _ _ _ _ _ _ u.2)), failed)),
+          (no_order r _ _ L _ long (near e) _ _ _ _ u (chosen d) (room f) _ _ _ failed (o.0 _ _ u.2.come (parsing_range _ _ _ _ _ _ u.2)), failed)),
       o.1,
       o.2,
     )
@@ -102,7 +102,7 @@ returns-4 c =
 returns-5 : tie.Need-returns-5
 returns-5 c =
     let s = c.before.before.before.before.before.requires.0 in (
-      (λ r q t L long. let u = rw c.before.parsed.given.1 at t in (text-refused r _ _ L c.before.before.before.if1.false _ u.0, u.1)),
+      (λ r q t L long. let u = rw c.before.parsed.given.1 at t in (text_refused r _ _ L c.before.before.before.if1.false _ u.0, u.1)),
       ap length s.2,
       ap length s.3,
     )
@@ -116,7 +116,7 @@ returns-6 c =
     let none : c.before.longest-chains.result ≡ 0 = omega (arith, c.if4.false) in (
       (λ r q t L long.
           let u = rw (is_read e) at t in
-          all-passed r _ _ L _ long (near e) _ _ _ _ u (chosen d) (room f) _ _ _ none (o.0 _ _ u.2.come (parsing-range _ _ _ _ _ _ u.2))),
+          all_passed r _ _ L _ long (near e) _ _ _ _ u (chosen d) (room f) _ _ _ none (o.0 _ _ u.2.come (parsing_range _ _ _ _ _ _ u.2))),
       o.1,
       o.2,
     )

@@ -2,13 +2,13 @@
 use borrow.Author.Rules.{rules}
 use mathlib.Core.Path.{refl}
 use native.Mathlib.Omega.{arith}
-use Rattle.lists.proofs.Lists.{replicate-low}
-use Rattle.joblist.specs.Limits.{mostJobs}
+use Rattle.lists.proofs.Lists.{replicate_low}
+use Rattle.joblist.specs.Limits.{most_jobs}
 use Rattle.deciding.proofs.decide_patterson.Statement.{statement}
 use Rattle.deciding.proofs.decide_patterson.Tie as tie
 
 parse-requires : tie.Need-parse-requires
-parse-requires c κs = (refl, refl, λ j. replicate-low mostJobs _ _ j (omega arith))
+parse-requires c κs = (refl, refl, λ j. replicate_low most_jobs _ _ j (omega arith))
 
 accept-requires : tie.Need-accept-requires
 accept-requires c κs = search rules

@@ -8,15 +8,15 @@ use borrow.Author.Rules.{rules}
 use lib.Dec.{ltb}
 use Rattle.lists.specs.Lists.{◌!◌}
 use Rattle.lists.specs.Tests.{both, every}
-use Rattle.lists.proofs.Tests.{every-none, every_more, every-end}
+use Rattle.lists.proofs.Tests.{every_none, every_more, every_end}
 use Rattle.members.specs.Members.{has}
-use Rattle.journal.specs.Journal.{headWords, job_of}
-use Rattle.draws.proofs.Steps.{spareAt, lean-fault, lean-all, member-named, spare-is}
+use Rattle.journal.specs.Journal.{head_words, job_of}
+use Rattle.draws.proofs.Steps.{spare_at, lean_fault, lean_all, member_named, spare_is}
 use Rattle.draws.proofs.lean.Statement.{statement}
 use Rattle.draws.proofs.lean.Tie as tie
 
 abbrev invariant-loop : tie.invariant-loop
-invariant-loop dem cap words all set k₀ k = (k ≤ 32 * length set) × (every (λ i. not (spareAt dem cap (job_of words) set i)) k ≡ true)
+invariant-loop dem cap words all set k₀ k = (k ≤ 32 * length set) × (every (λ i. not (spare_at dem cap (job_of words) set i)) k ≡ true)
 
 abbrev decreases-loop : tie.decreases-loop
 decreases-loop dem cap words all set k₀ k = 32 * length set - k
@@ -26,16 +26,16 @@ decreases-loop dem cap words all set k₀ k = 32 * length set - k
 abbrev begun : tie.At-loop invariant-loop decreases-loop → tie.Start invariant-loop decreases-loop
 begun d = d.before.before.before.before.before
 
-set-length : (d : tie.At-loop invariant-loop decreases-loop) → length d.before.set-of.result.now ≡ length (begun d).args.words.now - headWords
-set-length d = ap length d.before.set-of.ensures ∙ length-drop headWords (begun d).args.words.now
+set-length : (d : tie.At-loop invariant-loop decreases-loop) → length d.before.set_of.result.now ≡ length (begun d).args.words.now - head_words
+set-length d = ap length d.before.set_of.ensures ∙ length-drop head_words (begun d).args.words.now
 
 -- what the code asks of a bit is whether that member is spare
-asked : (d : tie.At-loop invariant-loop decreases-loop) → let a = (begun d).args in let set = d.before.set-of.result.now in
-    both (has set d.loop.k) (ltb a.cap (d.before.before.named.result - a.dem.now ! d.loop.k)) ≡ spareAt a.dem.now a.cap (job_of a.words.now) set d.loop.k
+asked : (d : tie.At-loop invariant-loop decreases-loop) → let a = (begun d).args in let set = d.before.set_of.result.now in
+    both (has set d.loop.k) (ltb a.cap (d.before.before.named.result - a.dem.now ! d.loop.k)) ≡ spare_at a.dem.now a.cap (job_of a.words.now) set d.loop.k
 asked d =
     let s = begun d in
     let k = d.loop.k in
-    spare-is s.args.dem.now s.args.cap s.args.words.now _ d.before.set-of.ensures k (s.pre.1.members k) _ d.before.before.named.ensures
+    spare_is s.args.dem.now s.args.cap s.args.words.now _ d.before.set_of.ensures k (s.pre.1.members k) _ d.before.before.named.ensures
 
 -- ---- the needs
 
@@ -46,7 +46,7 @@ set-of-requires : tie.Need-set-of-requires invariant-loop decreases-loop
 set-of-requires c κs = c.before.before.before.requires.1.words
 
 loop-holds : tie.Need-loop-init invariant-loop decreases-loop
-loop-holds c = (omega arith, every-none _)
+loop-holds c = (omega arith, every_none _)
 
 mul-loop : tie.Need-overflow-mul-loop invariant-loop decreases-loop
 mul-loop c = omega (arith, set-length c, (begun c).requires.1.words)
@@ -56,14 +56,14 @@ spare-requires c κs =
     let d = c.before in
     let s = begun d in
     let k = d.loop.k in
-    member-named s.args.dem.now s.args.cap s.args.words.now _ d.before.set-of.ensures k (s.pre.1.members k) _ d.before.before.named.ensures
+    member_named s.args.dem.now s.args.cap s.args.words.now _ d.before.set_of.ensures k (s.pre.1.members k) _ d.before.before.named.ensures
 
 returns : tie.Need-returns invariant-loop decreases-loop
 returns c =
     let d = c.before.before.before in
     let a = (begun d).args in
     sym
-    (lean-fault a.dem.now a.cap a.words.now _ d.before.set-of.ensures d.loop.k c.before.before.loop-test.true
+    (lean_fault a.dem.now a.cap a.words.now _ d.before.set_of.ensures d.loop.k c.before.before.loop-test.true
     (sym (asked d) ∙ sym c.before.spare.ensures ∙ c.if1.true))
 
 add-k : tie.Need-overflow-add-k invariant-loop decreases-loop
@@ -82,10 +82,10 @@ returns-2 c =
     let d = c.before in
     let a = (begun d).args in
     let l = d.loop in
-    let set = d.before.set-of in
+    let set = d.before.set_of in
     sym
-    (lean-all a.dem.now a.cap a.words.now _ set.ensures
-    (every-end _ (32 * length set.result.now) l.k l.invariant.0 c.loop-test.false l.invariant.1))
+    (lean_all a.dem.now a.cap a.words.now _ set.ensures
+    (every_end _ (32 * length set.result.now) l.k l.invariant.0 c.loop-test.false l.invariant.1))
 
 pub lean-spec : {M : Type 1} → statement M
 lean-spec =

@@ -2,9 +2,9 @@
 use native.Mathlib.Omega.{arith}
 use borrow.Author.Rules.{rules}
 use lib.ListN.{length}
-use Rattle.lists.proofs.Sets.{totalOf-limit}
-use Rattle.joblist.specs.Limits.{mostDemand}
-use Rattle.journal.specs.Journal.{job_of, isMember}
+use Rattle.lists.proofs.Sets.{total_of_limit}
+use Rattle.joblist.specs.Limits.{most_demand}
+use Rattle.journal.specs.Journal.{job_of, is_member}
 use Rattle.draws.proofs.named.Statement.{statement}
 use Rattle.draws.proofs.named.Tie as tie
 
@@ -29,7 +29,7 @@ add-result c =
     let d = s.requires.0 in
     let r = s.args.dem.now in
     let x = s.args.words.now in
-    omega (arith, c.before.before.members-draw.ensures, totalOf-limit (length r) r (isMember x) mostDemand d.within.0, d.few, d.within.0 (job_of x))
+    omega (arith, c.before.before.members-draw.ensures, total_of_limit (length r) r (is_member x) most_demand d.within.0, d.few, d.within.0 (job_of x))
 
 returns : tie.Need-returns
 returns c = rw c.before.before.members-draw.ensures

@@ -7,14 +7,14 @@ use lib.ListN.{length, length-drop}
 use borrow.Author.Rules.{rules}
 use borrow.Author.Tests.{not-true, not-false}
 use Rattle.lists.specs.Tests.{every}
-use Rattle.lists.proofs.Tests.{every-none, every_more, every-end}
-use Rattle.journal.specs.Journal.{headWords, setOfRecord}
-use Rattle.exam.proofs.Steps.{partnerAt, partners-own, partners-fault, partners-all}
+use Rattle.lists.proofs.Tests.{every_none, every_more, every_end}
+use Rattle.journal.specs.Journal.{head_words, set_of_record}
+use Rattle.exam.proofs.Steps.{partner_at, partners_own, partners_fault, partners_all}
 use Rattle.exam.proofs.partners.Statement.{statement}
 use Rattle.exam.proofs.partners.Tie as tie
 
 abbrev invariant-loop : tie.invariant-loop
-invariant-loop dur dem words job set k₀ k = (k ≤ 32 * length set) × (every (partnerAt dur dem job set) k ≡ true)
+invariant-loop dur dem words job set k₀ k = (k ≤ 32 * length set) × (every (partner_at dur dem job set) k ≡ true)
 
 abbrev decreases-loop : tie.decreases-loop
 decreases-loop dur dem words job set k₀ k = 32 * length set - k
@@ -24,8 +24,8 @@ decreases-loop dur dem words job set k₀ k = 32 * length set - k
 abbrev begun : tie.At-loop invariant-loop decreases-loop → tie.Start invariant-loop decreases-loop
 begun d = d.before.before.before.before.before.before.before.before
 
-set-length : (d : tie.At-loop invariant-loop decreases-loop) → length d.before.set-of.result.now ≡ length (begun d).args.words.now - headWords
-set-length d = ap length d.before.set-of.ensures ∙ length-drop headWords (begun d).args.words.now
+set-length : (d : tie.At-loop invariant-loop decreases-loop) → length d.before.set_of.result.now ≡ length (begun d).args.words.now - head_words
+set-length d = ap length d.before.set_of.ensures ∙ length-drop head_words (begun d).args.words.now
 
 -- ---- the needs
 
@@ -42,14 +42,14 @@ returns : tie.Need-returns invariant-loop decreases-loop
 returns c =
     let a = c.before.before.before.before.before.before.args in
     sym
-    (partners-own a.dur.now a.dem.now a.words.now (setOfRecord a.words.now) refl
+    (partners_own a.dur.now a.dem.now a.words.now (set_of_record a.words.now) refl
     (sym c.before.takes_part.ensures ∙ not-true _ c.if1.true))
 
 set-of-requires : tie.Need-set-of-requires invariant-loop decreases-loop
 set-of-requires c κs = search rules
 
 loop-holds : tie.Need-loop-init invariant-loop decreases-loop
-loop-holds c = (omega arith, every-none _)
+loop-holds c = (omega arith, every_none _)
 
 mul-loop : tie.Need-overflow-mul-loop invariant-loop decreases-loop
 mul-loop c = omega (arith, set-length c)
@@ -61,9 +61,9 @@ returns-2 : tie.Need-returns-2 invariant-loop decreases-loop
 returns-2 c =
     let d = c.before.before.before in
     let a = (begun d).args in
-    let set = d.before.set-of in
+    let set = d.before.set_of in
     sym
-    (partners-fault a.dur.now a.dem.now a.words.now set.result.now set.ensures d.loop.k c.before.before.loop-test.true
+    (partners_fault a.dur.now a.dem.now a.words.now set.result.now set.ensures d.loop.k c.before.before.loop-test.true
     (sym c.before.partner.ensures ∙ not-true _ c.if2.true))
 
 add-k : tie.Need-overflow-add-k invariant-loop decreases-loop
@@ -82,12 +82,12 @@ returns-3 c =
     let d = c.before in
     let a = (begun d).args in
     let l = d.loop in
-    let set = d.before.set-of in
+    let set = d.before.set_of in
     let passed = d.before.before in
     sym
-    (partners-all a.dur.now a.dem.now a.words.now set.result.now set.ensures
+    (partners_all a.dur.now a.dem.now a.words.now set.result.now set.ensures
     (sym passed.before.takes_part.ensures ∙ not-false _ passed.if1.false)
-    (every-end _ (32 * length set.result.now) l.k l.invariant.0 c.loop-test.false l.invariant.1))
+    (every_end _ (32 * length set.result.now) l.k l.invariant.0 c.loop-test.false l.invariant.1))
 
 pub partners-spec : {M : Type 1} → statement M
 partners-spec =

@@ -1,8 +1,8 @@
 -- `exam::tightens` meets its contract: the side's number picks the bound.
 use borrow.Author.Rules.{rules}
 use Rattle.narrowing.specs.Windows.{win}
-use Rattle.journal.specs.Journal.{job_of, timeOf}
-use Rattle.exam.proofs.Steps.{tightens-early, tightens-late}
+use Rattle.journal.specs.Journal.{job_of, time_of}
+use Rattle.exam.proofs.Steps.{tightens_early, tightens_late}
 use Rattle.exam.proofs.tightens.Statement.{statement}
 use Rattle.exam.proofs.tightens.Tie as tie
 
@@ -27,7 +27,7 @@ shared-slice-read-result-2 c = search rules
 returns : tie.Need-returns
 returns c =
     let a = c.before.before.before.before.before.args in
-    tightens-early (win a.est.now a.lct.now) (job_of a.words.now) _ (timeOf a.words.now) c.before.before.if1.true
+    tightens_early (win a.est.now a.lct.now) (job_of a.words.now) _ (time_of a.words.now) c.before.before.if1.true
 
 shared-slice-read-result-3 : tie.Need-shared-slice-read-result-3
 shared-slice-read-result-3 c = search rules
@@ -41,7 +41,7 @@ shared-slice-read-result-4 c = search rules
 returns-2 : tie.Need-returns-2
 returns-2 c =
     let a = c.before.before.before.before.before.args in
-    tightens-late (win a.est.now a.lct.now) (job_of a.words.now) _ (timeOf a.words.now) c.before.before.if1.false
+    tightens_late (win a.est.now a.lct.now) (job_of a.words.now) _ (time_of a.words.now) c.before.before.if1.false
 
 pub tightens-spec : {M : Type 1} → statement M
 tightens-spec =

@@ -1,7 +1,7 @@
 -- `jobcalls::narrow_or_check` is safe. An array of which a part was lent is as long as it was. Assumes nothing.
 use mathlib.Core.Path.{◌∙◌, sym}
-use Rattle.packed.proofs.Places.{front-back}
-use Rattle.requests.specs.Sizes.{jobEntries}
+use Rattle.packed.proofs.Places.{front_back}
+use Rattle.requests.specs.Sizes.{job_entries}
 use borrow.Author.Rules.{rules}
 use Rattle.jobcalls.proofs.narrow_or_check.Statement.{statement}
 use Rattle.jobcalls.proofs.narrow_or_check.Tie as tie
@@ -80,7 +80,7 @@ slice-aggregate-put c =
     let made = (called c).made in
     let copied = (filled (called c)).copy-four in
     let house = (housed (filled (called c))).before.before.before.room in
-    front-back jobEntries copied.result.a copied.last.1.0 made.last.0 (house.ensures ∙ sym copied.kept.1.0)
+    front_back job_entries copied.result.a copied.last.1.0 made.last.0 (house.ensures ∙ sym copied.kept.1.0)
     copied.ensures.0.within made.kept.0
 
 put-requires : tie.Need-put-requires
@@ -92,7 +92,7 @@ slice-aggregate-put-2 c =
     let made = (called put).made in
     let copied = (filled (called put)).copy-four in
     let house = (housed (filled (called put))).before.before.room2 in
-    front-back jobEntries copied.result.b copied.last.1.1.0 made.last.1.0 (house.ensures ∙ sym copied.kept.1.1.0)
+    front_back job_entries copied.result.b copied.last.1.1.0 made.last.1.0 (house.ensures ∙ sym copied.kept.1.1.0)
     copied.ensures.1.0.within made.kept.1.0
 
 put-requires-2 : tie.Need-put-requires-2

@@ -2,8 +2,8 @@
 -- leaves of the copies is put back.
 use mathlib.Core.Path.{sym}
 use Rattle.answers.specs.Said.{says}
-use Rattle.requests.specs.Sizes.{jobEntries}
-use Rattle.jobcalls.proofs.Fronts.{copied-front, front_fits, front-again, front-counts, put_both}
+use Rattle.requests.specs.Sizes.{job_entries}
+use Rattle.jobcalls.proofs.Fronts.{copied_front, front_fits, front_again, front_counts, put_both}
 use borrow.Author.Rules.{rules}
 use Rattle.jobcalls.proofs.sequence.Statement.{statement}
 use Rattle.jobcalls.proofs.sequence.Tie as tie
@@ -64,7 +64,7 @@ slice-aggregate-put : tie.Need-slice-aggregate-put
 slice-aggregate-put c =
     let s = c.before.before.before.before in
     let copied = (starts s).copy in
-    front-counts copied.result copied.last.1.1.0 s.sequence.new.0 copied.ensures.within.0 s.sequence.auto.0
+    front_counts copied.result copied.last.1.1.0 s.sequence.new.0 copied.ensures.within.0 s.sequence.auto.0
 
 put-requires : tie.Need-put-requires
 put-requires c κs = search rules
@@ -79,7 +79,7 @@ slice-aggregate-put-2 : tie.Need-slice-aggregate-put-2
 slice-aggregate-put-2 c =
     let s = c.before.before.before.before.before.before.before.before.before in
     let copied = (ends s).copy2 in
-    front-counts copied.result copied.last.1.1.0 s.sequence.new.1.0 copied.ensures.within.0 s.sequence.auto.1.0
+    front_counts copied.result copied.last.1.1.0 s.sequence.new.1.0 copied.ensures.within.0 s.sequence.auto.1.0
 
 put-requires-2 : tie.Need-put-requires-2
 put-requires-2 c κs = search rules
@@ -97,10 +97,10 @@ returns c =
     let from = (starts s).copy in
     let upto = (ends s).copy2 in
     let house = housed (starts s) in
-    let est = front-again from.result from.last.1.1.0 s.sequence.new.0 from.ensures.within.0 s.sequence.auto.0 in
-    let lct = front-again upto.result upto.last.1.1.0 s.sequence.new.1.0 upto.ensures.within.0 s.sequence.auto.1.0 in
-    let e = copied-front _ _ _ _ jobEntries from.ensures house.before.room.ensures in
-    let l = copied-front _ _ _ _ jobEntries upto.ensures house.room2.ensures in
+    let est = front_again from.result from.last.1.1.0 s.sequence.new.0 from.ensures.within.0 s.sequence.auto.0 in
+    let lct = front_again upto.result upto.last.1.1.0 s.sequence.new.1.0 upto.ensures.within.0 s.sequence.auto.1.0 in
+    let e = copied_front _ _ _ _ job_entries from.ensures house.before.room.ensures in
+    let l = copied_front _ _ _ _ job_entries upto.ensures house.room2.ensures in
     record {
       says = says s.sequence.result;
       est = s.sequence.new.0;

@@ -11,14 +11,14 @@ use borrow.Author.Tests.{not-true, not-false}
 use Rattle.narrowing.specs.Windows.{Win, win}
 use Rattle.codes.specs.Facts.{InRange}
 use Rattle.codes.specs.Codes.{in_range, code}
-use Rattle.exam.specs.Lent.{jobsIn, Drawn, LetThrough}
+use Rattle.exam.specs.Lent.{jobs_in, Drawn, LetThrough}
 use Rattle.judge.proofs.Chain.{from21, from22, from23, from24, from25, from26, from27, code_is, ranged, placed, drawn, timed}
 use Rattle.judge.proofs.code_of.Statement.{statement}
 use Rattle.judge.proofs.code_of.Tie as tie
 
 -- what was lent, and its code
 abbrev code_at : tie.Start → ℕ
-code_at s = let a = s.args in code (jobsIn (length a.dur.now) a.dur.now a.dem.now a.cap) (win a.est.now a.lct.now) a.words.now
+code_at s = let a = s.args in code (jobs_in (length a.dur.now) a.dur.now a.dem.now a.cap) (win a.est.now a.lct.now) a.words.now
 
 -- the chain from a code on, of what was lent
 abbrev On : (ℕ → Win → List ℕ → List ℕ → List ℕ → ℕ) → tie.Start → ℕ
@@ -36,7 +36,7 @@ abbrev start1 : tie.Else1 → tie.Start
 start1 d = d.before.before.before.before.before.before.before
 
 passed1 : (d : tie.Else1) → code_at (start1 d) ≡ On from22 (start1 d)
-passed1 d = chain (start1 d) ∙ rw (sym d.before.in-range.ensures ∙ not-false _ d.if1.false)
+passed1 d = chain (start1 d) ∙ rw (sym d.before.in_range.ensures ∙ not-false _ d.if1.false)
 
 abbrev start2 : tie.Else2 → tie.Start
 start2 d = start1 d.before.before
@@ -70,11 +70,11 @@ passed6 d = passed5 d.before.before ∙ rw (sym d.before.tightens.ensures ∙ no
 
 -- ---- what 21 and 22 let through
 
-range-passed : (d : tie.Else1) → in_range (jobsIn (length (start1 d).args.dur.now) [] [] 0) (start1 d).args.words.now ≡ true
-range-passed d = sym d.before.in-range.ensures ∙ not-false _ d.if1.false
+range-passed : (d : tie.Else1) → in_range (jobs_in (length (start1 d).args.dur.now) [] [] 0) (start1 d).args.words.now ≡ true
+range-passed d = sym d.before.in_range.ensures ∙ not-false _ d.if1.false
 
-in-range : (d : tie.Else1) → InRange (jobsIn (length (start1 d).args.dur.now) [] [] 0) (start1 d).args.words.now
-in-range d = ranged _ _ (range-passed d)
+in_range : (d : tie.Else1) → InRange (jobs_in (length (start1 d).args.dur.now) [] [] 0) (start1 d).args.words.now
+in_range d = ranged _ _ (range-passed d)
 
 placed-in : (d : tie.Else2) → LetThrough (length (start2 d).args.dur.now) (start2 d).args.words.now
 placed-in d =
@@ -91,7 +91,7 @@ in-range-requires : tie.Need-in-range-requires
 in-range-requires c κs = search rules
 
 returns : tie.Need-returns
-returns c = sym (chain c.before.before.before.before.before.before.before ∙ rw (sym c.before.in-range.ensures ∙ not-true _ c.if1.true))
+returns c = sym (chain c.before.before.before.before.before.before.before ∙ rw (sym c.before.in_range.ensures ∙ not-true _ c.if1.true))
 
 partners-requires : tie.Need-partners-requires
 partners-requires c κs = search rules
@@ -108,7 +108,7 @@ returns-3 c = sym (passed2 c.before.before ∙ rw (sym c.before.counted.ensures 
 exceeds-requires : tie.Need-exceeds-requires
 exceeds-requires c κs =
     let s = start3 c in
-    (draws s, s.pre.1, omega (arith, (in-range c.before.before.before.before).job, s.pre.0.sized))
+    (draws s, s.pre.1, omega (arith, (in_range c.before.before.before.before).job, s.pre.0.sized))
 
 returns-4 : tie.Need-returns-4
 returns-4 c = sym (passed3 c.before.before ∙ rw (sym c.before.exceeds.ensures ∙ not-true _ c.if4.true))
@@ -125,7 +125,7 @@ returns-5 c = sym (passed4 c.before.before ∙ rw (sym c.before.stated-true.ensu
 tightens-requires : tie.Need-tightens-requires
 tightens-requires c κs =
     let s = start5 c in
-    let f = in-range c.before.before.before.before.before.before.before.before in
+    let f = in_range c.before.before.before.before.before.before.before.before in
     (s.pre.1, omega (arith, f.job, s.pre.0.sized), omega (arith, f.job, s.pre.0.sized))
 
 returns-6 : tie.Need-returns-6

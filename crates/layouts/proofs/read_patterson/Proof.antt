@@ -6,7 +6,7 @@ use Rattle.parsing.specs.declared.Shape.{Shape}
 use Rattle.projects.specs.Patterson.{patterson}
 use Rattle.exchange.specs.Calls.{Lent, TextCall}
 use Rattle.deciding.specs.Decided.{Accepted}
-use Rattle.layouts.proofs.Answering.{accepted-of, refused-reads, few, fitting, pair-room, taken}
+use Rattle.layouts.proofs.Answering.{accepted_of, refused_reads, few, fitting, pair_room, taken}
 use Rattle.layouts.proofs.read_patterson.Statement.{statement}
 use Rattle.layouts.proofs.read_patterson.Tie as tie
 
@@ -28,7 +28,7 @@ shape e = e.parsed2.given.0.0
 accepted : (e : tie.After-parsed2) → Accepted (asks (started e)) (started e).args.text.now e.before.before.decide-patterson.result.draft (shape e)
 accepted e =
     let says = e.before.before.decide-patterson.ensures.0 (lists (started e)) (record { est = refl; lct = refl; dur = refl; dem = refl; jobs = refl; successors = refl }) in
-    accepted-of _ _ _ _ _ e.parsed2.given.1 says
+    accepted_of _ _ _ _ _ e.parsed2.given.1 says
 
 -- ---- the needs
 
@@ -52,13 +52,13 @@ fill-requires c κs =
 write-pairs-requires : tie.Need-write-pairs-requires
 write-pairs-requires c κs =
     let a = accepted c.before.before.before.before.before.before.before.before.before.before.before.before.before.before.before.before.before in
-    (few _ _ _ _ a, pair-room _ _ _ _ a)
+    (few _ _ _ _ a, pair_room _ _ _ _ a)
 
 returns : tie.Need-returns
 returns c =
     let s = c.before.before.before.before.before.before.before.before.before.before.before in
     let t = c.before.before.before.decide-patterson.ensures.0 (lists s) (record { est = refl; lct = refl; dur = refl; dem = refl; jobs = refl; successors = refl }) in
-    refused-reads (asks s) _ (rw c.before.parsed.given.1 at t)
+    refused_reads (asks s) _ (rw c.before.parsed.given.1 at t)
 
 -- ---- where the lists are written
 

@@ -6,7 +6,7 @@ use lib.ListN.{length, drop}
 use Rattle.texts.specs.Tokens.{tokens}
 use Rattle.precedence.specs.Pairs.{PullSays}
 use Rattle.precedence.specs.declared.Pull.TheVariants.{Next}
-use Rattle.lent.proofs.Filling.{Writing, writing_start, writing_step, writing-end, more_left}
+use Rattle.lent.proofs.Filling.{Writing, writing_start, writing_step, writing_end, more_left}
 use Rattle.lent.proofs.write_pairs.Statement.{statement}
 use Rattle.lent.proofs.write_pairs.Tie as tie
 
@@ -26,15 +26,15 @@ enum_told : tie.Need-enum-told invariant-loop decreases-loop
 enum_told c = search rules
 
 same_length : tie.Need-same-length invariant-loop decreases-loop
-same_length c = omega (arith, c.before.before.before.loop.invariant.long-js)
+same_length c = omega (arith, c.before.before.before.loop.invariant.long_js)
 
 same-length-2 : tie.Need-same-length-2 invariant-loop decreases-loop
-same-length-2 c = omega (arith, c.before.before.before.loop.invariant.long-ss)
+same-length-2 c = omega (arith, c.before.before.before.loop.invariant.long_ss)
 
 returns : tie.Need-returns invariant-loop decreases-loop
 returns c =
     let t = rw c.enum_told.given.1 at c.before.before.next-pair.ensures in
-    writing-end _ _ _ _ _ _ _ _ _ _ c.before.before.before.loop.invariant t
+    writing_end _ _ _ _ _ _ _ _ _ _ c.before.before.before.loop.invariant t
 
 enum-known-a : tie.Need-enum-known-a invariant-loop decreases-loop
 enum-known-a c = search rules
@@ -58,7 +58,7 @@ room e =
     let g = (looped e).loop.inv in
     let r = (started e).pre.1 in
     let m = more_left _ _ _ _ _ _ _ _ _ _ g _ _ _ (pulled e) r.ps r.end r.come in
-    (omega (arith, m, r.jobs, g.long-js), omega (arith, m, r.successors, g.long-ss))
+    (omega (arith, m, r.jobs, g.long_js), omega (arith, m, r.successors, g.long_ss))
 
 mul-js : tie.Need-overflow-mul-js invariant-loop decreases-loop
 mul-js c = let h = (room c.before).0 in search rules

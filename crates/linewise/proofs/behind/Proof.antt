@@ -5,7 +5,7 @@ use mathlib.Core.Path.{◌≡◌, refl, sym, ◌∙◌}
 use lib.ListN.{length, drop}
 use Rattle.lists.specs.Lists.{◌!◌}
 use Rattle.headings.specs.Lines.{behind}
-use Rattle.linewise.proofs.Places.{behind-here, behind-other, behind-end}
+use Rattle.linewise.proofs.Places.{behind_here, behind_other, behind_end}
 use Rattle.linewise.proofs.behind.Statement.{statement}
 use Rattle.linewise.proofs.behind.Tie as tie
 
@@ -30,7 +30,7 @@ returns c =
     let a = l.before.args in
     let h : l.loop.i < length a.text.now = omega arith in
     let e : a.text.now ! l.loop.i ≡ a.b = omega (arith, c.if1.true) in
-    behind-here _ _ h _ e ∙ sym l.loop.invariant
+    behind_here _ _ h _ e ∙ sym l.loop.invariant
 
 add-i : tie.Need-overflow-add-i invariant-loop decreases-loop
 add-i c = omega arith
@@ -43,10 +43,10 @@ loop-again c =
     let l = c.before.before.before in
     let a = l.before.args in
     let h : l.loop.i < length a.text.now = omega arith in
-    l.loop.invariant ∙ behind-other _ _ h _ (λ e. omega (arith, c.if1.false, e))
+    l.loop.invariant ∙ behind_other _ _ h _ (λ e. omega (arith, c.if1.false, e))
 
 returns-2 : tie.Need-returns-2 invariant-loop decreases-loop
-returns-2 c = behind-end _ _ _ c.loop-test.false ∙ sym c.before.loop.invariant
+returns-2 c = behind_end _ _ _ c.loop-test.false ∙ sym c.before.loop.invariant
 
 pub behind-spec : {M : Type 1} → statement M
 behind-spec =

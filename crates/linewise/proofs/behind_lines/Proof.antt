@@ -4,13 +4,13 @@ use native.Mathlib.Omega.{arith}
 use mathlib.Core.Path.{◌≡◌, refl, sym, ◌∙◌}
 use borrow.Author.Rules.{rules}
 use lib.ListN.{drop}
-use Rattle.headings.specs.Lines.{behindLines}
+use Rattle.headings.specs.Lines.{behind_lines}
 use Rattle.linewise.proofs.Counts.{lines_none, lines_step}
 use Rattle.linewise.proofs.behind_lines.Statement.{statement}
 use Rattle.linewise.proofs.behind_lines.Tie as tie
 
 abbrev invariant-loop : tie.invariant-loop
-invariant-loop text at m to₀ left₀ to left = behindLines m (drop at text) ≡ behindLines left (drop to text)
+invariant-loop text at m to₀ left₀ to left = behind_lines m (drop at text) ≡ behind_lines left (drop to text)
 
 abbrev decreases-loop : tie.decreases-loop
 decreases-loop text at m to₀ left₀ to left = left

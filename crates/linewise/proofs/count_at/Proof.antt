@@ -4,7 +4,7 @@ use lib.ListN.{take, drop}
 use lib.Seq.{length-take-le}
 use borrow.Author.Rules.{rules}
 use Rattle.texts.specs.Tokens.{tokens}
-use Rattle.linewise.proofs.Counts.{counted-part}
+use Rattle.linewise.proofs.Counts.{counted_part}
 use Rattle.linewise.proofs.count_at.Statement.{statement}
 use Rattle.linewise.proofs.count_at.Tie as tie
 
@@ -34,13 +34,13 @@ returns c =
     let l = p.before.before in
     let q = rw c.before.v.given.1 at c.before.before.before.next-up-to.ensures in
     let rest = tokens (drop c.before.v.given.0.1.0 (take l.line-end.result l.before.before.args.text.now)) in
-    (rest, rw (counted-part _ _ _ _ p.behind.result l.line-end.ensures (rw p.behind.ensures), q))
+    (rest, rw (counted_part _ _ _ _ p.behind.result l.line-end.ensures (rw p.behind.ensures), q))
 
 returns-2 : tie.Need-returns-2
 returns-2 c =
     let p = c.before.before.before.before in
     let q = rw c.before.c.given.1 at c.before.before.before.next-up-to.ensures in
-    rw (counted-part _ _ _ _ p.behind.result p.before.before.line-end.ensures (rw p.behind.ensures), q)
+    rw (counted_part _ _ _ _ p.behind.result p.before.before.line-end.ensures (rw p.behind.ensures), q)
 
 pub count-at-spec : {M : Type 1} → statement M
 count-at-spec =

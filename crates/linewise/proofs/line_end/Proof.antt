@@ -5,7 +5,7 @@ use mathlib.Core.Path.{◌≡◌}
 use lib.ListN.{length}
 use Rattle.lists.specs.Lists.{◌!◌}
 use Rattle.linewise.specs.Says.{LineTo}
-use Rattle.linewise.proofs.Places.{line-stop, line-onward, line-over}
+use Rattle.linewise.proofs.Places.{line_stop, line_onward, line_over}
 use Rattle.linewise.proofs.line_end.Statement.{statement}
 use Rattle.linewise.proofs.line_end.Tie as tie
 
@@ -27,7 +27,7 @@ returns c =
     let a = l.before.args in
     let h : l.loop.i < length a.text.now = omega arith in
     let e : a.text.now ! l.loop.i ≡ 10 = omega (arith, c.if1.true) in
-    l.loop.invariant _ (line-stop _ _ h e)
+    l.loop.invariant _ (line_stop _ _ h e)
 
 add-i : tie.Need-overflow-add-i invariant-loop decreases-loop
 add-i c = omega arith
@@ -39,10 +39,10 @@ loop-again : tie.Need-loop-preserved invariant-loop decreases-loop
 loop-again c =
     let l = c.before.before.before in
     let h : l.loop.i < length l.before.args.text.now = omega arith in
-    λ to q. l.loop.invariant to (line-onward _ _ h (λ e. omega (arith, c.if1.false, e)) to q)
+    λ to q. l.loop.invariant to (line_onward _ _ h (λ e. omega (arith, c.if1.false, e)) to q)
 
 returns-2 : tie.Need-returns-2 invariant-loop decreases-loop
-returns-2 c = c.before.loop.invariant _ (line-over _ _ c.loop-test.false)
+returns-2 c = c.before.loop.invariant _ (line_over _ _ c.loop-test.false)
 
 pub line-end-spec : {M : Type 1} → statement M
 line-end-spec =

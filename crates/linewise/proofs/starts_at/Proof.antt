@@ -2,14 +2,14 @@
 use native.Mathlib.Omega.{arith}
 use mathlib.Core.Path.{◌∙◌}
 use borrow.Author.Rules.{rules}
-use Rattle.linewise.proofs.Places.{starts-past, part-rest}
+use Rattle.linewise.proofs.Places.{starts_past, part-rest}
 use Rattle.linewise.proofs.starts_at.Statement.{statement}
 use Rattle.linewise.proofs.starts_at.Tie as tie
 
 returns : tie.Need-returns
 returns c =
     let a = c.before.before.before.args in
-    starts-past a.word.now a.text.now a.at (omega arith)
+    starts_past a.word.now a.text.now a.at (omega arith)
 
 sub-starts-with : tie.Need-overflow-sub-starts-with
 sub-starts-with c = search rules

@@ -5,7 +5,7 @@ use mathlib.Core.Path.{◌≡◌, refl, sym, ◌∙◌}
 use lib.ListN.{length, drop}
 use Rattle.lists.specs.Lists.{◌!◌}
 use Rattle.headings.specs.Headings.{unspaced}
-use Rattle.linewise.proofs.Places.{unspaced-space, unspaced-stop, unspaced-end}
+use Rattle.linewise.proofs.Places.{unspaced_space, unspaced_stop, unspaced_end}
 use Rattle.linewise.proofs.unspaced_at.Statement.{statement}
 use Rattle.linewise.proofs.unspaced_at.Tie as tie
 
@@ -25,7 +25,7 @@ returns : tie.Need-returns invariant-loop decreases-loop
 returns c =
     let l = c.before.before.before in
     let h : l.loop.i < length l.before.args.text.now = omega arith in
-    unspaced-stop _ _ h (λ e. omega (arith, c.if1.true, e)) ∙ sym l.loop.invariant
+    unspaced_stop _ _ h (λ e. omega (arith, c.if1.true, e)) ∙ sym l.loop.invariant
 
 add-i : tie.Need-overflow-add-i invariant-loop decreases-loop
 add-i c = omega arith
@@ -39,10 +39,10 @@ loop-again c =
     let a = l.before.args in
     let h : l.loop.i < length a.text.now = omega arith in
     let e : a.text.now ! l.loop.i ≡ 32 = omega (arith, c.if1.false) in
-    l.loop.invariant ∙ unspaced-space _ _ h e
+    l.loop.invariant ∙ unspaced_space _ _ h e
 
 returns-2 : tie.Need-returns-2 invariant-loop decreases-loop
-returns-2 c = unspaced-end _ _ c.loop-test.false ∙ sym c.before.loop.invariant
+returns-2 c = unspaced_end _ _ c.loop-test.false ∙ sym c.before.loop.invariant
 
 pub unspaced-at-spec : {M : Type 1} → statement M
 unspaced-at-spec =

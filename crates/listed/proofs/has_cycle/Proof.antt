@@ -4,25 +4,25 @@ use borrow.Author.Rules.{rules}
 use mathlib.Core.Path.{refl}
 use mathlib.Core.Bool.{false}
 use lib.ListN.{replicate}
-use Rattle.joblist.specs.Limits.{mostJobs}
+use Rattle.joblist.specs.Limits.{most_jobs}
 use Rattle.chains.specs.Paths.{Precedes, Below}
 use Rattle.chains.specs.Listed.{paired}
-use Rattle.chains.proofs.Listed.{paired-below}
+use Rattle.chains.proofs.Listed.{paired_below}
 use Rattle.passes.specs.Rounds.{sum}
-use Rattle.passes.proofs.Settling.{Settling, settling-start, settling-again, settling-less, settling-true, settling-false}
-use Rattle.listed.proofs.Places.{readFrom}
-use Rattle.passes.proofs.Steps.{says-33, no-33}
+use Rattle.passes.proofs.Settling.{Settling, settling_start, settling_again, settling_less, settling_true, settling_false}
+use Rattle.listed.proofs.Places.{read_from}
+use Rattle.passes.proofs.Steps.{says_33, no_33}
 use Rattle.listed.proofs.has_cycle.Statement.{statement}
 use Rattle.listed.proofs.has_cycle.Tie as tie
 
 abbrev invariant-loop : tie.invariant-loop
-invariant-loop jobs successors n levels₀ levels = Settling (readFrom jobs successors 0) (replicate mostJobs 1) false n levels
+invariant-loop jobs successors n levels₀ levels = Settling (read_from jobs successors 0) (replicate most_jobs 1) false n levels
 
 abbrev decreases-loop : tie.decreases-loop
-decreases-loop jobs successors n levels₀ levels = mostJobs * n - sum levels
+decreases-loop jobs successors n levels₀ levels = most_jobs * n - sum levels
 
 loop-holds : tie.Need-loop-init invariant-loop decreases-loop
-loop-holds c = settling-start _ _ _ _ _ refl
+loop-holds c = settling_start _ _ _ _ _ refl
 
 round-listed-requires : tie.Need-round-listed-requires invariant-loop decreases-loop
 round-listed-requires c κs =
@@ -42,7 +42,7 @@ abbrev looped : Rounded → tie.At-loop invariant-loop decreases-loop
 looped e = e.before.before
 
 below : (e : Rounded) → let a = (started e).args in Below a.n (Precedes (paired a.jobs.now a.successors.now))
-below e = let s = started e in paired-below _ s.args.jobs.now s.args.successors.now s.pre.0.1 s.pre.1
+below e = let s = started e in paired_below _ s.args.jobs.now s.args.successors.now s.pre.0.1 s.pre.1
 
 enum_told : tie.Need-enum-told invariant-loop decreases-loop
 enum_told c = search rules
@@ -52,7 +52,7 @@ returns c =
     let e = c.before.before in
     let few = (started e).requires.0.0 in
     let t = rw c.enum_told.given.1 at e.round-listed.ensures.0 in
-    no-33 _ _ few _ _ refl (below e) _ (settling-true _ _ _ _ _ _ (looped e).loop.invariant _ few t)
+    no_33 _ _ few _ _ refl (below e) _ (settling_true _ _ _ _ _ _ (looped e).loop.invariant _ few t)
 
 enum-told-2 : tie.Need-enum-told-2 invariant-loop decreases-loop
 enum-told-2 c = search rules
@@ -61,7 +61,7 @@ returns-2 : tie.Need-returns-2 invariant-loop decreases-loop
 returns-2 c =
     let e = c.before.before in
     let t = rw c.enum-told2.given.1 at e.round-listed.ensures.0 in
-    says-33 _ _ (started e).requires.0.0 _ _ refl (below e) (settling-false _ _ _ _ _ (looped e).loop.levels (looped e).loop.invariant t)
+    says_33 _ _ (started e).requires.0.0 _ _ refl (below e) (settling_false _ _ _ _ _ (looped e).loop.levels (looped e).loop.invariant t)
 
 enum-told-3 : tie.Need-enum-told-3 invariant-loop decreases-loop
 enum-told-3 c = search rules
@@ -70,13 +70,13 @@ loop-less : tie.Need-loop-smaller invariant-loop decreases-loop
 loop-less c =
     let e = c.before.before in
     let t = rw c.enum-told3.given.1 at e.round-listed.ensures.0 in
-    settling-less _ _ _ _ _ _ (looped e).loop.invariant t
+    settling_less _ _ _ _ _ _ (looped e).loop.invariant t
 
 loop-again : tie.Need-loop-preserved invariant-loop decreases-loop
 loop-again c =
     let e = c.before.before in
     let t = rw c.enum-told3.given.1 at e.round-listed.ensures.0 in
-    settling-again _ _ _ _ _ _ (looped e).loop.invariant e.round-listed.ensures.1 t
+    settling_again _ _ _ _ _ _ (looped e).loop.invariant e.round-listed.ensures.1 t
 
 pub has-cycle-spec : {M : Type 1} → statement M
 has-cycle-spec =

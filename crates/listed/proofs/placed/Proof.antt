@@ -4,7 +4,7 @@ use native.Mathlib.Omega.{arith}
 use mathlib.Core.Logic.{inl, inr}
 use lib.ListN.{length}
 use Rattle.chains.specs.Listed.{PairInRange}
-use Rattle.listed.proofs.Places.{comes-before, not-before}
+use Rattle.listed.proofs.Places.{comes_before, not-before}
 use borrow.Author.Rules.{rules}
 use Rattle.listed.proofs.placed.Statement.{statement}
 use Rattle.listed.proofs.placed.Tie as tie
@@ -14,8 +14,8 @@ use Rattle.listed.proofs.placed.Tie as tie
 abbrev started : tie.Else2 → tie.Start
 started e = e.before.before.before.before
 
-in-range : (e : tie.Else2) → let a = (started e).args in PairInRange a.n a.jobs.now a.successors.now a.i
-in-range e = (omega (arith, e.before.if1.false), omega (arith, e.if2.false))
+in_range : (e : tie.Else2) → let a = (started e).args in PairInRange a.n a.jobs.now a.successors.now a.i
+in_range e = (omega (arith, e.before.if1.false), omega (arith, e.if2.false))
 
 next-there : (e : tie.Else3) → let a = (started e.before).args in a.i + 1 < length a.jobs.now
 next-there e = omega (arith, e.if3.false)
@@ -44,7 +44,7 @@ add-k : tie.Need-overflow-add-k
 add-k c = search rules
 
 returns-3 : tie.Need-returns-3
-returns-3 c = (in-range c.before, λ h. absurd (omega (arith, c.if3.true)))
+returns-3 c = (in_range c.before, λ h. absurd (omega (arith, c.if3.true)))
 
 mul-c : tie.Need-overflow-mul-c
 mul-c c = search rules
@@ -62,7 +62,7 @@ returns-4 : tie.Need-returns-4
 returns-4 c =
     let e = c.before.before.before.before in
     let a = (started e).args in
-    comes-before a.n a.jobs.now a.successors.now a.i (in-range e) (inl (omega (arith, c.if4.true)))
+    comes_before a.n a.jobs.now a.successors.now a.i (in_range e) (inl (omega (arith, c.if4.true)))
 
 returns-5 : tie.Need-returns-5
 returns-5 c =
@@ -74,7 +74,7 @@ returns-6 : tie.Need-returns-6
 returns-6 c =
     let e = c.before.before.before.before.before.before in
     let a = (started e).args in
-    comes-before a.n a.jobs.now a.successors.now a.i (in-range e) (inr (omega (arith, c.before.before.if4.false, c.before.if5.false), omega (arith, c.if6.true)))
+    comes_before a.n a.jobs.now a.successors.now a.i (in_range e) (inr (omega (arith, c.before.before.if4.false, c.before.if5.false), omega (arith, c.if6.true)))
 
 returns-7 : tie.Need-returns-7
 returns-7 c =

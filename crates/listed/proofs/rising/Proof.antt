@@ -7,7 +7,7 @@ use borrow.Author.Count.{below_more}
 use borrow.Author.Tests.{not-true, not-false}
 use lib.ListN.{length}
 use Rattle.chains.specs.Listed.{PairInRange, InOrder}
-use Rattle.listed.proofs.Places.{fault-at}
+use Rattle.listed.proofs.Places.{fault_at}
 use Rattle.listed.proofs.rising.Statement.{statement}
 use Rattle.listed.proofs.rising.Tie as tie
 
@@ -27,7 +27,7 @@ returns : tie.Need-returns invariant-loop decreases-loop
 returns c =
     let a = c.before.before.before.before.before.before.args in
     let t = rw (not-true c.before.placed.result c.if1.true) at c.before.placed.ensures in
-    fault-at a.n a.jobs.now a.successors.now c.before.before.before.loop.at (omega (arith, c.before.before.loop-test.true)) t
+    fault_at a.n a.jobs.now a.successors.now c.before.before.before.loop.at (omega (arith, c.before.before.loop-test.true)) t
 
 add_at : tie.Need-overflow-add-at invariant-loop decreases-loop
 add_at c = search rules

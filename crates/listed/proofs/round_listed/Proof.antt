@@ -6,8 +6,8 @@ use borrow.Author.Rules.{rules}
 use lib.ListN.{length}
 use Rattle.lists.specs.Lists.{◌!◌}
 use Rattle.chains.specs.Listed.{PairInRange}
-use Rattle.passes.proofs.Relaxing.{relaxing-start, relaxing-same, relaxing-changed}
-use Rattle.listed.proofs.Places.{Counting, place_kept, place-rose, place-over, from_end}
+use Rattle.passes.proofs.Relaxing.{relaxing_start, relaxing_same, relaxing_changed}
+use Rattle.listed.proofs.Places.{Counting, place_kept, place_rose, place_over, from_end}
 use Rattle.listed.proofs.round_listed.Statement.{statement}
 use Rattle.listed.proofs.round_listed.Tie as tie
 
@@ -20,7 +20,7 @@ decreases-loop jobs successors n v₀ changed₀ i₀ v changed i = length jobs 
 loop-holds : tie.Need-loop-init invariant-loop decreases-loop
 loop-holds c =
     let q = c.before.before.requires in
-    relaxing-start _ _ _ _ _ q.0.2 q.1.1
+    relaxing_start _ _ _ _ _ q.0.2 q.1.1
 
 mul-a : tie.Need-overflow-mul-a invariant-loop decreases-loop
 mul-a c = search rules
@@ -59,8 +59,8 @@ looped e = e.before.before.before.before.before
 here : (e : Lifted) → (looped e).loop.i < length (started e).args.jobs.now
 here e = omega (arith, e.before.before.before.before.loop-test.taken)
 
-in-range : (e : Lifted) → let a = (started e).args in PairInRange a.n a.jobs.now a.successors.now (looped e).loop.i
-in-range e = (started e).pre.1.0 (looped e).loop.i (here e)
+in_range : (e : Lifted) → let a = (started e).args in PairInRange a.n a.jobs.now a.successors.now (looped e).loop.i
+in_range e = (started e).pre.1.0 (looped e).loop.i (here e)
 
 enum_told : tie.Need-enum-told invariant-loop decreases-loop
 enum_told c = search rules
@@ -72,7 +72,7 @@ returns c =
     let q = (started e).requires.0 in
     let l = (looped e).loop in
     let h = rw c.enum_told.given.1 at e.lift.ensures.0 in
-    (place-over a.jobs.now a.successors.now q.1 a.n q.0 l.i (here e) (in-range e) _ l.v _ _ l.inv (h.0, omega (arith, h.1)), e.lift.ensures.1)
+    (place_over a.jobs.now a.successors.now q.1 a.n q.0 l.i (here e) (in_range e) _ l.v _ _ l.inv (h.0, omega (arith, h.1)), e.lift.ensures.1)
 
 enum-told-2 : tie.Need-enum-told-2 invariant-loop decreases-loop
 enum-told-2 c = search rules
@@ -87,7 +87,7 @@ loop-again c =
     let q = (started e).requires.0 in
     let l = (looped e).loop in
     let h = rw c.enum-told2.given.1 at e.lift.ensures.0 in
-    place_kept a.jobs.now a.successors.now q.1 a.n q.0 l.i (here e) (in-range e) _ l.v _ _ l.inv (h.0, omega (arith, h.1))
+    place_kept a.jobs.now a.successors.now q.1 a.n q.0 l.i (here e) (in_range e) _ l.v _ _ l.inv (h.0, omega (arith, h.1))
 
 enum-told-3 : tie.Need-enum-told-3 invariant-loop decreases-loop
 enum-told-3 c = search rules
@@ -102,21 +102,21 @@ loop-again-2 c =
     let q = (started e).requires.0 in
     let l = (looped e).loop in
     let h = rw c.enum-told3.given.1 at e.lift.ensures.0 in
-    place-rose a.jobs.now a.successors.now q.1 a.n q.0 l.i (here e) (in-range e) _ l.v _ _ l.inv (h.0, omega (arith, h.1), omega (arith, h.2))
+    place_rose a.jobs.now a.successors.now q.1 a.n q.0 l.i (here e) (in_range e) _ l.v _ _ l.inv (h.0, omega (arith, h.1), omega (arith, h.2))
 
 returns-2 : tie.Need-returns-2 invariant-loop decreases-loop
 returns-2 c =
     let l = c.before.before.loop in
     let s = c.before.before.before.before.before in
     let none = from_end s.args.jobs.now s.args.successors.now s.requires.0.1 l.i (omega (arith, c.before.loop-test.false)) in
-    (relaxing-changed _ _ _ _ _ _ _ _ l.invariant none c.if1.true, l.invariant.long)
+    (relaxing_changed _ _ _ _ _ _ _ _ l.invariant none c.if1.true, l.invariant.long)
 
 returns-3 : tie.Need-returns-3 invariant-loop decreases-loop
 returns-3 c =
     let l = c.before.before.loop in
     let s = c.before.before.before.before.before in
     let none = from_end s.args.jobs.now s.args.successors.now s.requires.0.1 l.i (omega (arith, c.before.loop-test.false)) in
-    (relaxing-same _ _ _ _ _ _ _ _ l.invariant none c.if1.false, l.invariant.long)
+    (relaxing_same _ _ _ _ _ _ _ _ l.invariant none c.if1.false, l.invariant.long)
 
 pub round-listed-spec : {M : Type 1} → statement M
 round-listed-spec =

@@ -4,8 +4,8 @@ use Prim.Native.Nat.{◌-◌, ◌<◌}
 use native.Mathlib.Omega.{arith}
 use lib.ListN.{length}
 use borrow.Author.Rules.{rules}
-use Rattle.timetable.proofs.Good.{durations-sized, demands-sized, ends-sized}
-use Rattle.loads.proofs.Building.{Building, building-start, building-end, ends-within, building-asks, building-step, building-pass}
+use Rattle.timetable.proofs.Good.{durations_sized, demands_sized, ends_sized}
+use Rattle.loads.proofs.Building.{Building, building_start, building_end, ends_within, building_asks, building_step, building_pass}
 use Rattle.loads.proofs.build.Statement.{statement}
 use Rattle.loads.proofs.build.Tie as tie
 
@@ -39,7 +39,7 @@ loop-holds c =
     let d = c.before.before.before.before in
     let s = begun d in
     let a = s.args in
-    building-start a.est.now a.lct.now a.dur.now a.dem.now s.pre.0 s.pre.1 d.start.ensures
+    building_start a.est.now a.lct.now a.dur.now a.dem.now s.pre.0 s.pre.1 d.start.ensures
 
 add-k : tie.Need-overflow-add-k invariant-loop decreases-loop
 add-k c = search rules
@@ -48,22 +48,22 @@ mul-p : tie.Need-overflow-mul-p invariant-loop decreases-loop
 mul-p c = search rules
 
 shared-slice-read-p : tie.Need-shared-slice-read-p invariant-loop decreases-loop
-shared-slice-read-p c = omega (arith, durations-sized c.before.before.loop.invariant.workable.good)
+shared-slice-read-p c = omega (arith, durations_sized c.before.before.loop.invariant.workable.good)
 
 mul-r : tie.Need-overflow-mul-r invariant-loop decreases-loop
 mul-r c = search rules
 
 shared-slice-read-r : tie.Need-shared-slice-read-r invariant-loop decreases-loop
-shared-slice-read-r c = omega (arith, demands-sized c.before.before.before.loop.invariant.workable.good)
+shared-slice-read-r c = omega (arith, demands_sized c.before.before.before.loop.invariant.workable.good)
 
 mul-grow : tie.Need-overflow-mul-grow invariant-loop decreases-loop
 mul-grow c = search rules
 
 shared-slice-read-grow : tie.Need-shared-slice-read-grow invariant-loop decreases-loop
-shared-slice-read-grow c = omega (arith, ends-sized (looped c.before.before.before).loop.inv.workable.good)
+shared-slice-read-grow c = omega (arith, ends_sized (looped c.before.before.before).loop.inv.workable.good)
 
 sub-grow : tie.Need-overflow-sub-grow invariant-loop decreases-loop
-sub-grow c = let d = c.before.before.before in omega (arith, ends-within (looped d).loop.invariant (left d))
+sub-grow c = let d = c.before.before.before in omega (arith, ends_within (looped d).loop.invariant (left d))
 
 mul-grow-2 : tie.Need-overflow-mul-grow-2 invariant-loop decreases-loop
 mul-grow-2 c = search rules
@@ -72,10 +72,10 @@ shared-slice-read-grow-2 : tie.Need-shared-slice-read-grow-2 invariant-loop decr
 shared-slice-read-grow-2 c = search rules
 
 add-grow : tie.Need-overflow-add-grow invariant-loop decreases-loop
-add-grow c = let d = c.before.before.before.before in omega (arith, ends-within (looped d).loop.invariant (left d))
+add-grow c = let d = c.before.before.before.before in omega (arith, ends_within (looped d).loop.invariant (left d))
 
 grow-requires : tie.Need-grow-requires invariant-loop decreases-loop
-grow-requires c κs = let d = c.before.before.before.before in building-asks (looped d).loop.invariant (left d)
+grow-requires c κs = let d = c.before.before.before.before in building_asks (looped d).loop.invariant (left d)
 
 loop-less : tie.Need-loop-smaller invariant-loop decreases-loop
 loop-less c = search rules
@@ -84,13 +84,13 @@ loop-again : tie.Need-loop-preserved invariant-loop decreases-loop
 loop-again c =
     let grown = c.before.before.before.before in
     let d = grown.before.before.before.before.before in
-    building-step (looped d).loop.invariant (left d) grown.grow.ensures
+    building_step (looped d).loop.invariant (left d) grown.grow.ensures
 
 loop-less-2 : tie.Need-loop-smaller-2 invariant-loop decreases-loop
 loop-less-2 c = search rules
 
 loop-again-2 : tie.Need-loop-preserved-2 invariant-loop decreases-loop
-loop-again-2 c = building-pass c.before.before.before.before.loop.invariant c.before.before.before.loop-test.true c.if1.false
+loop-again-2 c = building_pass c.before.before.before.before.loop.invariant c.before.before.before.loop-test.true c.if1.false
 
 same_length : tie.Need-same-length invariant-loop decreases-loop
 same_length c = omega (arith, c.before.loop.invariant.size, (started c.before).start.ensures.size)
@@ -102,7 +102,7 @@ same-length-2 c =
     omega (arith, i.size, d.start.ensures.size, i.keeps.points.beside, (begun d).pre.2)
 
 returns : tie.Need-returns invariant-loop decreases-loop
-returns c = building-end c.before.loop.invariant _ (started c.before).start.ensures.size c.loop-test.false
+returns c = building_end c.before.loop.invariant _ (started c.before).start.ensures.size c.loop-test.false
 
 pub build-spec : {M : Type 1} → statement M
 build-spec =

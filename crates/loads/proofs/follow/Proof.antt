@@ -1,14 +1,14 @@
 -- `loads::follow` meets its contract: where there is no room the load is built anew, else the stretch by which the sure part has grown is raised, at its end
 -- after a move of side 0, at its beginning after one of side 1.
-use Rattle.joblist.specs.Limits.{mostTime}
+use Rattle.joblist.specs.Limits.{most_time}
 use Rattle.narrowing.specs.Windows.{side_of}
 use mathlib.Core.Path.{◌≡◌}
 use Prim.Native.Nat.{◌+◌, ◌≤◌}
 use native.Mathlib.Omega.{arith}
 use Rattle.lists.specs.Lists.{◌!◌}
-use Rattle.narrowing.proofs.Moves.{side-early, side-late}
-use Rattle.timetable.proofs.Good.{window-within, duration-most}
-use Rattle.loads.proofs.Following.{follow-asks, followed-early, followed-late}
+use Rattle.narrowing.proofs.Moves.{side_early, side_late}
+use Rattle.timetable.proofs.Good.{window_within, duration_most}
+use Rattle.loads.proofs.Following.{follow_asks, followed_early, followed_late}
 use borrow.Author.Rules.{rules}
 use Rattle.loads.proofs.follow.Statement.{statement}
 use Rattle.loads.proofs.follow.Tie as tie
@@ -21,11 +21,11 @@ abbrev moved-late : tie.Else2 → tie.Start
 moved-late d = d.before.before.before.before.before.before.before.before.before.before.before.before.before
 
 -- the job's earliest end, its latest end and the limit, in order
-within : (s : tie.Start) → let a = s.args in ((a.est.now ! a.job + a.dur.now ! a.job ≤ a.lct.now ! a.job) × (a.lct.now ! a.job ≤ mostTime))
-within s = window-within s.requires.0 s.args.job s.requires.1
+within : (s : tie.Start) → let a = s.args in ((a.est.now ! a.job + a.dur.now ! a.job ≤ a.lct.now ! a.job) × (a.lct.now ! a.job ≤ most_time))
+within s = window_within s.requires.0 s.args.job s.requires.1
 
 was-later : (s : tie.Start) → (s.args.side ≡ 0 → ⊥) → s.args.lct.now ! s.args.job ≤ s.args.old
-was-later s h = rw (side-late _ h) at s.requires.2
+was-later s h = rw (side_late _ h) at s.requires.2
 
 sub-if1 : tie.Need-overflow-sub-if1
 sub-if1 c = search rules
@@ -70,7 +70,7 @@ sub-greater : tie.Need-overflow-sub-greater
 sub-greater c = omega (arith, within (moved-early c))
 
 add-greater : tie.Need-overflow-add-greater
-add-greater c = let s = moved-early c in omega (arith, within s, duration-most s.pre.0.good s.args.job, s.pre.3)
+add-greater c = let s = moved-early c in omega (arith, within s, duration_most s.pre.0.good s.args.job, s.pre.3)
 
 greater-requires : tie.Need-greater-requires
 greater-requires c κs = search rules
@@ -83,7 +83,7 @@ grow-requires c κs =
     let d = c.before.before.before in
     let s = moved-early d in
     let a = s.args in
-    follow-asks s.pre.0 _ s.pre.1 (side_of a.side) a.old s.pre.4 (a.est.now ! a.job + a.dur.now ! a.job)
+    follow_asks s.pre.0 _ s.pre.1 (side_of a.side) a.old s.pre.4 (a.est.now ! a.job + a.dur.now ! a.job)
     (omega (arith, d.before.before.before.before.before.if1.false)) (omega (arith, within s))
 
 same-length-3 : tie.Need-same-length-3
@@ -97,8 +97,8 @@ returns-2 c =
     let grown = c.before.before.before.before in
     let d = grown.before.before.before.before in
     let s = moved-early d in
-    let zero-side = side-early _ d.if2.true in
-    followed-early s.pre.0 _ s.pre.1 s.args.old (rw zero-side at s.pre.4) (rw zero-side at s.pre.2) _
+    let zero-side = side_early _ d.if2.true in
+    followed_early s.pre.0 _ s.pre.1 s.args.old (rw zero-side at s.pre.4) (rw zero-side at s.pre.2) _
     grown.before.before.before.greater.ensures grown.grow.ensures
 
 sub-lesser : tie.Need-overflow-sub-lesser
@@ -118,7 +118,7 @@ grow-requires-2 c κs =
     let d = c.before.before.before in
     let s = moved-late d in
     let hi = c.before.before.lesser in
-    follow-asks s.pre.0 _ s.pre.1 (side_of s.args.side) s.args.old s.pre.4 hi.result
+    follow_asks s.pre.0 _ s.pre.1 (side_of s.args.side) s.args.old s.pre.4 hi.result
     (omega (arith, d.before.before.before.before.before.if1.false)) (omega (arith, within s, hi.ensures.1))
 
 same-length-5 : tie.Need-same-length-5
@@ -132,7 +132,7 @@ returns-3 c =
     let grown = c.before.before.before.before in
     let d = grown.before.before.before.before in
     let s = moved-late d in
-    followed-late s.pre.0 _ s.pre.1 s.args.old (rw (side-late _ d.if2.false) at s.pre.4) (was-later s d.if2.false) _
+    followed_late s.pre.0 _ s.pre.1 s.args.old (rw (side_late _ d.if2.false) at s.pre.4) (was-later s d.if2.false) _
     grown.before.before.before.lesser.ensures grown.grow2.ensures
 
 pub follow-spec : {M : Type 1} → statement M

@@ -4,7 +4,7 @@ use Prim.Native.Nat.{◌-◌}
 use native.Mathlib.Omega.{arith}
 use lib.ListN.{length}
 use borrow.Author.Rules.{rules}
-use Rattle.mirrors.proofs.Back.{Counting, counting-start, counting-step, counting-end}
+use Rattle.mirrors.proofs.Back.{Counting, counting_start, counting_step, counting_end}
 use Rattle.mirrors.proofs.count_back.Statement.{statement}
 use Rattle.mirrors.proofs.count_back.Tie as tie
 
@@ -15,7 +15,7 @@ abbrev decreases-loop : tie.decreases-loop
 decreases-loop times₀ i₀ times i = length times₀ - i
 
 loop-holds : tie.Need-loop-init invariant-loop decreases-loop
-loop-holds c = counting-start _
+loop-holds c = counting_start _
 
 -- each time is within the limit
 sub-times : tie.Need-overflow-sub-times invariant-loop decreases-loop
@@ -27,13 +27,13 @@ loop-less : tie.Need-loop-smaller invariant-loop decreases-loop
 loop-less c = omega (arith, c.before.before.loop.invariant.long)
 
 loop-again : tie.Need-loop-preserved invariant-loop decreases-loop
-loop-again c = let l = c.before.before.loop in counting-step _ _ _ l.invariant (omega (arith, l.invariant.long))
+loop-again c = let l = c.before.before.loop in counting_step _ _ _ l.invariant (omega (arith, l.invariant.long))
 
 same_length : tie.Need-same-length invariant-loop decreases-loop
 same_length c = c.before.loop.invariant.long
 
 returns : tie.Need-returns invariant-loop decreases-loop
-returns c = let l = c.before.loop in counting-end _ _ _ l.invariant (omega (arith, l.invariant.long))
+returns c = let l = c.before.loop in counting_end _ _ _ l.invariant (omega (arith, l.invariant.long))
 
 pub count-back-spec : {M : Type 1} → statement M
 count-back-spec =

@@ -9,23 +9,23 @@ use borrow.Author.Rules.{rules}
 use lib.ListN.{length}
 use Rattle.lists.specs.Lists.{◌!◌}
 use Rattle.narrowing.specs.Windows.{Win, win}
-use Rattle.members.specs.Members.{setWords, inserted}
-use Rattle.members.proofs.Sets.{setOf-length}
+use Rattle.members.specs.Members.{set_words, inserted}
+use Rattle.members.proofs.Sets.{set_of_length}
 use Rattle.members.proofs.Writing.{below_none}
 use Rattle.timetable.specs.Time.{Jobs}
-use Rattle.timetable.specs.Table.{jobsOf}
+use Rattle.timetable.specs.Table.{jobs_of}
 use Rattle.crowding.specs.Asked.{asked}
-use Rattle.timetable.proofs.Good.{demands-sized, demand-most}
-use Rattle.crowding.proofs.Steps.{load-small, good-cap}
-use Rattle.noting.proofs.Named.{member-at, gathered, still, still-first, named-yet, gathered-drop, gathered-put, gathered-skip, gathered-all}
+use Rattle.timetable.proofs.Good.{demands_sized, demand_most}
+use Rattle.crowding.proofs.Steps.{load_small, good_cap}
+use Rattle.noting.proofs.Named.{member_at, gathered, still, still_first, named_yet, gathered_drop, gathered_put, gathered_skip, gathered_all}
 use Rattle.noting.proofs.gather.Statement.{statement}
 use Rattle.noting.proofs.gather.Tie as tie
 
 abbrev invariant-loop : tie.invariant-loop
 invariant-loop est lct dur dem cap job t set₀ left₀ k₀ set left k =
     (k ≤ length est)
-    × (set ≡ gathered (jobsOf (asked est lct dur dem cap)) (win est lct) job t k)
-    × (left ≡ still (jobsOf (asked est lct dur dem cap)) (win est lct) job t k)
+    × (set ≡ gathered (jobs_of (asked est lct dur dem cap)) (win est lct) job t k)
+    × (left ≡ still (jobs_of (asked est lct dur dem cap)) (win est lct) job t k)
 
 abbrev decreases-loop : tie.decreases-loop
 decreases-loop est lct dur dem cap job t set₀ left₀ k₀ set left k = length est - k
@@ -39,7 +39,7 @@ abbrev loaded : tie.After-load-at invariant-loop decreases-loop → tie.Start in
 loaded d = d.before.before.before.before.before.before
 
 abbrev theJobs : tie.Start invariant-loop decreases-loop → Jobs
-theJobs s = let a = s.args in jobsOf (asked a.est.now a.lct.now a.dur.now a.dem.now a.cap)
+theJobs s = let a = s.args in jobs_of (asked a.est.now a.lct.now a.dur.now a.dem.now a.cap)
 
 abbrev theWindows : tie.Start invariant-loop decreases-loop → Win
 theWindows s = let a = s.args in win a.est.now a.lct.now
@@ -50,27 +50,27 @@ empty-requires : tie.Need-empty-requires invariant-loop decreases-loop
 empty-requires c κs = search rules
 
 load-at-requires : tie.Need-load-at-requires invariant-loop decreases-loop
-load-at-requires c κs = let s = c.before.before.before.before.before in (good-cap _ _ _ _ _ s.requires.0, s.requires.2)
+load-at-requires c κs = let s = c.before.before.before.before.before in (good_cap _ _ _ _ _ s.requires.0, s.requires.2)
 
 mul_left : tie.Need-overflow-mul-left invariant-loop decreases-loop
 mul_left c = search rules
 
 shared-slice-read-left : tie.Need-shared-slice-read-left invariant-loop decreases-loop
-shared-slice-read-left c = let s = loaded c.before in omega (arith, s.pre.1, demands-sized s.pre.0)
+shared-slice-read-left c = let s = loaded c.before in omega (arith, s.pre.1, demands_sized s.pre.0)
 
 add_left : tie.Need-overflow-add-left invariant-loop decreases-loop
 add_left c =
     let s = loaded c.before in
     let g = s.pre.0 in
-    omega (arith, c.before.load_at.ensures, load-small (good-cap _ _ _ _ _ g) s.args.job s.args.t, demand-most g s.args.job)
+    omega (arith, c.before.load_at.ensures, load_small (good_cap _ _ _ _ _ g) s.args.job s.args.t, demand_most g s.args.job)
 
 loop-holds : tie.Need-loop-init invariant-loop decreases-loop
 loop-holds c =
     let a = (loaded c.before).args in (
       omega arith,
-      c.before.before.empty.ensures ∙ sym (below_none setWords _),
+      c.before.before.empty.ensures ∙ sym (below_none set_words _),
       ap (λ (x : ℕ). x + a.dem.now ! a.job) c.before.load_at.ensures
-          ∙ still-first a.est.now a.lct.now a.dur.now a.dem.now a.cap a.job a.t,
+          ∙ still_first a.est.now a.lct.now a.dur.now a.dem.now a.cap a.job a.t,
     )
 
 mul-is-member : tie.Need-overflow-mul-is-member invariant-loop decreases-loop
@@ -116,13 +116,13 @@ sub-rest c =
     let looped = c.before.before.before.before.before.before.before.before in
     let s = begun looped in
     let l = looped.loop in
-    let m = member-at (theJobs s) (theWindows s) s.args.job s.args.t l.k (omega arith) ∙ sym c.before.before.is_member.ensures in
-    omega (arith, l.invariant.2, named-yet (theJobs s) (theWindows s) s.args.job s.args.t (omega (arith, s.pre.0.few)) l.k (omega arith) (m ∙ c.before.if1.true))
+    let m = member_at (theJobs s) (theWindows s) s.args.job s.args.t l.k (omega arith) ∙ sym c.before.before.is_member.ensures in
+    omega (arith, l.invariant.2, named_yet (theJobs s) (theWindows s) s.args.job s.args.t (omega (arith, s.pre.0.few)) l.k (omega arith) (m ∙ c.before.if1.true))
 
 slice-aggregate-put : tie.Need-slice-aggregate-put invariant-loop decreases-loop
 slice-aggregate-put c =
     let looped = c.before.before.before.before.before.before.before.before.before.before in
-    sym (ap length looped.loop.invariant.1 ∙ setOf-length _ _)
+    sym (ap length looped.loop.invariant.1 ∙ set_of_length _ _)
 
 put-requires : tie.Need-put-requires invariant-loop decreases-loop
 put-requires c κs = search rules
@@ -143,25 +143,25 @@ loop-again c =
     let j = s.args.job in
     let t = s.args.t in
     let b : l.k < J.n = omega arith in
-    let few : J.n ≤ 32 * setWords = omega (arith, s.pre.0.few) in
-    let m = member-at J W j t l.k b ∙ sym c.before.is_member.ensures in
+    let few : J.n ≤ 32 * set_words = omega (arith, s.pre.0.few) in
+    let m = member_at J W j t l.k b ∙ sym c.before.is_member.ensures in
     ⊎_elim
     (λ w.
-    let d = gathered-drop J W j t few l.k b (m ∙ w.0.taken) (omega (arith, l.invariant.2, w.2.taken)) in
+    let d = gathered_drop J W j t few l.k b (m ∙ w.0.taken) (omega (arith, l.invariant.2, w.2.taken)) in
     (omega arith, w.3 ∙ l.invariant.1 ∙ d.0, omega (arith, w.4, l.invariant.2, d.1)))
     (⊎_elim
     (λ w.
-    let d = gathered-put J W j t few l.k b (m ∙ w.0.taken) (omega (arith, l.invariant.2, w.2.left)) in
+    let d = gathered_put J W j t few l.k b (m ∙ w.0.taken) (omega (arith, l.invariant.2, w.2.left)) in
     (omega arith, w.6 ∙ w.4.ensures ∙ ap (λ (x : List ℕ). inserted x l.k) l.invariant.1 ∙ d.0, omega (arith, w.7, l.invariant.2, d.1)))
     (λ w.
-    let d = gathered-skip J W j t few l.k b (m ∙ w.0.left) in
+    let d = gathered_skip J W j t few l.k b (m ∙ w.0.left) in
     (omega arith, w.1 ∙ l.invariant.1 ∙ d.0, omega (arith, w.2, l.invariant.2, d.1))))
     c.if1.branch
 
 returns : tie.Need-returns invariant-loop decreases-loop
 returns c =
     let l = c.before.loop in
-    l.invariant.1 ∙ gathered-all _ _ _ _ l.k (omega arith)
+    l.invariant.1 ∙ gathered_all _ _ _ _ l.k (omega arith)
 
 pub gather-spec : {M : Type 1} → statement M
 gather-spec =

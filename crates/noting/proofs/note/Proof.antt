@@ -2,7 +2,7 @@
 use mathlib.Core.Path.{◌∙◌}
 use borrow.Author.Rules.{rules}
 use Rattle.timetable.specs.Search.{naming}
-use Rattle.timetable.proofs.Moves.{number-of-side}
+use Rattle.timetable.proofs.Moves.{number_of_side}
 use Rattle.noting.proofs.note.Statement.{statement}
 use Rattle.noting.proofs.note.Tie as tie
 
@@ -24,7 +24,7 @@ returns c =
     let at-write = c.before.before in
     let at-gather = at-write.before.before in
     let start = at-gather.before.before.before.before.before.before in
-    at-write.write.ensures ∙ rw (at-gather.gather.ensures, number-of-side _ start.requires.2)
+    at-write.write.ensures ∙ rw (at-gather.gather.ensures, number_of_side _ start.requires.2)
 
 pub note-spec : {M : Type 1} → statement M
 note-spec = tie.close (tie.spec gather-requires cast-write write-requires same_length returns)

@@ -1,6 +1,6 @@
 -- `packed::put` meets its contract. Assumes nothing.
 use borrow.Author.Rules.{rules}
-use Rattle.packed.proofs.Places.{put-past, put-found}
+use Rattle.packed.proofs.Places.{put_past, put_found}
 use Rattle.packed.proofs.put.Statement.{statement}
 use Rattle.packed.proofs.put.Tie as tie
 
@@ -11,7 +11,7 @@ same_length : tie.Need-same-length
 same_length c = search rules
 
 returns : tie.Need-returns
-returns c = put-past _ _ _ _ c.before.start.ensures.0 c.if1.true
+returns c = put_past _ _ _ _ c.before.start.ensures.0 c.if1.true
 
 add-first : tie.Need-overflow-add-first
 add-first c = search rules
@@ -38,7 +38,7 @@ same-length-2 : tie.Need-same-length-2
 same-length-2 c = search rules
 
 returns-2 : tie.Need-returns-2
-returns-2 c = put-found _ _ _ _ _ _ c.before.before.before.before.before.before.before.start.ensures.0 c.before.before.before.before.behind.ensures c.before.before.copy.ensures
+returns-2 c = put_found _ _ _ _ _ _ c.before.before.before.before.before.before.before.start.ensures.0 c.before.before.before.before.behind.ensures c.before.before.copy.ensures
 
 pub put_spec : {M : Type 1} → statement M
 put_spec =

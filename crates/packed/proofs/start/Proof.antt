@@ -5,8 +5,8 @@ use native.Mathlib.Nat.{le_antisymm}
 use native.Mathlib.Omega.{arith}
 use borrow.Author.Rules.{rules}
 use Rattle.io.proofs.Counting.{prefix_len_of_le}
-use Rattle.packed.specs.Packed.{behindAt, start_of}
-use Rattle.packed.proofs.Places.{start-more, start-within}
+use Rattle.packed.specs.Packed.{behind_at, start_of}
+use Rattle.packed.proofs.Places.{start_more, start_within}
 use Rattle.packed.proofs.start.Statement.{statement}
 use Rattle.packed.proofs.start.Tie as tie
 
@@ -33,14 +33,14 @@ loop-again : tie.Need-loop-preserved invariant-loop decreases-loop
 loop-again c =
     let l = c.before.before.loop in
     let words = c.before.before.before.before.args.words.now in
-    (omega arith, c.behind.ensures ∙ ap (behindAt words) l.invariant.1 ∙ sym (start-more words l.i))
+    (omega arith, c.behind.ensures ∙ ap (behind_at words) l.invariant.1 ∙ sym (start_more words l.i))
 
 returns : tie.Need-returns invariant-loop decreases-loop
 returns c =
     let l = c.before.loop in
     let a = c.before.before.before.args in
     let e = l.invariant.1 ∙ ap (start_of a.words.now) (le_antisymm l.invariant.0 c.loop-test.false) in
-    (e, prefix_len_of_le _ _ (rw e (start-within a.words.now a.k)))
+    (e, prefix_len_of_le _ _ (rw e (start_within a.words.now a.k)))
 
 pub start_spec : {M : Type 1} → statement M
 start_spec =

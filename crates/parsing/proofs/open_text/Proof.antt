@@ -1,12 +1,12 @@
 -- `parsing::open_text` meets its contract: its three readings, one after the other. A refusal of one is the refusal.
 use mathlib.Core.Path.{◌≡◌, refl}
 use lib.ListN.{drop}
-use Rattle.joblist.specs.Limits.{mostJobs, mostResources}
+use Rattle.joblist.specs.Limits.{most_jobs, most_resources}
 use Rattle.texts.specs.Tokens.{tokens}
 use Rattle.texts.specs.Readings.{good, one}
-use Rattle.texts.proofs.Readings.{one-takes, numbers-takes}
+use Rattle.texts.proofs.Readings.{one_takes, numbers_takes}
 use Rattle.projects.specs.Patterson.{opening}
-use Rattle.parsing.proofs.Whole.{opening-good}
+use Rattle.parsing.proofs.Whole.{opening_good}
 use borrow.Author.Rules.{rules}
 use Rattle.parsing.proofs.open_text.Statement.{statement}
 use Rattle.parsing.proofs.open_text.Tie as tie
@@ -16,11 +16,11 @@ use Rattle.parsing.proofs.open_text.Tie as tie
 abbrev counting : tie.After-k → tie.After-n
 counting e = e.before.before.before.before
 
-jobs : (e : tie.After-n) → let s = e.before.before.before.before.args.text.now in one mostJobs 31 (tokens s) ≡ good e.n.given.0.0 (tokens (drop e.n.given.0.1.0 s))
+jobs : (e : tie.After-n) → let s = e.before.before.before.before.args.text.now in one most_jobs 31 (tokens s) ≡ good e.n.given.0.0 (tokens (drop e.n.given.0.1.0 s))
 jobs e = rw e.n.given.1 at e.before.before.next-up-to.ensures
 
 resources : (e : tie.After-k) → let s = (counting e).before.before.before.before.args.text.now in
-    one mostResources 31 (tokens (drop (counting e).n.given.0.1.0 s)) ≡ good e.k.given.0.0 (tokens (drop e.k.given.0.1.0 s))
+    one most_resources 31 (tokens (drop (counting e).n.given.0.1.0 s)) ≡ good e.k.given.0.0 (tokens (drop e.k.given.0.1.0 s))
 resources e = rw e.k.given.1 at e.before.before.next-up-to2.ensures
 
 cast-next-up-to : tie.Need-overflow-cast-next-up-to
@@ -76,8 +76,8 @@ returns-4 : tie.Need-returns-4
 returns-4 c =
     let e = c.before.before.before.before.before in
     let r = rw c.before.cap.given.1 at c.before.before.before.read-numbers.ensures in
-    let few = (one-takes _ _ _ _ _ (jobs (counting e))).1 in
-    (_, opening-good _ _ _ (jobs (counting e)) _ _ (resources e) _ _ r.1, refl, refl, r.2, few, (numbers-takes _ _ _ _ _ r.1).0)
+    let few = (one_takes _ _ _ _ _ (jobs (counting e))).1 in
+    (_, opening_good _ _ _ (jobs (counting e)) _ _ (resources e) _ _ r.1, refl, refl, r.2, few, (numbers_takes _ _ _ _ _ r.1).0)
 
 pub open-text-spec : {M : Type 1} → statement M
 open-text-spec =

@@ -7,7 +7,7 @@ use Rattle.parsing.specs.Parsed.{OpenSays}
 use Rattle.parsing.specs.declared.Opened.{Opened}
 use borrow.Author.Rules.{rules}
 use borrow.Author.Tests.{not-true, not-false}
-use Rattle.parsing.proofs.Parsing.{parsed-closed, parsed-rows, parsed-over, parsed-whole}
+use Rattle.parsing.proofs.Parsing.{parsed_closed, parsed_rows, parsed_over, parsed_whole}
 use Rattle.parsing.proofs.parse.Statement.{statement}
 use Rattle.parsing.proofs.parse.Tie as tie
 
@@ -57,18 +57,18 @@ returns c =
     let m = f.pairs.given.0 in
     let v = f.before.before.validate.ensures in
     let w = rw f.pairs.given.1 at v.0 in
-    (parsed-over _ _ _ _ _ (rows_at e) (opened e) _ _ m.0 m.1.0 w (sym c.before.is-over.ensures ∙ not-true _ c.if1.true), v.1, v.2, v.3)
+    (parsed_over _ _ _ _ _ (rows_at e) (opened e) _ _ m.0 m.1.0 w (sym c.before.is-over.ensures ∙ not-true _ c.if1.true), v.1, v.2, v.3)
 
 returns-2 : tie.Need-returns-2
 returns-2 c =
     let p = c.before.before.before.before.before.requires in
-    (parsed-closed _ 0 _ (rw c.before.c.given.1 at c.before.before.before.open-text.ensures), p.0, p.1, p.2)
+    (parsed_closed _ 0 _ (rw c.before.c.given.1 at c.before.before.before.open-text.ensures), p.0, p.1, p.2)
 
 returns-3 : tie.Need-returns-3
 returns-3 c =
     let e = c.before.before.before.before.before.before.before in
     let v = c.before.before.before.validate.ensures in
-    (parsed-rows _ _ _ _ _ (rows_at e) (opened e) _ (rw c.before.c2.given.1 at v.0), v.1, v.2, v.3)
+    (parsed_rows _ _ _ _ _ (rows_at e) (opened e) _ (rw c.before.c2.given.1 at v.0), v.1, v.2, v.3)
 
 returns-4 : tie.Need-returns-4
 returns-4 c =
@@ -77,7 +77,7 @@ returns-4 c =
     let m = f.pairs.given.0 in
     let v = f.before.before.validate.ensures in
     let w = rw f.pairs.given.1 at v.0 in
-    (parsed-whole _ _ _ _ _ (rows_at e) (opened e) _ _ m.0 m.1.0 w v.1 (sym c.before.is-over.ensures ∙ not-false _ c.if1.false), v.1, v.2, v.3)
+    (parsed_whole _ _ _ _ _ (rows_at e) (opened e) _ _ m.0 m.1.0 w v.1 (sym c.before.is-over.ensures ∙ not-false _ c.if1.false), v.1, v.2, v.3)
 
 pub parse-spec : {M : Type 1} → statement M
 parse-spec =

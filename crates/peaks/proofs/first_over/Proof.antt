@@ -3,7 +3,7 @@
 use Prim.Native.Nat.{◌-◌}
 use native.Mathlib.Omega.{arith}
 use borrow.Author.Rules.{rules}
-use Rattle.peaks.proofs.Walks.{in-lists, Up, up_start, up_step, up_none, up-found, first-low, first-empty}
+use Rattle.peaks.proofs.Walks.{in_lists, Up, up_start, up_step, up_none, up_found, first_low, first-empty}
 use Rattle.peaks.proofs.first_over.Statement.{statement}
 use Rattle.peaks.proofs.first_over.Tie as tie
 
@@ -14,7 +14,7 @@ abbrev decreases-loop : tie.decreases-loop
 decreases-loop ts ld a b limit m i₀ i = m - i
 
 returns : tie.Need-returns invariant-loop decreases-loop
-returns c = first-low _ _ _ _ _ _ c.before.before.before.before.requires.1 c.if1.true
+returns c = first_low _ _ _ _ _ _ c.before.before.before.before.requires.1 c.if1.true
 
 returns-2 : tie.Need-returns-2 invariant-loop decreases-loop
 returns-2 c = first-empty _ _ _ _ _ _ c.before.before.before.before.before.requires.1 c.if2.true
@@ -31,16 +31,16 @@ mul-if3 : tie.Need-overflow-mul-if3 invariant-loop decreases-loop
 mul-if3 c = search rules
 
 shared-slice-read-if3 : tie.Need-shared-slice-read-if3 invariant-loop decreases-loop
-shared-slice-read-if3 c = omega (arith, in-lists _ _ _ _ _ _ _ c.before.loop.invariant.at)
+shared-slice-read-if3 c = omega (arith, in_lists _ _ _ _ _ _ _ c.before.loop.invariant.at)
 
 add-i : tie.Need-overflow-add-i invariant-loop decreases-loop
-add-i c = omega (arith, in-lists _ _ _ _ _ _ _ c.before.before.loop.invariant.at)
+add-i c = omega (arith, in_lists _ _ _ _ _ _ _ c.before.before.loop.invariant.at)
 
 mul-if4 : tie.Need-overflow-mul-if4 invariant-loop decreases-loop
-mul-if4 c = omega (arith, in-lists _ _ _ _ _ _ _ c.before.before.loop.invariant.at)
+mul-if4 c = omega (arith, in_lists _ _ _ _ _ _ _ c.before.before.loop.invariant.at)
 
 shared-slice-read-if4 : tie.Need-shared-slice-read-if4 invariant-loop decreases-loop
-shared-slice-read-if4 c = omega (arith, in-lists _ _ _ _ _ _ _ c.before.before.before.loop.invariant.at)
+shared-slice-read-if4 c = omega (arith, in_lists _ _ _ _ _ _ _ c.before.before.before.loop.invariant.at)
 
 returns-3 : tie.Need-returns-3 invariant-loop decreases-loop
 returns-3 c = λ f K. up_none _ _ _ _ _ _ _ c.before.before.before.before.loop.invariant c.before.before.if3.true c.if4.true f K.levels
@@ -55,13 +55,13 @@ mul-greater : tie.Need-overflow-mul-greater invariant-loop decreases-loop
 mul-greater c = search rules
 
 shared-slice-read-greater : tie.Need-shared-slice-read-greater invariant-loop decreases-loop
-shared-slice-read-greater c = omega (arith, in-lists _ _ _ _ _ _ _ c.before.before.before.loop.invariant.at)
+shared-slice-read-greater c = omega (arith, in_lists _ _ _ _ _ _ _ c.before.before.before.loop.invariant.at)
 
 greater-requires : tie.Need-greater-requires invariant-loop decreases-loop
 greater-requires c κs = search rules
 
 returns-4 : tie.Need-returns-4 invariant-loop decreases-loop
-returns-4 c = λ f K. up-found _ _ _ _ _ _ _ c.before.before.before.before.loop.invariant c.before.before.if3.false _ c.greater.ensures.2 c.greater.ensures.3 f K.levels
+returns-4 c = λ f K. up_found _ _ _ _ _ _ _ c.before.before.before.before.loop.invariant c.before.before.if3.false _ c.greater.ensures.2 c.greater.ensures.3 f K.levels
 
 pub first-over-spec : {M : Type 1} → statement M
 first-over-spec =

@@ -10,14 +10,14 @@ use lib.Seq.{take_at}
 use Rattle.narrowing.specs.Windows.{win}
 use Rattle.answers.specs.declared.Answer.{Answer}
 use Rattle.answers.specs.Said.{says}
-use Rattle.joblist.specs.Limits.{mostJobs}
-use Rattle.windows.proofs.Copies.{saved-back, kept-length}
-use Rattle.windows.proofs.TooShort.{answer-too-short, answer-long}
+use Rattle.joblist.specs.Limits.{most_jobs}
+use Rattle.windows.proofs.Copies.{saved_back, kept_length}
+use Rattle.windows.proofs.TooShort.{answer_too_short, answer_long}
 use Rattle.timetable.specs.Table.{Call, call, leaves, Good, Admitted, Workable}
 use Rattle.timetable.specs.Promise.{Narrows}
-use Rattle.timetable.proofs.Calls.{admitted-call}
-use Rattle.timetable.proofs.Good.{ends-sized}
-use Rattle.planner.proofs.Answered.{winBy, logBy, cleared-same, refused, clashed, worked}
+use Rattle.timetable.proofs.Calls.{admitted_call}
+use Rattle.timetable.proofs.Good.{ends_sized}
+use Rattle.planner.proofs.Answered.{win_by, log_by, cleared_same, refused, clashed, worked}
 use Rattle.planner.proofs.narrow.Statement.{statement}
 use Rattle.planner.proofs.narrow.Tie as tie
 
@@ -41,19 +41,19 @@ abbrev called : tie.Start → Call
 called s = let a = s.args in call (win a.est.now a.lct.now) a.dur.now a.dem.now a.cap a.log.now
 
 admitted : (d : tie.Else1) → Admitted (called (begun d))
-admitted d = admitted-call (called (begun d)) (sym d.before.refusal.ensures ∙ d.if1.false)
+admitted d = admitted_call (called (begun d)) (sym d.before.refusal.ensures ∙ d.if1.false)
 
 good : (d : tie.Else1) → Good (called (begun d))
 good d = (admitted d).0
 
 workable : (d : tie.Else2) → Workable (called (begun (passed d)))
-workable d = record { good = good (passed d); long = answer-long _ _ _ _ d.before.lowest-too-short.ensures d.if2.false }
+workable d = record { good = good (passed d); long = answer_long _ _ _ _ d.before.lowest-too-short.ensures d.if2.false }
 
-few : (d : tie.Else2) → length (begun (passed d)).args.est.now ≤ mostJobs
+few : (d : tie.Else2) → length (begun (passed d)).args.est.now ≤ most_jobs
 few d = (workable d).well-formed.few
 
 same : (d : tie.Else2) → length (begun (passed d)).args.est.now ≡ length (begun (passed d)).args.lct.now
-same d = sym (ends-sized (workable d).well-formed)
+same d = sym (ends_sized (workable d).well-formed)
 
 -- ---- once both lists are saved: the fronts of the copies
 
@@ -67,10 +67,10 @@ abbrev ends : tie.After-save2 → List ℕ
 ends d = d.save2.new.1.0
 
 starts-front : (d : tie.After-save2) → take (length (origin d).args.est.now) (starts d) ≡ (origin d).args.est.now
-starts-front d = saved-back (origin d).args.est.now _ (starts d) _ d.before.before.before.save.ensures.0 refl
+starts-front d = saved_back (origin d).args.est.now _ (starts d) _ d.before.before.before.save.ensures.0 refl
 
 ends-front : (d : tie.After-save2) → take (length (origin d).args.est.now) (ends d) ≡ (origin d).args.lct.now
-ends-front d = saved-back (origin d).args.lct.now _ (ends d) _ d.save2.ensures.0 (same (long d))
+ends-front d = saved_back (origin d).args.lct.now _ (ends d) _ d.save2.ensures.0 (same (long d))
 
 -- ---- after the work: the lengths of what it made of the fronts, and the promise for each answer
 
@@ -81,7 +81,7 @@ ends-length : (d : tie.After-work) → length d.work.new.1.0 ≡ length (origin 
 ends-length d = d.work.auto.1.0 ∙ ap length (ends-front (saved d)) ∙ sym (same (long (saved d)))
 
 done : (d : tie.After-work) (a : Answer) → d.work.result ≡ a
-    → let C = called (origin (saved d)) in Narrows C (leaves (says a) (winBy C a (win d.work.new.0 d.work.new.1.0)) (logBy C a d.work.new.1.1.1.1.1.0))
+    → let C = called (origin (saved d)) in Narrows C (leaves (says a) (win_by C a (win d.work.new.0 d.work.new.1.0)) (log_by C a d.work.new.1.1.1.1.1.0))
 done d a e =
     let s = saved d in
     worked (called (origin s)) (admitted (passed (long s))) a _ _ _ _ (starts-front s) (ends-front s) (rw e at d.work.ensures)
@@ -97,7 +97,7 @@ lowest-too-short-requires c κs = let g = good c.before.before in (g.sized.1.0, 
 returns-2 : tie.Need-returns-2
 returns-2 c =
     let d = c.before.before.before.before in
-    clashed (called (begun d)) (admitted d) _ (answer-too-short _ _ _ _ c.before.lowest-too-short.ensures c.if2.true)
+    clashed (called (begun d)) (admitted d) _ (answer_too_short _ _ _ _ c.before.lowest-too-short.ensures c.if2.true)
 
 save-requires : tie.Need-save-requires
 save-requires c κs = (few c.before.before, search rules)
@@ -124,13 +124,13 @@ restore-requires : tie.Need-restore-requires
 restore-requires c κs =
     let d = c.before.before.before.before.before.before.before.before.before in
     let f = few (long (saved d)) in
-    (f, kept-length _ mostJobs (starts (saved d)) d.work.new.0 (saved d).before.before.before.save.ensures.1 f (starts-length d))
+    (f, kept_length _ most_jobs (starts (saved d)) d.work.new.0 (saved d).before.before.before.save.ensures.1 f (starts-length d))
 
 restore-requires-2 : tie.Need-restore-requires-2
 restore-requires-2 c κs =
     let d = c.before.before.before.before.before.before.before.before.before.before.before.before.before.before in
     let f = few (long (saved d)) in
-    (omega (arith, f, same (long (saved d))), kept-length _ mostJobs (ends (saved d)) d.work.new.1.0 (saved d).save2.ensures.1 f (ends-length d))
+    (omega (arith, f, same (long (saved d))), kept_length _ most_jobs (ends (saved d)) d.work.new.1.0 (saved d).save2.ensures.1 f (ends-length d))
 
 returns-3 : tie.Need-returns-3
 returns-3 c =
@@ -149,7 +149,7 @@ returns-5 : tie.Need-returns-5
 returns-5 c =
     let erased = c.before.before in
     let d = erased.before.before.before.before.before.before.before.before.before in
-    rw (erased.clear.ensures ∙ cleared-same _ (origin (saved d)).args.log.now d.work.auto.1.1.1.1.1.0) (done d _ erased.before.before.before.end3.given.1)
+    rw (erased.clear.ensures ∙ cleared_same _ (origin (saved d)).args.log.now d.work.auto.1.1.1.1.1.0) (done d _ erased.before.before.before.end3.given.1)
 
 pub narrow-spec : {M : Type 1} → statement M
 narrow-spec =

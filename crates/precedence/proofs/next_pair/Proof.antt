@@ -4,7 +4,7 @@ use native.Mathlib.Omega.{arith}
 use borrow.Author.Rules.{rules}
 use lib.ListN.{length, drop}
 use Rattle.texts.specs.Tokens.{tokens}
-use Rattle.precedence.proofs.Pairs.{Pulling, pulling-row, pulling-pair, pulling-done, pulling-stop}
+use Rattle.precedence.proofs.Pairs.{Pulling, pulling_row, pulling_pair, pulling_done, pulling_stop}
 use Rattle.precedence.proofs.next_pair.Statement.{statement}
 use Rattle.precedence.proofs.next_pair.Tie as tie
 
@@ -31,7 +31,7 @@ sub-t11 c =
 returns : tie.Need-returns invariant-loop decreases-loop
 returns c =
     let t = rw c.before.v.given.1 at c.before.before.before.advance.ensures in
-    pulling-pair _ _ _ _ _ c.before.before.before.before.loop.invariant _ _ t
+    pulling_pair _ _ _ _ _ c.before.before.before.before.loop.invariant _ _ t
 
 enum-known-u : tie.Need-enum-known-u invariant-loop decreases-loop
 enum-known-u c = search rules
@@ -44,7 +44,7 @@ loop-less c =
 loop-again : tie.Need-loop-preserved invariant-loop decreases-loop
 loop-again c =
     let t = rw c.before.u.given.1 at c.before.before.before.advance.ensures in
-    pulling-row _ _ _ _ _ c.before.before.before.before.loop.invariant _ _ _ t
+    pulling_row _ _ _ _ _ c.before.before.before.before.loop.invariant _ _ _ t
 
 enum_told : tie.Need-enum-told invariant-loop decreases-loop
 enum_told c = search rules
@@ -52,7 +52,7 @@ enum_told c = search rules
 returns-2 : tie.Need-returns-2 invariant-loop decreases-loop
 returns-2 c =
     let t = rw c.enum_told.given.1 at c.before.before.advance.ensures in
-    pulling-done _ _ _ _ _ c.before.before.before.loop.invariant t
+    pulling_done _ _ _ _ _ c.before.before.before.loop.invariant t
 
 enum-told-2 : tie.Need-enum-told-2 invariant-loop decreases-loop
 enum-told-2 c = search rules
@@ -60,7 +60,7 @@ enum-told-2 c = search rules
 returns-3 : tie.Need-returns-3 invariant-loop decreases-loop
 returns-3 c =
     let t = rw c.enum-told2.given.1 at c.before.before.advance.ensures in
-    pulling-stop _ _ _ _ _ c.before.before.before.loop.invariant _ t
+    pulling_stop _ _ _ _ _ c.before.before.before.loop.invariant _ t
 
 pub next-pair-spec : {M : Type 1} → statement M
 next-pair-spec =

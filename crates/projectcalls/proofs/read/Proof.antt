@@ -1,7 +1,7 @@
 -- `projectcalls::read` is safe. An array of which a part was lent is as long as it was. Assumes nothing.
 use mathlib.Core.Path.{◌∙◌, sym}
-use Rattle.packed.proofs.Places.{front-back}
-use Rattle.requests.specs.Sizes.{jobEntries, pairEntries}
+use Rattle.packed.proofs.Places.{front_back}
+use Rattle.requests.specs.Sizes.{job_entries, pair_entries}
 use borrow.Author.Rules.{rules}
 use Rattle.projectcalls.proofs.read.Statement.{statement}
 use Rattle.projectcalls.proofs.read.Tie as tie
@@ -99,7 +99,7 @@ slice-aggregate-put-four c =
     let made = (called c).read-text in
     let copied = (filled (called c)).copy-four in
     let house = (housed (filled (called c))).before.before.before.before.room in
-    front-back jobEntries copied.result.a copied.last.1.0 made.last.1.1.0 (house.ensures ∙ sym copied.kept.1.0)
+    front_back job_entries copied.result.a copied.last.1.0 made.last.1.1.0 (house.ensures ∙ sym copied.kept.1.0)
     copied.ensures.0.within made.kept.1.1.0
 
 slice-aggregate-put-four-2 : tie.Need-slice-aggregate-put-four-2
@@ -108,7 +108,7 @@ slice-aggregate-put-four-2 c =
     let made = (called put).read-text in
     let copied = (filled (called put)).copy-four in
     let house = (housed (filled (called put))).before.before.before.room2 in
-    front-back jobEntries copied.result.b copied.last.1.1.0 made.last.1.1.1.0 (house.ensures ∙ sym copied.kept.1.1.0)
+    front_back job_entries copied.result.b copied.last.1.1.0 made.last.1.1.1.0 (house.ensures ∙ sym copied.kept.1.1.0)
     copied.ensures.1.0.within made.kept.1.1.1.0
 
 slice-aggregate-put-four-3 : tie.Need-slice-aggregate-put-four-3
@@ -117,7 +117,7 @@ slice-aggregate-put-four-3 c =
     let made = (called put).read-text in
     let copied = (filled (called put)).copy-four in
     let house = (housed (filled (called put))).before.before.room3 in
-    front-back jobEntries copied.result.c copied.last.1.1.1.0 made.last.1.1.1.1.0 (house.ensures ∙ sym copied.kept.1.1.1.0)
+    front_back job_entries copied.result.c copied.last.1.1.1.0 made.last.1.1.1.1.0 (house.ensures ∙ sym copied.kept.1.1.1.0)
     copied.ensures.1.1.0.within made.kept.1.1.1.1.0
 
 slice-aggregate-put-four-4 : tie.Need-slice-aggregate-put-four-4
@@ -126,7 +126,7 @@ slice-aggregate-put-four-4 c =
     let made = (called put).read-text in
     let copied = (filled (called put)).copy-four in
     let house = (housed (filled (called put))).before.room4 in
-    front-back jobEntries copied.result.d copied.last.1.1.1.1.0 made.last.1.1.1.1.1.0 (house.ensures ∙ sym copied.kept.1.1.1.1.0)
+    front_back job_entries copied.result.d copied.last.1.1.1.1.0 made.last.1.1.1.1.1.0 (house.ensures ∙ sym copied.kept.1.1.1.1.0)
     copied.ensures.1.1.1.within made.kept.1.1.1.1.1.0
 
 put-four-requires : tie.Need-put-four-requires
@@ -138,7 +138,7 @@ slice-aggregate-put c =
     let made = (called put).read-text in
     let copied = (listed (called put)).copy in
     let house = (housed (filled (called put))).long-room in
-    front-back pairEntries copied.result copied.last.1.1.0 made.last.1.1.1.1.1.1.0 (house.ensures ∙ sym copied.kept.1.1.0)
+    front_back pair_entries copied.result copied.last.1.1.0 made.last.1.1.1.1.1.1.0 (house.ensures ∙ sym copied.kept.1.1.0)
     copied.ensures.within made.kept.1.1.1.1.1.1.0
 
 put-requires : tie.Need-put-requires

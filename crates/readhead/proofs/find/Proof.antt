@@ -21,10 +21,10 @@ sweep-requires c κs =
     record {
       good = g;
       placed = placed.places.ensures.0;
-      by-start = started.order2.ensures.0.0;
-      by-stop = rw g.sized.1.0 at stopped.order.ensures.0.0;
-      starts-long = started.order2.ensures.0.1;
-      stops-long = stopped.order.ensures.0.1;
+      by_start = started.order2.ensures.0.0;
+      by_stop = rw g.sized.1.0 at stopped.order.ensures.0.0;
+      starts_long = started.order2.ensures.0.1;
+      stops_long = stopped.order.ensures.0.1;
     }
 
 returns : tie.Need-returns

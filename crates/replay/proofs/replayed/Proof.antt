@@ -6,14 +6,14 @@ use mathlib.Core.Path.{◌≡◌, sym, ap, ◌∙◌}
 use lib.ListN.{length}
 use borrow.Author.Rules.{rules}
 use Rattle.narrowing.specs.Windows.{Win, win}
-use Rattle.journal.specs.Journal.{recordWords}
-use Rattle.journal.proofs.Records.{record-length}
+use Rattle.journal.specs.Journal.{record_words}
+use Rattle.journal.proofs.Records.{record_length}
 use Rattle.timetable.specs.Time.{Jobs}
-use Rattle.timetable.proofs.Good.{durations-sized, ends-sized}
+use Rattle.timetable.proofs.Good.{durations_sized, ends_sized}
 use Rattle.codes.specs.Facts.{InRange}
 use Rattle.codes.specs.Codes.{code}
-use Rattle.exam.specs.Lent.{jobsIn}
-use Rattle.replay.proofs.Going.{Going, going_start, going-bad, going_on, going-last, going_more, going_end, taken-range}
+use Rattle.exam.specs.Lent.{jobs_in}
+use Rattle.replay.proofs.Going.{Going, going_start, going_bad, going_on, going_last, going_more, going_end, taken_range}
 use Rattle.replay.proofs.replayed.Statement.{statement}
 use Rattle.replay.proofs.replayed.Tie as tie
 
@@ -43,33 +43,33 @@ shifted d = d.before.before.before.before.before.before.before
 -- ---- at the loop's test: the jobs, and the windows reached
 
 abbrev theJobs : tie.At-loop invariant-loop decreases-loop → Jobs
-theJobs d = let a = (begun d).args in jobsIn (length a.dur.now) a.dur.now a.dem.now a.cap
+theJobs d = let a = (begun d).args in jobs_in (length a.dur.now) a.dur.now a.dem.now a.cap
 
 abbrev reached : tie.At-loop invariant-loop decreases-loop → Win
 reached d = win d.loop.est d.loop.lct
 
 starts-kept : (d : tie.At-loop invariant-loop decreases-loop) → length d.loop.est ≡ length (begun d).args.est.now
-starts-kept d = omega (arith, durations-sized d.loop.invariant.good, durations-sized (begun d).requires.0)
+starts-kept d = omega (arith, durations_sized d.loop.invariant.good, durations_sized (begun d).requires.0)
 
-ends-kept : (d : tie.At-loop invariant-loop decreases-loop) → length d.loop.lct ≡ length (begun d).args.lct.now
-ends-kept d = omega (arith, starts-kept d, ends-sized d.loop.invariant.good, ends-sized (begun d).requires.0)
+ends_kept : (d : tie.At-loop invariant-loop decreases-loop) → length d.loop.lct ≡ length (begun d).args.lct.now
+ends_kept d = omega (arith, starts-kept d, ends_sized d.loop.invariant.good, ends_sized (begun d).requires.0)
 
 -- ---- the record shown has all its words
 
-shown-length : (d : tie.After-show-record invariant-loop decreases-loop) → length d.show-record.result.now ≡ recordWords
+shown-length : (d : tie.After-show-record invariant-loop decreases-loop) → length d.show-record.result.now ≡ record_words
 shown-length d =
     let start = begun (looped d) in
-    ap length d.show-record.ensures ∙ record-length start.args.log.now (looped d).loop.i (omega (arith, start.pre.1, d.before.loop-test.true))
+    ap length d.show-record.ensures ∙ record_length start.args.log.now (looped d).loop.i (omega (arith, start.pre.1, d.before.loop-test.true))
 
 -- ---- a record that is taken, and the windows after it
 
 taken : (d : tie.Else1 invariant-loop decreases-loop) → code (theJobs (looped (shown d))) (reached (looped (shown d))) (shown d).show-record.result.now ≡ 0
 taken d = sym d.before.code_of_lem.ensures ∙ d.if1.false
 
-in-range : (d : tie.Else1 invariant-loop decreases-loop) → InRange (theJobs (looped (shown d))) (shown d).show-record.result.now
-in-range d =
+in_range : (d : tie.Else1 invariant-loop decreases-loop) → InRange (theJobs (looped (shown d))) (shown d).show-record.result.now
+in_range d =
     let a = (begun (looped (shown d))).args in
-    taken-range a.dur.now a.dem.now a.cap (reached (looped (shown d))) (shown d).show-record.result.now (taken d)
+    taken_range a.dur.now a.dem.now a.cap (reached (looped (shown d))) (shown d).show-record.result.now (taken d)
 
 abbrev after : tie.After-shift invariant-loop decreases-loop → Win
 after d = win d.shift.new.0 d.shift.new.1.0
@@ -78,7 +78,7 @@ starts-moved : (d : tie.After-closed invariant-loop decreases-loop) → length (
 starts-moved d = (shifted d).shift.auto.0 ∙ starts-kept (looped (shown (passed (shifted d))))
 
 ends-moved : (d : tie.After-closed invariant-loop decreases-loop) → length (shifted d).shift.new.1.0 ≡ length (begun (looped (shown (passed (shifted d))))).args.lct.now
-ends-moved d = (shifted d).shift.auto.1.0 ∙ ends-kept (looped (shown (passed (shifted d))))
+ends-moved d = (shifted d).shift.auto.1.0 ∙ ends_kept (looped (shown (passed (shifted d))))
 
 -- ---- the needs; those that the search closes, and the lengths kept, are answered in the list at the end
 
@@ -94,7 +94,7 @@ code-of-requires c κs = let d = c.before.before in ((looped d).loop.invariant.g
 returns : tie.Need-returns invariant-loop decreases-loop
 returns c =
     let d = c.before.before.before.before in
-    going-bad (looped d).loop.invariant d.show-record.result.now d.show-record.ensures d.before.loop-test.true c.before.code_of_lem.result c.if1.true
+    going_bad (looped d).loop.invariant d.show-record.result.now d.show-record.ensures d.before.loop-test.true c.before.code_of_lem.result c.if1.true
     c.before.code_of_lem.ensures
 
 shared-slice-read-job : tie.Need-shared-slice-read-job invariant-loop decreases-loop
@@ -112,16 +112,16 @@ shared-slice-read-shift-2 c = omega (arith, shown-length (shown c.before.before.
 shift-requires : tie.Need-shift-requires invariant-loop decreases-loop
 shift-requires c κs =
     let d = c.before.before.before.before.before in
-    let f = in-range d in
+    let f = in_range d in
     let g = (looped (shown d)).loop.inv.good in
-    (omega (arith, f.job, durations-sized g), omega (arith, f.job, durations-sized g, ends-sized g), f.time)
+    (omega (arith, f.job, durations_sized g), omega (arith, f.job, durations_sized g, ends_sized g), f.time)
 
 closed-requires : tie.Need-closed-requires invariant-loop decreases-loop
 closed-requires c κs =
     let m = c.before.before.before.before.before.before in
-    let f = in-range (passed m) in
+    let f = in_range (passed m) in
     let g = (looped (shown (passed m))).loop.inv.good in
-    (omega (arith, f.job, durations-sized g, m.shift.auto.0), omega (arith, f.job, durations-sized g, ends-sized g, m.shift.auto.1), f.job)
+    (omega (arith, f.job, durations_sized g, m.shift.auto.0), omega (arith, f.job, durations_sized g, ends_sized g, m.shift.auto.1), f.job)
 
 returns-2 : tie.Need-returns-2 invariant-loop decreases-loop
 returns-2 c =
@@ -134,7 +134,7 @@ returns-3 : tie.Need-returns-3 invariant-loop decreases-loop
 returns-3 c =
     let m = shifted c.before.before in
     let d = shown (passed m) in
-    going-last (looped d).loop.inv d.show-record.result.now d.show-record.ensures d.before.loop-test.taken (taken (passed m)) (after m) m.shift.ensures.0
+    going_last (looped d).loop.inv d.show-record.result.now d.show-record.ensures d.before.loop-test.taken (taken (passed m)) (after m) m.shift.ensures.0
     (sym c.before.before.closed.ensures ∙ c.before.if2.true) c.if3.false
 
 loop-again : tie.Need-loop-preserved invariant-loop decreases-loop
@@ -157,7 +157,7 @@ replayed-spec =
     (λ c κs. search rules)
     code-of-requires
     (λ c. starts-kept c.before.before.before.before.before.before)
-    (λ c. ends-kept c.before.before.before.before.before.before)
+    (λ c. ends_kept c.before.before.before.before.before.before)
     returns
     shared-slice-read-job
     cast-job
@@ -175,5 +175,5 @@ replayed-spec =
     (λ c. search rules)
     loop-again
     (λ c. starts-kept c.before)
-    (λ c. ends-kept c.before)
+    (λ c. ends_kept c.before)
     returns-4)

@@ -2,7 +2,7 @@
 -- second says the head.
 use mathlib.Core.Path.{refl}
 use Rattle.rowheads.specs.Heads.{bare}
-use Rattle.rowheads.proofs.Numbers.{head-whole, head-relations, head-requests}
+use Rattle.rowheads.proofs.Numbers.{head_whole, head_relations, head_requests}
 use borrow.Author.Rules.{rules}
 use Rattle.rowheads.proofs.read_front.Statement.{statement}
 use Rattle.rowheads.proofs.read_front.Tie as tie
@@ -56,37 +56,37 @@ returns : tie.Need-returns
 returns c =
     let m = c.before in
     let r = rw m.c.given.1 at m.before.before.read-need.ensures in
-    rw (m.before.before.before.before.table.given.1, head-whole, r)
+    rw (m.before.before.before.before.table.given.1, head_whole, r)
 
 returns-2 : tie.Need-returns-2
 returns-2 c =
     let m = c.before.before in
     let r = rw m.d.given.1 at m.before.before.read-need.ensures in
-    rw (m.before.before.before.before.table.given.1, head-whole, r.1) (c.read_count.ensures r.0 _ r.2 r.3)
+    rw (m.before.before.before.before.table.given.1, head_whole, r.1) (c.read_count.ensures r.0 _ r.2 r.3)
 
 returns-3 : tie.Need-returns-3
 returns-3 c =
     let m = c.before in
     let r = rw m.c2.given.1 at m.before.before.read-numbered.ensures in
-    rw (m.before.before.before.enum_told.given.1, head-relations, r)
+    rw (m.before.before.before.enum_told.given.1, head_relations, r)
 
 returns-4 : tie.Need-returns-4
 returns-4 c =
     let m = c.before.before in
     let r = rw m.to.given.1 at m.before.before.read-numbered.ensures in
-    rw (m.before.before.before.enum_told.given.1, head-relations, r) (c.read-count2.ensures bare _ refl refl)
+    rw (m.before.before.before.enum_told.given.1, head_relations, r) (c.read-count2.ensures bare _ refl refl)
 
 returns-5 : tie.Need-returns-5
 returns-5 c =
     let m = c.before in
     let r = rw m.c3.given.1 at m.before.before.read-numbered2.ensures in
-    rw (m.before.before.before.before.table2.given.1, head-requests, r)
+    rw (m.before.before.before.before.table2.given.1, head_requests, r)
 
 returns-6 : tie.Need-returns-6
 returns-6 c =
     let m = c.before.before in
     let r = rw m.to2.given.1 at m.before.before.read-numbered2.ensures in
-    rw (m.before.before.before.before.table2.given.1, head-requests, r) c.read-need2.ensures
+    rw (m.before.before.before.before.table2.given.1, head_requests, r) c.read-need2.ensures
 
 pub read-front-spec : {M : Type 1} → statement M
 read-front-spec =

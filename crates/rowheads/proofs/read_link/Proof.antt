@@ -1,5 +1,5 @@
 -- `rowheads::read_link` meets its contract.
-use Rattle.rowheads.proofs.Numbers.{link-good, link-zero, link-bad}
+use Rattle.rowheads.proofs.Numbers.{link_good, link_zero, link_bad}
 use borrow.Author.Rules.{rules}
 use Rattle.rowheads.proofs.read_link.Statement.{statement}
 use Rattle.rowheads.proofs.read_link.Tie as tie
@@ -13,7 +13,7 @@ enum-known-v c = search rules
 returns : tie.Need-returns
 returns c =
     let q = rw c.before.before.v.given.1 at c.before.before.before.before.next-up-to.ensures in
-    link-zero _ _ _ _ q c.if1.true
+    link_zero _ _ _ _ q c.if1.true
 
 sub-t10 : tie.Need-overflow-sub-t10
 sub-t10 c = search rules
@@ -24,10 +24,10 @@ enum-known-c c = search rules
 returns-2 : tie.Need-returns-2
 returns-2 c =
     let q = rw c.before.before.v.given.1 at c.before.before.before.before.next-up-to.ensures in
-    link-good _ _ _ _ q c.if1.false
+    link_good _ _ _ _ q c.if1.false
 
 returns-3 : tie.Need-returns-3
-returns-3 c = link-bad _ _ _ (rw c.before.c.given.1 at c.before.before.before.next-up-to.ensures)
+returns-3 c = link_bad _ _ _ (rw c.before.c.given.1 at c.before.before.before.next-up-to.ensures)
 
 pub read-link-spec : {M : Type 1} → statement M
 read-link-spec =

@@ -1,6 +1,6 @@
 -- `rowheads::read_numbered` meets its contract: two numbers that are those that they have to be.
 use borrow.Author.Rules.{rules}
-use Rattle.rowheads.proofs.Numbers.{numbered-bad, numbered_next}
+use Rattle.rowheads.proofs.Numbers.{numbered_bad, numbered_next}
 use Rattle.rowheads.proofs.read_numbered.Statement.{statement}
 use Rattle.rowheads.proofs.read_numbered.Tie as tie
 
@@ -20,7 +20,7 @@ next-exactly-requires-2 : tie.Need-next-exactly-requires-2
 next-exactly-requires-2 c κs = search rules
 
 returns : tie.Need-returns
-returns c = numbered-bad _ _ _ (rw c.before.c.given.1 at c.before.before.before.next-exactly.ensures)
+returns c = numbered_bad _ _ _ (rw c.before.c.given.1 at c.before.before.before.next-exactly.ensures)
 
 returns-2 : tie.Need-returns-2
 returns-2 c =

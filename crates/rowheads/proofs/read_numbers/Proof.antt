@@ -3,7 +3,7 @@ use Prim.Native.Nat.{◌-◌}
 use borrow.Author.Rules.{rules}
 use lib.ListN.{drop}
 use Rattle.texts.specs.Tokens.{tokens}
-use Rattle.rowheads.proofs.Numbers.{Picking, picking-start, picking-step, picking-bad, picking-end}
+use Rattle.rowheads.proofs.Numbers.{Picking, picking_start, picking_step, picking_bad, picking_end}
 use Rattle.rowheads.proofs.read_numbers.Statement.{statement}
 use Rattle.rowheads.proofs.read_numbers.Tie as tie
 
@@ -14,7 +14,7 @@ abbrev decreases-loop : tie.decreases-loop
 decreases-loop text at m top res picked₀ to₀ i₀ picked to i = m - i
 
 loop-holds : tie.Need-loop-init invariant-loop decreases-loop
-loop-holds c = picking-start _ _ _ _ _
+loop-holds c = picking_start _ _ _ _ _
 
 next-up-to-requires : tie.Need-next-up-to-requires invariant-loop decreases-loop
 next-up-to-requires c κs = search rules
@@ -31,7 +31,7 @@ enum-known-c c = search rules
 returns : tie.Need-returns invariant-loop decreases-loop
 returns c =
     let q = rw c.before.c.given.1 at c.before.before.before.next-up-to.ensures in
-    picking-bad _ _ _ _ _ _ _ _ c.before.before.before.before.before.loop.invariant _ c.before.before.before.before.loop-test.true q
+    picking_bad _ _ _ _ _ _ _ _ c.before.before.before.before.before.loop.invariant _ c.before.before.before.before.loop-test.true q
 
 add-i : tie.Need-overflow-add-i invariant-loop decreases-loop
 add-i c = search rules
@@ -42,10 +42,10 @@ loop-less c = search rules
 loop-again : tie.Need-loop-preserved invariant-loop decreases-loop
 loop-again c =
     let q = rw c.before.before.v.given.1 at c.before.before.before.before.next-up-to.ensures in
-    picking-step _ _ _ _ _ _ _ _ c.before.before.before.before.before.before.loop.invariant _ _ _ c.before.before.before.before.before.loop-test.true q c.choose.ensures
+    picking_step _ _ _ _ _ _ _ _ c.before.before.before.before.before.before.loop.invariant _ _ _ c.before.before.before.before.before.loop-test.true q c.choose.ensures
 
 returns-2 : tie.Need-returns-2 invariant-loop decreases-loop
-returns-2 c = picking-end _ _ _ _ _ _ _ _ c.before.loop.invariant c.loop-test.false
+returns-2 c = picking_end _ _ _ _ _ _ _ _ c.before.loop.invariant c.loop-test.false
 
 pub read-numbers-spec : {M : Type 1} → statement M
 read-numbers-spec =

@@ -1,6 +1,6 @@
 -- `scanner::next_up_to` meets its contract: what is held tells the number from the limit, since no limit reaches the most that is held.
 use borrow.Author.Rules.{rules}
-use Rattle.scanner.proofs.Numbers.{one-good, one-large, one-other, one_none}
+use Rattle.scanner.proofs.Numbers.{one_good, one_large, one_other, one_none}
 use Rattle.scanner.proofs.next_up_to.Statement.{statement}
 use Rattle.scanner.proofs.next_up_to.Tie as tie
 
@@ -17,7 +17,7 @@ returns : tie.Need-returns
 returns c =
     let b = c.before.before in
     let q = rw b.v.given.1 at b.before.before.next-number.ensures in
-    one-good _ _ _ _ _ _ (search rules) q.1 c.if1.true q.2
+    one_good _ _ _ _ _ _ (search rules) q.1 c.if1.true q.2
 
 enum_told : tie.Need-enum-told
 enum_told c = search rules
@@ -29,12 +29,12 @@ returns-2 : tie.Need-returns-2
 returns-2 c =
     let b = c.before.before in
     let q = rw b.v.given.1 at b.before.before.next-number.ensures in
-    one-large _ _ _ _ _ _ q.1 c.if1.false q.2
+    one_large _ _ _ _ _ _ q.1 c.if1.false q.2
 
 returns-3 : tie.Need-returns-3
 returns-3 c =
     let q = rw c.enum_told.given.1 at c.before.before.next-number.ensures in
-    one-other _ _ _ _ q.1
+    one_other _ _ _ _ q.1
 
 returns-4 : tie.Need-returns-4
 returns-4 c =

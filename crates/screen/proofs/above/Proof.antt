@@ -9,7 +9,7 @@ use lib.ListN.{length, drop}
 use borrow.Author.Rules.{rules}
 use Rattle.lists.specs.Tests.{both}
 use Rattle.joblist.specs.GoodList.{at_most}
-use Rattle.screen.proofs.Tests.{most-none, most-more, most-end, above-not}
+use Rattle.screen.proofs.Tests.{most_none, most_more, most_end, above_not}
 use Rattle.screen.proofs.above.Statement.{statement}
 use Rattle.screen.proofs.above.Tie as tie
 
@@ -20,7 +20,7 @@ abbrev decreases-loop : tie.decreases-loop
 decreases-loop list most top₀ i₀ top i = length list - i
 
 loop-holds : tie.Need-loop-init invariant-loop decreases-loop
-loop-holds c = (search rules, most-none c.before.args.most c.before.args.list.now)
+loop-holds c = (search rules, most_none c.before.args.most c.before.args.list.now)
 
 mul-greater : tie.Need-overflow-mul-greater invariant-loop decreases-loop
 mul-greater c = search rules
@@ -41,13 +41,13 @@ loop-again : tie.Need-loop-preserved invariant-loop decreases-loop
 loop-again c =
     let l = c.before.before.before.loop in
     let a = c.before.before.before.before.before.args in
-    (omega arith, sym (most-more a.most a.list.now l.top l.i _ c.greater.ensures (omega arith)) ∙ l.invariant.1)
+    (omega arith, sym (most_more a.most a.list.now l.top l.i _ c.greater.ensures (omega arith)) ∙ l.invariant.1)
 
 returns : tie.Need-returns invariant-loop decreases-loop
 returns c =
     let l = c.before.loop in
     let a = c.before.before.before.args in
-    above-not a.most l.top ∙ ap not (sym (most-end a.most a.list.now l.top l.i c.loop-test.false) ∙ l.invariant.1)
+    above_not a.most l.top ∙ ap not (sym (most_end a.most a.list.now l.top l.i c.loop-test.false) ∙ l.invariant.1)
 
 pub above-spec : {M : Type 1} → statement M
 above-spec =

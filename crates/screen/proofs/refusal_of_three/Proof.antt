@@ -9,7 +9,7 @@ use borrow.Author.Tests.{eq-eqb, ne_eqb, le-leb, lt-leb, not-true, not-false}
 use Rattle.lists.specs.Tests.{unless}
 use Rattle.narrowing.specs.Windows.{win}
 use Rattle.joblist.specs.GoodList.{within, refusal}
-use Rattle.joblist.specs.Limits.{mostJobs, threeLists}
+use Rattle.joblist.specs.Limits.{most_jobs, three_lists}
 use Rattle.screen.proofs.Tests.{of_three}
 use Rattle.screen.proofs.refusal_of_three.Statement.{statement}
 use Rattle.screen.proofs.refusal_of_three.Tie as tie
@@ -27,8 +27,8 @@ returns-2 c =
 
 -- past test 1
 sized : (a : tie.Else2) → let s = a.before.before.before.before.before.args in
-    refusal (length s.est.now) (threeLists (win s.est.now s.lct.now) s.dur.now) []
-    ≡ unless (leb (length s.est.now) mostJobs) 2 (unless (within (threeLists (win s.est.now s.lct.now) s.dur.now)) 3 0)
+    refusal (length s.est.now) (three_lists (win s.est.now s.lct.now) s.dur.now) []
+    ≡ unless (leb (length s.est.now) most_jobs) 2 (unless (within (three_lists (win s.est.now s.lct.now) s.dur.now)) 3 0)
 sized d =
     let a = d.before.before.before.before.before.args in
     let n = length a.est.now in
@@ -39,7 +39,7 @@ sized d =
     )
 
 returns-3 : tie.Need-returns-3
-returns-3 c = rw (sized c.before, lt-leb (length c.before.before.before.before.before.before.args.est.now) mostJobs (omega arith))
+returns-3 c = rw (sized c.before, lt-leb (length c.before.before.before.before.before.before.args.est.now) most_jobs (omega arith))
 
 too-late-requires : tie.Need-too-late-requires
 too-late-requires c κs = search rules
@@ -47,14 +47,14 @@ too-late-requires c κs = search rules
 returns-4 : tie.Need-returns-4
 returns-4 c =
     let a = c.before.before.before.before.before.before.before.before.args in
-    let late = not-true (within (threeLists (win a.est.now a.lct.now) a.dur.now)) (sym c.before.too-late.ensures ∙ c.if4.true) in
-    rw (sized c.before.before.before, le-leb (length a.est.now) mostJobs (omega arith), late)
+    let late = not-true (within (three_lists (win a.est.now a.lct.now) a.dur.now)) (sym c.before.too-late.ensures ∙ c.if4.true) in
+    rw (sized c.before.before.before, le-leb (length a.est.now) most_jobs (omega arith), late)
 
 returns-5 : tie.Need-returns-5
 returns-5 c =
     let a = c.before.before.before.before.before.before.before.before.args in
-    let early = not-false (within (threeLists (win a.est.now a.lct.now) a.dur.now)) (sym c.before.too-late.ensures ∙ c.if4.false) in
-    rw (sized c.before.before.before, le-leb (length a.est.now) mostJobs (omega arith), early)
+    let early = not-false (within (three_lists (win a.est.now a.lct.now) a.dur.now)) (sym c.before.too-late.ensures ∙ c.if4.false) in
+    rw (sized c.before.before.before, le-leb (length a.est.now) most_jobs (omega arith), early)
 
 pub refusal-of-three-spec : {M : Type 1} → statement M
 refusal-of-three-spec = tie.close (tie.spec returns returns-2 returns-3 too-late-requires returns-4 returns-5)

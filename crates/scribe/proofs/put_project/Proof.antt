@@ -2,18 +2,18 @@
 use native.Mathlib.Omega.{arith}
 use borrow.Author.Rules.{rules}
 use Rattle.chains.specs.Listed.{paired}
-use Rattle.projects.specs.Form.{projectText}
+use Rattle.projects.specs.Form.{project_text}
 use Rattle.projects.specs.Made.{made}
 use Rattle.scribe.specs.Says.{RoomFor}
-use Rattle.scribe.proofs.Puts.{room-same, first-room, second-room, third-room, fourth-room, all-put}
+use Rattle.scribe.proofs.Puts.{room_same, first_room, second_room, third_room, fourth_room, all_put}
 use Rattle.scribe.proofs.Steps.{number_same}
-use Rattle.scribe.proofs.Counts.{write-parts, whole_room, put_whole}
+use Rattle.scribe.proofs.Counts.{write_parts, whole_room, put_whole}
 use Rattle.scribe.proofs.put_project.Statement.{statement}
 use Rattle.scribe.proofs.put_project.Tie as tie
 
 -- there is room for the whole text, and it is not too long to be counted
 room : (k : tie.After-shared-slice-known2) → let a = k.before.before.args in
-    RoomFor a.dry 0 (projectText (made a.cap a.dur.now a.dem.now (paired a.jobs.now a.successors.now))) a.buffer.now
+    RoomFor a.dry 0 (project_text (made a.cap a.dur.now a.dem.now (paired a.jobs.now a.successors.now))) a.buffer.now
 room k =
     let s = k.before.before in
     whole_room _ s.requires.0 s.ranges.cap.fits (λ i. (k.before.shared-slice-known.given i).fits) (λ i. (k.shared-slice-known2.given i).fits) s.requires.1
@@ -34,20 +34,20 @@ cast-put c = search rules
 put-requires : tie.Need-put-requires
 put-requires c κs =
     let k = c.before.before.before.before in
-    room-same (first-room (write-parts _ k.before.before.requires.0) (room k)) (omega arith) (number_same (omega arith) (omega arith))
+    room_same (first_room (write_parts _ k.before.before.requires.0) (room k)) (omega arith) (number_same (omega arith) (omega arith))
 
 put-requires-2 : tie.Need-put-requires-2
 put-requires-2 c κs =
     let one = c.before.before.before in
     let k = before-1 one in
-    room-same (second-room (write-parts _ k.before.before.pre.0) (room k) one.put.ensures) (omega arith) (number_same (omega arith) (omega arith))
+    room_same (second_room (write_parts _ k.before.before.pre.0) (room k) one.put.ensures) (omega arith) (number_same (omega arith) (omega arith))
 
 put-requires-3 : tie.Need-put-requires-3
 put-requires-3 c κs =
     let two = c.before.before.before in
     let one = before-2 two in
     let k = before-1 one in
-    room-same (third-room (write-parts _ k.before.before.pre.0) (room k) one.put.ensures two.put2.ensures) (omega arith) (number_same (omega arith) (omega arith))
+    room_same (third_room (write_parts _ k.before.before.pre.0) (room k) one.put.ensures two.put2.ensures) (omega arith) (number_same (omega arith) (omega arith))
 
 put-jobs-requires : tie.Need-put-jobs-requires
 put-jobs-requires c κs =
@@ -56,7 +56,7 @@ put-jobs-requires c κs =
     let one = before-2 two in
     let k = before-1 one in
     let g = k.before.before.pre.0 in
-    (g, fourth-room (write-parts _ g) (room k) one.put.ensures two.put2.ensures three.put3.ensures)
+    (g, fourth_room (write_parts _ g) (room k) one.put.ensures two.put2.ensures three.put3.ensures)
 
 same_length : tie.Need-same-length
 same_length c = search rules
@@ -67,7 +67,7 @@ returns c =
     let two = before-3 three in
     let one = before-2 two in
     let k = before-1 one in
-    put_whole (all-put (write-parts _ k.before.before.pre.0) (room k) one.put.ensures two.put2.ensures three.put3.ensures c.before.before.put-jobs.ensures)
+    put_whole (all_put (write_parts _ k.before.before.pre.0) (room k) one.put.ensures two.put2.ensures three.put3.ensures c.before.before.put-jobs.ensures)
 
 pub put-project-spec : {M : Type 1} → statement M
 put-project-spec =

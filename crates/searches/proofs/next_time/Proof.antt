@@ -3,10 +3,10 @@
 use Prim.Native.Nat.{◌+◌, ◌≤◌}
 use mathlib.Core.Path.{◌≡◌}
 use Rattle.lists.specs.Lists.{◌!◌}
-use Rattle.joblist.specs.Limits.{mostTime}
+use Rattle.joblist.specs.Limits.{most_time}
 use native.Mathlib.Omega.{arith}
-use Rattle.timetable.proofs.Good.{window-within}
-use Rattle.searches.proofs.Answers.{rests, early-rests, early-moves, late-rests, late-moves}
+use Rattle.timetable.proofs.Good.{window_within}
+use Rattle.searches.proofs.Answers.{rests, early_rests, early_moves, late_rests, late_moves}
 use borrow.Author.Rules.{rules}
 use Rattle.searches.proofs.next_time.Statement.{statement}
 use Rattle.searches.proofs.next_time.Tie as tie
@@ -32,8 +32,8 @@ late-takes : (d : tie.Else3) → let a = (on-late d).args in (a.dem.now ! a.job 
 late-takes d = d.before.before.before.before.if1.false
 
 -- the job's earliest end, its latest end and the limit, in order
-within : (s : tie.Start) → let a = s.args in ((a.est.now ! a.job + a.dur.now ! a.job ≤ a.lct.now ! a.job) × (a.lct.now ! a.job ≤ mostTime))
-within s = window-within s.requires.0 s.args.job s.requires.1
+within : (s : tie.Start) → let a = s.args in ((a.est.now ! a.job + a.dur.now ! a.job ≤ a.lct.now ! a.job) × (a.lct.now ! a.job ≤ most_time))
+within s = window_within s.requires.0 s.args.job s.requires.1
 
 mul-r : tie.Need-overflow-mul-r
 mul-r c = search rules
@@ -87,13 +87,13 @@ returns-3 : tie.Need-returns-3
 returns-3 c =
     let d = c.before.before in
     let p = (on-early d).requires in
-    early-moves _ _ _ _ _ _ p.0 p.1 (early-lasts d) (early-takes d) _ p.2 _ d.if3.true c.before.early.ensures c.if4.true
+    early_moves _ _ _ _ _ _ p.0 p.1 (early-lasts d) (early-takes d) _ p.2 _ d.if3.true c.before.early.ensures c.if4.true
 
 returns-4 : tie.Need-returns-4
 returns-4 c =
     let d = c.before.before in
     let p = (on-early d).requires in
-    early-rests _ _ _ _ _ _ p.0 p.1 (early-lasts d) (early-takes d) _ p.2 _ d.if3.true c.before.early.ensures c.if4.false
+    early_rests _ _ _ _ _ _ p.0 p.1 (early-lasts d) (early-takes d) _ p.2 _ d.if3.true c.before.early.ensures c.if4.false
 
 sub-late : tie.Need-overflow-sub-late
 sub-late c = omega (arith, within (on-late c))
@@ -110,13 +110,13 @@ returns-5 : tie.Need-returns-5
 returns-5 c =
     let d = c.before.before in
     let p = (on-late d).requires in
-    late-moves _ _ _ _ _ _ p.0 p.1 (late-lasts d) (late-takes d) _ p.2 _ d.if3.false c.before.late.ensures c.if5.true
+    late_moves _ _ _ _ _ _ p.0 p.1 (late-lasts d) (late-takes d) _ p.2 _ d.if3.false c.before.late.ensures c.if5.true
 
 returns-6 : tie.Need-returns-6
 returns-6 c =
     let d = c.before.before in
     let p = (on-late d).requires in
-    late-rests _ _ _ _ _ _ p.0 p.1 (late-lasts d) (late-takes d) _ p.2 _ d.if3.false c.before.late.ensures c.if5.false
+    late_rests _ _ _ _ _ _ p.0 p.1 (late-lasts d) (late-takes d) _ p.2 _ d.if3.false c.before.late.ensures c.if5.false
 
 pub next-time-spec : {M : Type 1} → statement M
 next-time-spec =

@@ -6,13 +6,13 @@ use mathlib.Core.List.{List}
 use borrow.Author.Rules.{rules}
 use native.Mathlib.Omega.{arith}
 use borrow.Author.Tests.{not-true, not-false}
-use Rattle.joblist.specs.Limits.{mostJobs, mostResources}
+use Rattle.joblist.specs.Limits.{most_jobs, most_resources}
 use Rattle.texts.specs.Tokens.{Token}
 use Rattle.texts.specs.Readings.{good}
 use Rattle.headings.specs.Lines.{counted}
-use Rattle.headings.specs.Headings.{marks, inOrder, section}
-use Rattle.headings.proofs.Facts.{counted-takes}
-use Rattle.sections.proofs.Parsing.{no-headings, no-jobs, no-resources, by-tables}
+use Rattle.headings.specs.Headings.{marks, in_order, section}
+use Rattle.headings.proofs.Facts.{counted_takes}
+use Rattle.sections.proofs.Parsing.{no_headings, no_jobs, no_resources, by_tables}
 use Rattle.sections.proofs.parse.Statement.{statement}
 use Rattle.sections.proofs.parse.Tie as tie
 
@@ -24,20 +24,20 @@ started h = h.before.before.before.before
 abbrev headings-of : tie.After-n → tie.Else1
 headings-of e = e.before.before.before
 
-ordered : (h : tie.Else1) → inOrder 0 (marks (started h).args.text.now) ≡ true
+ordered : (h : tie.Else1) → in_order 0 (marks (started h).args.text.now) ≡ true
 ordered h =
     let f = rw (not-false h.before.find.result h.if1.false) at h.before.find.ensures.0 in
     f.0
 
-jobs : (e : tie.After-n) → (rest : List Token) × (counted mostJobs (section 0 (marks (started (headings-of e)).args.text.now)) ≡ good e.n.given.0.0 rest)
+jobs : (e : tie.After-n) → (rest : List Token) × (counted most_jobs (section 0 (marks (started (headings-of e)).args.text.now)) ≡ good e.n.given.0.0 rest)
 jobs e =
     let h = e.before.before.before in
     let f = rw (not-false h.before.find.result h.if1.false) at h.before.find.ensures.0 in
     let n = rw e.n.given.1 at e.before.before.count_at.ensures in
     (n.0, rw (f.1 0 (omega arith)) n.1)
 
-few : (e : tie.After-n) → e.n.given.0.0 ≤ mostJobs
-few e = counted-takes _ _ _ _ (jobs e).1
+few : (e : tie.After-n) → e.n.given.0.0 ≤ most_jobs
+few e = counted_takes _ _ _ _ (jobs e).1
 
 find-requires : tie.Need-find-requires
 find-requires c κs = search rules
@@ -45,7 +45,7 @@ find-requires c κs = search rules
 returns : tie.Need-returns
 returns c =
     let p = c.before.before.before.before.requires in
-    (no-headings _ (rw (not-true c.before.find.result c.if1.true) at c.before.find.ensures.0), p.0, p.1, p.2)
+    (no_headings _ (rw (not-true c.before.find.result c.if1.true) at c.before.find.ensures.0), p.0, p.1, p.2)
 
 array-read-count-at : tie.Need-array-read-count-at
 array-read-count-at c = search rules
@@ -95,7 +95,7 @@ returns-2 c =
     let f = rw (not-false h.before.find.result h.if1.false) at h.before.find.ensures.0 in
     let n = rw c.before.c.given.1 at c.before.before.before.count_at.ensures in
     let p = (started h).requires in
-    (no-jobs _ (ordered h) _ (rw (f.1 0 (omega arith)) n), p.0, p.1, p.2)
+    (no_jobs _ (ordered h) _ (rw (f.1 0 (omega arith)) n), p.0, p.1, p.2)
 
 returns-3 : tie.Need-returns-3
 returns-3 c =
@@ -104,7 +104,7 @@ returns-3 c =
     let f = rw (not-false h.before.find.result h.if1.false) at h.before.find.ensures.0 in
     let k = rw c.before.c2.given.1 at c.before.before.before.count-at2.ensures in
     let p = (started h).requires in
-    (no-resources _ (ordered h) _ _ (jobs e).1 _ (rw (f.1 1 (omega arith)) k), p.0, p.1, p.2)
+    (no_resources _ (ordered h) _ _ (jobs e).1 _ (rw (f.1 1 (omega arith)) k), p.0, p.1, p.2)
 
 returns-4 : tie.Need-returns-4
 returns-4 c =
@@ -113,7 +113,7 @@ returns-4 c =
     let h = e.before.before.before in
     let f = rw (not-false h.before.find.result h.if1.false) at h.before.find.ensures.0 in
     let k = rw g.k.given.1 at g.before.before.count-at2.ensures in
-    let t = by-tables (started h).args.text.now (ordered h) e.n.given.0.0 _ (jobs e).1 g.k.given.0.0 k.0 (rw (f.1 1 (omega arith)) k.1) in
+    let t = by_tables (started h).args.text.now (ordered h) e.n.given.0.0 _ (jobs e).1 g.k.given.0.0 k.0 (rw (f.1 1 (omega arith)) k.1) in
     rw (t, f.1 2 (omega arith), f.1 3 (omega arith), f.1 4 (omega arith)) c.read-tables.ensures
 
 pub parse-spec : {M : Type 1} → statement M

@@ -1,7 +1,7 @@
 -- `sections::read_tables` meets its contract: the three tables, one after the other.
 use borrow.Author.Rules.{rules}
 use lib.ListN.{drop}
-use Rattle.sections.proofs.Parsing.{Related, relations-read, requests-read, no-relations, no-requests, no-capacities, tables-read}
+use Rattle.sections.proofs.Parsing.{Related, relations_read, requests_read, no_relations, no_requests, no_capacities, tables_read}
 use Rattle.sections.proofs.read_tables.Statement.{statement}
 use Rattle.sections.proofs.read_tables.Tie as tie
 
@@ -21,7 +21,7 @@ related : (e : tie.After-pairs) → let a = (started e).args in
 related e =
     let l = (lines-passed e).behind-lines in
     let w = rw e.pairs.given.1 at e.before.before.validate.ensures.0 in
-    relations-read _ _ _ _ l.result l.ensures _ _ _ e.pairs.given.0.1.0 w
+    relations_read _ _ _ _ l.result l.ensures _ _ _ e.pairs.given.0.1.0 w
 
 behind-lines-requires : tie.Need-behind-lines-requires
 behind-lines-requires c κs = search rules
@@ -64,7 +64,7 @@ returns c =
     let l = c.before.before.before.before.before.before in
     let v = c.before.before.before.validate.ensures in
     let t = l.before.before.args.text.now in
-    (no-relations _ _ _ t _ _ _ l.behind-lines.result l.behind-lines.ensures _ (rw c.before.c.given.1 at v.0), v.1, v.2, v.3)
+    (no_relations _ _ _ t _ _ _ l.behind-lines.result l.behind-lines.ensures _ (rw c.before.c.given.1 at v.0), v.1, v.2, v.3)
 
 returns-2 : tie.Need-returns-2
 returns-2 c =
@@ -72,7 +72,7 @@ returns-2 c =
     let e = l.before.before in
     let v = c.before.before.before.validate2.ensures in
     let w = rw c.before.c2.given.1 at v.0 in
-    (no-requests _ _ _ (started e).args.text.now _ _ _ _ _ (related e) l.behind-lines2.result l.behind-lines2.ensures _ w, v.1, v.2, v.3)
+    (no_requests _ _ _ (started e).args.text.now _ _ _ _ _ (related e) l.behind-lines2.result l.behind-lines2.ensures _ w, v.1, v.2, v.3)
 
 returns-3 : tie.Need-returns-3
 returns-3 c =
@@ -81,10 +81,10 @@ returns-3 c =
     let e = relations-of f in
     let t = (started e).args.text.now in
     let v = f.before.before.validate2.ensures in
-    let q = requests-read _ _ _ t _ l.result l.ensures _ _ _ f.enum_told.given.0.1.0 (rw f.enum_told.given.1 at v.0) in
+    let q = requests_read _ _ _ t _ l.result l.ensures _ _ _ f.enum_told.given.0.1.0 (rw f.enum_told.given.1 at v.0) in
     let o = c.before.before.before.before.behind-lines3 in
     let m = rw c.before.c3.given.1 at c.before.before.before.read-numbers.ensures in
-    (no-capacities _ _ _ t _ _ _ _ _ (related e) _ _ q o.result o.ensures _ m, v.1, v.2, v.3)
+    (no_capacities _ _ _ t _ _ _ _ _ (related e) _ _ q o.result o.ensures _ m, v.1, v.2, v.3)
 
 returns-4 : tie.Need-returns-4
 returns-4 c =
@@ -93,10 +93,10 @@ returns-4 c =
     let e = relations-of f in
     let t = (started e).args.text.now in
     let v = f.before.before.validate2.ensures in
-    let q = requests-read _ _ _ t _ l.result l.ensures _ _ _ f.enum_told.given.0.1.0 (rw f.enum_told.given.1 at v.0) in
+    let q = requests_read _ _ _ t _ l.result l.ensures _ _ _ f.enum_told.given.0.1.0 (rw f.enum_told.given.1 at v.0) in
     let o = c.before.before.before.before.behind-lines3 in
     let m = rw c.before.cap.given.1 at c.before.before.before.read-numbers.ensures in
-    (tables-read _ _ _ t _ _ _ _ _ (related e) _ _ q o.result o.ensures _ _ _ (started e).pre.0 m.1 m.2, v.1, v.2, v.3)
+    (tables_read _ _ _ t _ _ _ _ _ (related e) _ _ q o.result o.ensures _ _ _ (started e).pre.0 m.1 m.2, v.1, v.2, v.3)
 
 pub read-tables-spec : {M : Type 1} → statement M
 read-tables-spec =

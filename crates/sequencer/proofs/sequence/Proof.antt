@@ -10,11 +10,11 @@ use lib.Seq.{take_at}
 use Rattle.narrowing.specs.Windows.{Win, win, Long}
 use Rattle.answers.specs.declared.Answer.{Answer}
 use Rattle.answers.specs.Said.{says}
-use Rattle.joblist.specs.Limits.{mostJobs}
+use Rattle.joblist.specs.Limits.{most_jobs}
 use Rattle.heads.specs.Promise.{GoodHead, left, Sequences}
-use Rattle.windows.proofs.Copies.{saved-back, kept-length}
-use Rattle.windows.proofs.TooShort.{answer-too-short, answer-long}
-use Rattle.sequencer.proofs.Answered.{winBy, accepted, refused, clashed, worked}
+use Rattle.windows.proofs.Copies.{saved_back, kept_length}
+use Rattle.windows.proofs.TooShort.{answer_too_short, answer_long}
+use Rattle.sequencer.proofs.Answered.{win_by, accepted, refused, clashed, worked}
 use Rattle.sequencer.proofs.sequence.Statement.{statement}
 use Rattle.sequencer.proofs.sequence.Tie as tie
 
@@ -41,9 +41,9 @@ good : (d : tie.Else1) → GoodHead (asked (begun d)) (begun d).args.dur.now
 good d = accepted _ _ _ d.before.refusal-of-three.ensures d.if1.false
 
 allLong : (d : tie.Else2) → let s = begun (passed d) in Long (length s.args.est.now) s.args.dur.now (asked s)
-allLong d = answer-long _ _ _ _ d.before.lowest-too-short.ensures d.if2.false
+allLong d = answer_long _ _ _ _ d.before.lowest-too-short.ensures d.if2.false
 
-few : (d : tie.Else2) → length (begun (passed d)).args.est.now ≤ mostJobs
+few : (d : tie.Else2) → length (begun (passed d)).args.est.now ≤ most_jobs
 few d = (good (passed d)).few
 
 same : (d : tie.Else2) → length (begun (passed d)).args.est.now ≡ length (begun (passed d)).args.lct.now
@@ -61,10 +61,10 @@ abbrev ends : tie.After-save2 → List ℕ
 ends d = d.save2.new.1.0
 
 starts-front : (d : tie.After-save2) → take (length (origin d).args.est.now) (starts d) ≡ (origin d).args.est.now
-starts-front d = saved-back (origin d).args.est.now _ (starts d) _ d.before.before.before.save.ensures.0 refl
+starts-front d = saved_back (origin d).args.est.now _ (starts d) _ d.before.before.before.save.ensures.0 refl
 
 ends-front : (d : tie.After-save2) → take (length (origin d).args.est.now) (ends d) ≡ (origin d).args.lct.now
-ends-front d = saved-back (origin d).args.lct.now _ (ends d) _ d.save2.ensures.0 (same (long d))
+ends-front d = saved_back (origin d).args.lct.now _ (ends d) _ d.save2.ensures.0 (same (long d))
 
 -- ---- after the work: the lengths of what it made of the fronts, and the promise for each answer
 
@@ -75,7 +75,7 @@ ends-length : (d : tie.After-work) → length d.work.new.1.0 ≡ length (origin 
 ends-length d = d.work.auto.1.0 ∙ ap length (ends-front (saved d)) ∙ sym (same (long (saved d)))
 
 done : (d : tie.After-work) (a : Answer) → d.work.result ≡ a
-    → let s = origin (saved d) in Sequences (asked s) s.args.dur.now (left (says a) (winBy (asked s) a (win d.work.new.0 d.work.new.1.0)))
+    → let s = origin (saved d) in Sequences (asked s) s.args.dur.now (left (says a) (win_by (asked s) a (win d.work.new.0 d.work.new.1.0)))
 done d a e =
     let s = saved d in
     worked (asked (origin s)) (origin s).args.dur.now (good (passed (long s))) a _ _ _ (starts-front s) (ends-front s) (rw e at d.work.ensures)
@@ -89,7 +89,7 @@ lowest-too-short-requires : tie.Need-lowest-too-short-requires
 lowest-too-short-requires c κs = let g = good c.before.before in (g.sized.1.0, g.sized.1.1.0)
 
 returns-2 : tie.Need-returns-2
-returns-2 c = clashed _ _ (good c.before.before.before.before) _ (answer-too-short _ _ _ _ c.before.lowest-too-short.ensures c.if2.true)
+returns-2 c = clashed _ _ (good c.before.before.before.before) _ (answer_too_short _ _ _ _ c.before.lowest-too-short.ensures c.if2.true)
 
 save-requires : tie.Need-save-requires
 save-requires c κs = (few c.before.before, search rules)
@@ -116,13 +116,13 @@ restore-requires : tie.Need-restore-requires
 restore-requires c κs =
     let d = c.before.before.before.before.before.before.before in
     let f = few (long (saved d)) in
-    (f, kept-length _ mostJobs (starts (saved d)) d.work.new.0 (saved d).before.before.before.save.ensures.1 f (starts-length d))
+    (f, kept_length _ most_jobs (starts (saved d)) d.work.new.0 (saved d).before.before.before.save.ensures.1 f (starts-length d))
 
 restore-requires-2 : tie.Need-restore-requires-2
 restore-requires-2 c κs =
     let d = c.before.before.before.before.before.before.before.before.before.before.before.before in
     let f = few (long (saved d)) in
-    (omega (arith, f, same (long (saved d))), kept-length _ mostJobs (ends (saved d)) d.work.new.1.0 (saved d).save2.ensures.1 f (ends-length d))
+    (omega (arith, f, same (long (saved d))), kept_length _ most_jobs (ends (saved d)) d.work.new.1.0 (saved d).save2.ensures.1 f (ends-length d))
 
 returns-3 : tie.Need-returns-3
 returns-3 c =

@@ -2,7 +2,7 @@
 use mathlib.Core.Path.{◌∙◌}
 use borrow.Author.Rules.{rules}
 use Rattle.narrowing.specs.Windows.{win}
-use Rattle.stated.proofs.Steps.{own-early, own-late}
+use Rattle.stated.proofs.Steps.{own_early, own_late}
 use Rattle.stated.proofs.own_true.Statement.{statement}
 use Rattle.stated.proofs.own_true.Tie as tie
 
@@ -24,7 +24,7 @@ no-earlier-requires c κs = let s = c.before.before.before.before.before.before 
 returns : tie.Need-returns
 returns c =
     let a = c.before.before.before.before.before.before.before.args in
-    c.no-earlier.ensures ∙ own-early a.dur.now (win a.est.now a.lct.now) a.job _ a.t c.before.before.before.if1.true
+    c.no-earlier.ensures ∙ own_early a.dur.now (win a.est.now a.lct.now) a.job _ a.t c.before.before.before.if1.true
 
 mul-no-later : tie.Need-overflow-mul-no-later
 mul-no-later c = search rules
@@ -44,7 +44,7 @@ no-later-requires c κs = let s = c.before.before.before.before.before.before in
 returns-2 : tie.Need-returns-2
 returns-2 c =
     let a = c.before.before.before.before.before.before.before.args in
-    c.no-later.ensures ∙ own-late a.dur.now (win a.est.now a.lct.now) a.job _ a.t c.before.before.before.if1.false
+    c.no_later.ensures ∙ own_late a.dur.now (win a.est.now a.lct.now) a.job _ a.t c.before.before.before.if1.false
 
 pub own-true-spec : {M : Type 1} → statement M
 own-true-spec =

@@ -7,15 +7,15 @@ use lib.ListN.{length, length-drop}
 use borrow.Author.Rules.{rules}
 use borrow.Author.Tests.{not-true, not-false}
 use Rattle.lists.specs.Tests.{every}
-use Rattle.lists.proofs.Tests.{every-none, every_more, every-end}
+use Rattle.lists.proofs.Tests.{every_none, every_more, every_end}
 use Rattle.narrowing.specs.Windows.{win}
-use Rattle.journal.specs.Journal.{headWords, setOfRecord}
-use Rattle.stated.proofs.Steps.{trueAt, stated-own, stated-fault, stated-all}
+use Rattle.journal.specs.Journal.{head_words, set_of_record}
+use Rattle.stated.proofs.Steps.{true_at, stated_own, stated_fault, stated_all}
 use Rattle.stated.proofs.stated_true.Statement.{statement}
 use Rattle.stated.proofs.stated_true.Tie as tie
 
 abbrev invariant-loop : tie.invariant-loop
-invariant-loop est lct dur words t job set k₀ k = (k ≤ 32 * length set) × (every (trueAt dur (win est lct) set t) k ≡ true)
+invariant-loop est lct dur words t job set k₀ k = (k ≤ 32 * length set) × (every (true_at dur (win est lct) set t) k ≡ true)
 
 abbrev decreases-loop : tie.decreases-loop
 decreases-loop est lct dur words t job set k₀ k = 32 * length set - k
@@ -25,8 +25,8 @@ decreases-loop est lct dur words t job set k₀ k = 32 * length set - k
 abbrev begun : tie.At-loop invariant-loop decreases-loop → tie.Start invariant-loop decreases-loop
 begun d = d.before.before.before.before.before.before.before.before.before.before.before
 
-set-length : (d : tie.At-loop invariant-loop decreases-loop) → length d.before.set-of.result.now ≡ length (begun d).args.words.now - headWords
-set-length d = ap length d.before.set-of.ensures ∙ length-drop headWords (begun d).args.words.now
+set-length : (d : tie.At-loop invariant-loop decreases-loop) → length d.before.set_of.result.now ≡ length (begun d).args.words.now - head_words
+set-length d = ap length d.before.set_of.ensures ∙ length-drop head_words (begun d).args.words.now
 
 -- ---- the needs
 
@@ -49,14 +49,14 @@ returns : tie.Need-returns invariant-loop decreases-loop
 returns c =
     let a = c.before.before.before.before.before.before.before.before.before.args in
     sym
-    (stated-own a.dur.now (win a.est.now a.lct.now) a.words.now (setOfRecord a.words.now) refl
+    (stated_own a.dur.now (win a.est.now a.lct.now) a.words.now (set_of_record a.words.now) refl
     (sym c.before.own-true.ensures ∙ not-true _ c.if1.true))
 
 set-of-requires : tie.Need-set-of-requires invariant-loop decreases-loop
 set-of-requires c κs = search rules
 
 loop-holds : tie.Need-loop-init invariant-loop decreases-loop
-loop-holds c = (omega arith, every-none _)
+loop-holds c = (omega arith, every_none _)
 
 mul-loop : tie.Need-overflow-mul-loop invariant-loop decreases-loop
 mul-loop c = omega (arith, set-length c, (begun c).requires.1.words)
@@ -65,15 +65,15 @@ member-true-requires : tie.Need-member-true-requires invariant-loop decreases-lo
 member-true-requires c κs =
     let d = c.before in
     let p = (begun d).requires in
-    (p.0, rw d.before.set-of.ensures (p.1.members d.loop.k), p.1.time)
+    (p.0, rw d.before.set_of.ensures (p.1.members d.loop.k), p.1.time)
 
 returns-2 : tie.Need-returns-2 invariant-loop decreases-loop
 returns-2 c =
     let d = c.before.before.before in
     let a = (begun d).args in
-    let set = d.before.set-of in
+    let set = d.before.set_of in
     sym
-    (stated-fault a.dur.now (win a.est.now a.lct.now) a.words.now set.result.now set.ensures d.loop.k c.before.before.loop-test.true
+    (stated_fault a.dur.now (win a.est.now a.lct.now) a.words.now set.result.now set.ensures d.loop.k c.before.before.loop-test.true
     (sym c.before.member-true.ensures ∙ not-true _ c.if2.true))
 
 add-k : tie.Need-overflow-add-k invariant-loop decreases-loop
@@ -92,12 +92,12 @@ returns-3 c =
     let d = c.before in
     let a = (begun d).args in
     let l = d.loop in
-    let set = d.before.set-of in
+    let set = d.before.set_of in
     let passed = d.before.before in
     sym
-    (stated-all a.dur.now (win a.est.now a.lct.now) a.words.now set.result.now set.ensures
+    (stated_all a.dur.now (win a.est.now a.lct.now) a.words.now set.result.now set.ensures
     (sym passed.before.own-true.ensures ∙ not-false _ passed.if1.false)
-    (every-end _ (32 * length set.result.now) l.k l.invariant.0 c.loop-test.false l.invariant.1))
+    (every_end _ (32 * length set.result.now) l.k l.invariant.0 c.loop-test.false l.invariant.1))
 
 pub stated-true-spec : {M : Type 1} → statement M
 stated-true-spec =

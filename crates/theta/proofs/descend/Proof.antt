@@ -1,6 +1,6 @@
 -- `theta::descend` meets its contract. The loop's invariant, `Walking`: what is left of the descent ends where the whole does.
 -- The measure is what is left of the node's numbers: a child's number is the greater.
-use Rattle.theta.proofs.Walks.{child-more, Walking, walk_start, walk-tail, walk_step, walk_end}
+use Rattle.theta.proofs.Walks.{child_more, Walking, walk_start, walk_tail, walk_step, walk_end}
 use Prim.Native.Nat.{◌+◌, ◌-◌, ◌*◌}
 use mathlib.Core.Path.{refl}
 use native.Mathlib.Omega.{arith}
@@ -8,20 +8,20 @@ use borrow.Author.Rules.{rules}
 use mir.Facts.{to_z-of_z}
 use mir.Syntax.{w64}
 use mir.Val.{SFits}
-use Rattle.joblist.specs.Limits.{mostJobs}
+use Rattle.joblist.specs.Limits.{most_jobs}
 use Rattle.theta.specs.Theta.{depth, end_of}
-use Rattle.theta.proofs.Ranges.{sum-under, end-under, end_fits}
+use Rattle.theta.proofs.Ranges.{sum_under, end_under, end_fits}
 use Rattle.theta.proofs.descend.Statement.{statement}
 use Rattle.theta.proofs.descend.Tie as tie
 
 abbrev invariant-loop : tie.invariant-loop
-invariant-loop sums ends b v₀ tail₀ v tail = Walking mostJobs depth sums ends b v tail
+invariant-loop sums ends b v₀ tail₀ v tail = Walking most_jobs depth sums ends b v tail
 
 abbrev decreases-loop : tie.decreases-loop
-decreases-loop sums ends b v₀ tail₀ v tail = 2 * mostJobs - v
+decreases-loop sums ends b v₀ tail₀ v tail = 2 * most_jobs - v
 
 loop-holds : tie.Need-loop-init invariant-loop decreases-loop
-loop-holds c = walk_start mostJobs depth _ _ _ refl
+loop-holds c = walk_start most_jobs depth _ _ _ refl
 
 -- ---- a turn, and the start of the call
 
@@ -50,7 +50,7 @@ element-copy-out-exceeds c = search rules
 exceeds-requires : tie.Need-exceeds-requires invariant-loop decreases-loop
 exceeds-requires c κs =
     let d = c.before in
-    rw (to_z-of_z (right-fits d)) (end-under _ _ (started d).requires.0 (2 * d.before.loop.v + 1) (omega arith))
+    rw (to_z-of_z (right-fits d)) (end_under _ _ (started d).requires.0 (2 * d.before.loop.v + 1) (omega arith))
 
 mul-tail-of : tie.Need-overflow-mul-tail-of invariant-loop decreases-loop
 mul-tail-of c = search rules
@@ -64,8 +64,8 @@ tail-of-requires c κs =
     let s = started d in
     omega (
       arith,
-      walk-tail mostJobs depth _ _ _ _ _ s.pre.1 d.loop-test.true d.before.loop.invariant,
-      sum-under mostJobs s.args.sums.now s.args.ends.now s.pre.0 1 (omega arith),
+      walk_tail most_jobs depth _ _ _ _ _ s.pre.1 d.loop-test.true d.before.loop.invariant,
+      sum_under most_jobs s.args.sums.now s.args.ends.now s.pre.0 1 (omega arith),
     )
 
 child-requires : tie.Need-child-requires invariant-loop decreases-loop
@@ -74,7 +74,7 @@ child-requires c κs = search rules
 loop-less : tie.Need-loop-smaller invariant-loop decreases-loop
 loop-less c =
     let l = c.before.before.before.before.before.before.loop in
-    omega (arith, c.child.ensures, child-more c.before.before.before.exceeds.result l.v l.invariant.start)
+    omega (arith, c.child.ensures, child_more c.before.before.before.exceeds.result l.v l.invariant.start)
 
 loop-again : tie.Need-loop-preserved invariant-loop decreases-loop
 loop-again c =
@@ -83,11 +83,11 @@ loop-again c =
     let a = (started d).args in
     let l = d.before.loop in
     rw (c.child.ensures, c.before.Tail-of.ensures)
-    (walk_step mostJobs depth a.sums.now a.ends.now a.b l.v l.tail (started d).requires.1 d.loop-test.true l.invariant x.result
+    (walk_step most_jobs depth a.sums.now a.ends.now a.b l.v l.tail (started d).requires.1 d.loop-test.true l.invariant x.result
     (rw (to_z-of_z (right-fits d)) at x.ensures))
 
 returns : tie.Need-returns invariant-loop decreases-loop
-returns c = walk_end mostJobs depth _ _ _ _ _ c.loop-test.false c.before.loop.invariant
+returns c = walk_end most_jobs depth _ _ _ _ _ c.loop-test.false c.before.loop.invariant
 
 pub descend-spec : {M : Type 1} → statement M
 descend-spec =

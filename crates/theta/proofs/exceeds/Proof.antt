@@ -2,7 +2,7 @@
 use native.Mathlib.Omega.{arith}
 use mir.Facts.{to_z-of_z, to_z_pos}
 use mir.Syntax.{w64}
-use Rattle.lists.proofs.Signed.{mag-add}
+use Rattle.lists.proofs.Signed.{mag_add}
 use borrow.Author.Rules.{rules}
 use Rattle.theta.proofs.exceeds.Statement.{statement}
 use Rattle.theta.proofs.exceeds.Tie as tie
@@ -16,7 +16,7 @@ cast-result-2 c = search rules
 add-result : tie.Need-overflow-add-result
 add-result c =
     let a = c.args in
-    rw (to_z-of_z c.ranges.end, to_z_pos w64 {n = a.tail} (omega arith)) record { sfits = omega (arith, mag-add a.end a.tail) }
+    rw (to_z-of_z c.ranges.end, to_z_pos w64 {n = a.tail} (omega arith)) record { sfits = omega (arith, mag_add a.end a.tail) }
 
 returns : tie.Need-returns
 returns c =

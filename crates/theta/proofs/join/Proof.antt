@@ -7,7 +7,7 @@ use mir.Syntax.{w64}
 use mir.Val.{to_z, of_z}
 use lib.IntN.{pos, ◌+ℤ◌}
 use lib.Signed.{lt_z}
-use Rattle.lists.proofs.Signed.{mag-add}
+use Rattle.lists.proofs.Signed.{mag_add}
 use borrow.Author.Rules.{rules}
 use Rattle.theta.proofs.join.Statement.{statement}
 use Rattle.theta.proofs.join.Tie as tie
@@ -18,7 +18,7 @@ cast-moved c = search rules
 add-moved : tie.Need-overflow-add-moved
 add-moved c =
     let a = c.args in
-    rw (to_z-of_z c.ranges.left, to_z_pos w64 {n = a.total} (omega arith)) record { sfits = omega (arith, mag-add a.left a.total) }
+    rw (to_z-of_z c.ranges.left, to_z_pos w64 {n = a.total} (omega arith)) record { sfits = omega (arith, mag_add a.left a.total) }
 
 -- what the code compares
 moved : (c : tie.Start) → to_z w64 (of_z w64 (to_z w64 (of_z w64 c.args.left) +ℤ to_z w64 c.args.total)) ≡ c.args.left +ℤ pos c.args.total

@@ -4,8 +4,8 @@ use Prim.Native.Nat.{◌+◌}
 use mir.Facts.{to_z_pos}
 use mir.Syntax.{w64}
 use lib.IntN.{pos}
-use Rattle.joblist.specs.Limits.{mostJobs}
-use Rattle.theta.proofs.Climbs.{put-changed}
+use Rattle.joblist.specs.Limits.{most_jobs}
+use Rattle.theta.proofs.Climbs.{put_changed}
 use borrow.Author.Rules.{rules}
 use Rattle.theta.proofs.put.Statement.{statement}
 use Rattle.theta.proofs.put.Tie as tie
@@ -36,7 +36,7 @@ climb-requires c κs =
     let a = c.before.before.args in
     let q = c.before.before.requires.1 in
     rw (to_z_pos w64 {n = a.e + a.p} (omega (arith, q.1, q.2)))
-    (put-changed mostJobs a.sums.now a.ends.now a.x a.p (pos (a.e + a.p)) q.0 c.before.before.requires.0.0 c.before.before.requires.0.1 q.2 (omega (arith, q.1, q.2)))
+    (put_changed most_jobs a.sums.now a.ends.now a.x a.p (pos (a.e + a.p)) q.0 c.before.before.requires.0.0 c.before.before.requires.0.1 q.2 (omega (arith, q.1, q.2)))
 
 returns : tie.Need-returns
 returns c =

@@ -7,9 +7,9 @@ use mir.Syntax.{w64}
 use mir.Val.{SFits}
 use lib.ListN.{set}
 use borrow.Author.Rules.{sfits_of, rules}
-use Rattle.joblist.specs.Limits.{mostJobs}
+use Rattle.joblist.specs.Limits.{most_jobs}
 use Rattle.theta.specs.Theta.{end_of}
-use Rattle.theta.proofs.Ranges.{child-sums, end-under, end_fits}
+use Rattle.theta.proofs.Ranges.{child_sums, end_under, end_fits}
 use Rattle.theta.proofs.settle.Statement.{statement}
 use Rattle.theta.proofs.settle.Tie as tie
 
@@ -47,7 +47,7 @@ element-copy-out-join-3 c = search rules
 join-requires : tie.Need-join-requires
 join-requires c κs =
     let s = c.before.before.before in
-    rw (to_z-of_z (child_fits s).0) (end-under _ _ s.requires.0 (2 * s.args.v) (omega (arith, s.requires.1)))
+    rw (to_z-of_z (child_fits s).0) (end_under _ _ s.requires.0 (2 * s.args.v) (omega (arith, s.requires.1)))
 
 mul-sum : tie.Need-overflow-mul-sum
 mul-sum c = search rules
@@ -64,7 +64,7 @@ element-copy-out-sum-2 c = search rules
 add-sum : tie.Need-overflow-add-sum
 add-sum c =
     let s = c.before.before.before.before.before.before in
-    omega (arith, child-sums mostJobs s.args.sums.now s.args.ends.now s.requires.0 s.args.v s.requires.1)
+    omega (arith, child_sums most_jobs s.args.sums.now s.args.ends.now s.requires.0 s.args.v s.requires.1)
 
 mul-end : tie.Need-overflow-mul-end
 mul-end c = search rules

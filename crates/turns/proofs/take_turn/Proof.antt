@@ -4,11 +4,11 @@ use native.Mathlib.Omega.{arith}
 use mathlib.Core.Path.{refl, sym, ◌∙◌}
 use borrow.Author.Rules.{rules}
 use Rattle.narrowing.specs.Windows.{win}
-use Rattle.joblist.specs.Limits.{mostTime}
+use Rattle.joblist.specs.Limits.{most_time}
 use Rattle.timetable.specs.Table.{Call, call}
 use Rattle.searches.proofs.Answers.{found_some, found_none}
 use Rattle.turns.specs.Moves.{Moves}
-use Rattle.turns.proofs.Turns.{turn-time, turn-moves}
+use Rattle.turns.proofs.Turns.{turn_time, turn_moves}
 use Rattle.turns.proofs.take_turn.Statement.{statement}
 use Rattle.turns.proofs.take_turn.Tie as tie
 
@@ -23,11 +23,11 @@ here s = let a = s.args in call (win a.est.now a.lct.now) a.dur.now a.dem.now a.
 abbrev time : tie.Else1 → ℕ
 time d = d.before.before.before.before.found.given.0.0
 
-in-time : (d : tie.Else1) → time d ≤ mostTime
+in-time : (d : tie.Else1) → time d ≤ most_time
 in-time d =
     let s = begun d in
     let hit = d.before.before.before.before in
-    turn-time _ _ _ _ _ s.args.log.now s.args.at _ _ hit.before.before.next-time.ensures hit.found.given.1 s.pre.0 s.pre.1
+    turn_time _ _ _ _ _ s.args.log.now s.args.at _ _ hit.before.before.next-time.ensures hit.found.given.1 s.pre.0 s.pre.1
 
 -- ---- its record is noted and the bound moved
 
@@ -40,7 +40,7 @@ moves : (d : tie.After-shift)
 moves d =
     let r = passed d in
     let hit = r.before.before.before.before in
-    turn-moves _ _ _ _ _ _ _ _ _ hit.before.before.next-time.ensures hit.found.given.1 _ _ _
+    turn_moves _ _ _ _ _ _ _ _ _ hit.before.before.next-time.ensures hit.found.given.1 _ _ _
     (omega (arith, r.before.room.ensures, r.if1.left)) d.shift.ensures.0 d.before.before.before.before.before.note.ensures
 
 -- ---- the needs

@@ -1,6 +1,6 @@
 -- `walking::advance` meets its contract: a successor where one is left, the end behind the last row, else the head of the next row.
 use Prim.Native.Nat.{◌≤◌, ◌<◌}
-use Rattle.walking.proofs.Steps.{step-successor, step-refused, step-done, step-headless, step-begun}
+use Rattle.walking.proofs.Steps.{step_successor, step_refused, step_done, step_headless, step_begun}
 use native.Mathlib.Omega.{arith}
 use borrow.Author.Rules.{rules}
 use Rattle.walking.proofs.advance.Statement.{statement}
@@ -33,7 +33,7 @@ returns : tie.Need-returns
 returns c =
     let t = c.before.before.before.before in
     let q = rw c.before.v.given.1 at c.before.before.before.read-link.ensures in
-    step-successor _ _ _ _ _ (owing t).requires.0 _ _ (some_left t) q
+    step_successor _ _ _ _ _ (owing t).requires.0 _ _ (some_left t) q
 
 enum-known-c : tie.Need-enum-known-c
 enum-known-c c = search rules
@@ -42,10 +42,10 @@ returns-2 : tie.Need-returns-2
 returns-2 c =
     let t = c.before.before.before.before in
     let q = rw c.before.c.given.1 at c.before.before.before.read-link.ensures in
-    step-refused _ _ _ _ _ (owing t).requires.0 _ (some_left t) q
+    step_refused _ _ _ _ _ (owing t).requires.0 _ (some_left t) q
 
 returns-3 : tie.Need-returns-3
-returns-3 c = step-done _ _ _ _ _ c.before.before.before.requires.0 (omega (arith, c.before.if1.false)) c.if2.true
+returns-3 c = step_done _ _ _ _ _ c.before.before.before.requires.0 (omega (arith, c.before.if1.false)) c.if2.true
 
 read-front-requires : tie.Need-read-front-requires
 read-front-requires c κs = search rules
@@ -63,13 +63,13 @@ returns-4 : tie.Need-returns-4
 returns-4 c =
     let e = c.before.before.before.before in
     let q = rw c.before.d.given.1 at c.before.before.before.read-front.ensures in
-    step-begun _ _ _ _ _ (free e).requires.0 (none_left e) _ _ _ _ q.0 (free e).requires.1 e.if2.false q.1 q.2 q.3 q.4
+    step_begun _ _ _ _ _ (free e).requires.0 (none_left e) _ _ _ _ q.0 (free e).requires.1 e.if2.false q.1 q.2 q.3 q.4
 
 returns-5 : tie.Need-returns-5
 returns-5 c =
     let e = c.before.before.before.before in
     let q = rw c.before.c2.given.1 at c.before.before.before.read-front.ensures in
-    step-headless _ _ _ _ _ (free e).requires.0 (none_left e) _ e.if2.false q
+    step_headless _ _ _ _ _ (free e).requires.0 (none_left e) _ e.if2.false q
 
 pub advance-spec : {M : Type 1} → statement M
 advance-spec =

@@ -1,7 +1,7 @@
 -- `windows::closed` meets its contract.
 use mathlib.Core.Path.{sym}
 use borrow.Author.Rules.{rules}
-use Rattle.windows.proofs.TooShort.{closes_by, closes-below}
+use Rattle.windows.proofs.TooShort.{closes_by, closes_below}
 use Rattle.windows.proofs.closed.Statement.{statement}
 use Rattle.windows.proofs.closed.Tie as tie
 
@@ -27,7 +27,7 @@ returns : tie.Need-returns
 returns c = closes_by _ _ _ c.if1.true
 
 returns-2 : tie.Need-returns-2
-returns-2 c = sym (closes-below _ _ _ c.if1.false)
+returns-2 c = sym (closes_below _ _ _ c.if1.false)
 
 pub closed-spec : {M : Type 1} → statement M
 closed-spec =

@@ -4,7 +4,7 @@ use native.Mathlib.Omega.{arith}
 use mathlib.Core.Path.{◌≡◌, refl, ◌∙◌}
 use lib.ListN.{length, length-set}
 use borrow.Author.Rules.{rules}
-use Rattle.windows.proofs.Copies.{copied, copied_more, copied-full, copied_all}
+use Rattle.windows.proofs.Copies.{copied, copied_more, copied_full, copied_all}
 use Rattle.windows.proofs.copy.Statement.{statement}
 use Rattle.windows.proofs.copy.Tie as tie
 
@@ -24,7 +24,7 @@ returns : tie.Need-returns invariant-loop decreases-loop
 returns c =
     let l = c.before.before.loop in
     let a = c.before.before.before.args in
-    l.invariant.3 ∙ copied-full a.from.now a.to.now l.i (omega arith) (omega arith)
+    l.invariant.3 ∙ copied_full a.from.now a.to.now l.i (omega arith) (omega arith)
 
 mul-to : tie.Need-overflow-mul-to invariant-loop decreases-loop
 mul-to c = search rules

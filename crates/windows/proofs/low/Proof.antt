@@ -7,7 +7,7 @@ use mir.Syntax.{w32}
 use mir.Val.{SFits, to_z}
 use lib.IntN.{pos, sub_ℕ, ◌-ℤ◌, ◌+ℤ◌}
 use borrow.Author.Rules.{rules}
-use Rattle.lists.proofs.Signed.{pos-sub, sub-add, sub-mag}
+use Rattle.lists.proofs.Signed.{pos_sub, sub-add, sub_mag}
 use Rattle.windows.proofs.low.Statement.{statement}
 use Rattle.windows.proofs.low.Tie as tie
 
@@ -18,10 +18,10 @@ cast-result-2 : tie.Need-overflow-cast-result-2
 cast-result-2 c = search rules
 
 diff : (c : tie.Start) → to_z w32 c.args.t -ℤ to_z w32 c.args.p ≡ sub_ℕ c.args.t c.args.p
-diff c = rw (to_z_pos w32 {n = c.args.t} (omega arith), to_z_pos w32 {n = c.args.p} (omega arith)) (pos-sub c.args.t c.args.p)
+diff c = rw (to_z_pos w32 {n = c.args.t} (omega arith), to_z_pos w32 {n = c.args.p} (omega arith)) (pos_sub c.args.t c.args.p)
 
 diff-fits : (c : tie.Start) → SFits w32 (to_z w32 c.args.t -ℤ to_z w32 c.args.p)
-diff-fits c = rw (diff c) record { sfits = sub-mag c.args.t c.args.p 2147483648 (omega arith) (omega arith) }
+diff-fits c = rw (diff c) record { sfits = sub_mag c.args.t c.args.p 2147483648 (omega arith) (omega arith) }
 
 sub-result : tie.Need-overflow-sub-result
 sub-result c = diff-fits c
@@ -29,10 +29,10 @@ sub-result c = diff-fits c
 add-result : tie.Need-overflow-add-result
 add-result c =
     rw (to_z-of_z (diff-fits c), diff c, sub-add c.args.t c.args.p 1)
-    record { sfits = sub-mag (c.args.t + 1) c.args.p 2147483648 (omega arith) (omega arith) }
+    record { sfits = sub_mag (c.args.t + 1) c.args.p 2147483648 (omega arith) (omega arith) }
 
 returns : tie.Need-returns
-returns c = to_z-of_z (add-result c) ∙ ap (λ z. z +ℤ pos 1) (to_z-of_z (diff-fits c) ∙ diff c ∙ sym (pos-sub c.args.t c.args.p))
+returns c = to_z-of_z (add-result c) ∙ ap (λ z. z +ℤ pos 1) (to_z-of_z (diff-fits c) ∙ diff c ∙ sym (pos_sub c.args.t c.args.p))
 
 pub low-spec : {M : Type 1} → statement M
 low-spec = tie.close (tie.spec cast-result cast-result-2 sub-result add-result returns)

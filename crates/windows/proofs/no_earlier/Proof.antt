@@ -6,7 +6,7 @@ use native.Mathlib.Numerals.{add-one}
 use mir.Facts.{to_z-of_z, to_z_pos}
 use mir.Syntax.{w32}
 use borrow.Author.Rules.{rules, sfits_of}
-use Rattle.lists.proofs.Signed.{pos-is, pos-sub, sub-add, sub-leb}
+use Rattle.lists.proofs.Signed.{pos_is, pos_sub, sub-add, sub_leb}
 use Rattle.windows.proofs.no_earlier.Statement.{statement}
 use Rattle.windows.proofs.no_earlier.Tie as tie
 
@@ -23,10 +23,10 @@ returns c =
       to_z-of_z (sfits_of {w = w32} c.low.type-inv),
       to_z_pos w32 {n = a.e} (omega arith),
       c.low.ensures,
-      pos-sub a.t a.p,
+      pos_sub a.t a.p,
       sub-add a.t a.p 1,
-      pos-is a.e,
-      sub-leb (a.t + 1) a.p a.e 0,
+      pos_is a.e,
+      sub_leb (a.t + 1) a.p a.e 0,
       add-zero,
       add-one,
     )

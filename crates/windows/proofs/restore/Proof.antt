@@ -2,7 +2,7 @@
 use native.Mathlib.Omega.{arith}
 use mathlib.Core.Path.{◌∙◌}
 use borrow.Author.Rules.{rules}
-use Rattle.windows.proofs.Copies.{over-whole}
+use Rattle.windows.proofs.Copies.{over_whole}
 use Rattle.windows.proofs.restore.Statement.{statement}
 use Rattle.windows.proofs.restore.Tie as tie
 
@@ -15,7 +15,7 @@ same_length c = search rules
 returns : tie.Need-returns
 returns c =
     let a = c.before.before.before.before.before.before.args in
-    c.before.before.copy.ensures ∙ over-whole a.from.now a.to.now (omega (arith, c.before.before.before.before.before.before.requires))
+    c.before.before.copy.ensures ∙ over_whole a.from.now a.to.now (omega (arith, c.before.before.before.before.before.before.requires))
 
 pub restore-spec : {M : Type 1} → statement M
 restore-spec = tie.close (tie.spec copy-requires same_length returns)

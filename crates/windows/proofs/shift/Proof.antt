@@ -1,5 +1,5 @@
 -- `windows::shift` meets its contract: each side by its number.
-use Rattle.windows.proofs.Steps.{shift-early, shift-late}
+use Rattle.windows.proofs.Steps.{shift_early, shift_late}
 use borrow.Author.Rules.{rules}
 use Rattle.windows.proofs.shift.Statement.{statement}
 use Rattle.windows.proofs.shift.Tie as tie
@@ -25,7 +25,7 @@ same_length c = search rules
 returns : tie.Need-returns
 returns c =
     let a = c.before.before.args in
-    shift-early a.est.now a.lct.now a.job a.side a.time c.before.if1.true
+    shift_early a.est.now a.lct.now a.job a.side a.time c.before.if1.true
 
 mul-end : tie.Need-overflow-mul-end
 mul-end c = search rules
@@ -45,7 +45,7 @@ same-length-2 c = search rules
 returns-2 : tie.Need-returns-2
 returns-2 c =
     let a = c.before.before.args in
-    shift-late a.est.now a.lct.now a.job a.side a.time c.before.if1.false
+    shift_late a.est.now a.lct.now a.job a.side a.time c.before.if1.false
 
 pub shift-spec : {M : Type 1} → statement M
 shift-spec =

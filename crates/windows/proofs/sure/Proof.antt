@@ -9,13 +9,13 @@ no-later-requires : tie.Need-no-later-requires
 no-later-requires c κs = search rules
 
 returns : tie.Need-returns
-returns c = rw (sym c.before.no-later.ensures ∙ not-true _ c.if1.true)
+returns c = rw (sym c.before.no_later.ensures ∙ not-true _ c.if1.true)
 
 no-earlier-requires : tie.Need-no-earlier-requires
 no-earlier-requires c κs = search rules
 
 returns-2 : tie.Need-returns-2
-returns-2 c = c.no-earlier.ensures ∙ rw (sym c.before.before.no-later.ensures ∙ not-false _ c.before.if1.false)
+returns-2 c = c.no-earlier.ensures ∙ rw (sym c.before.before.no_later.ensures ∙ not-false _ c.before.if1.false)
 
 pub sure-spec : {M : Type 1} → statement M
 sure-spec = tie.close (tie.spec no-later-requires returns no-earlier-requires returns-2)

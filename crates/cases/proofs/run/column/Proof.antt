@@ -6,15 +6,15 @@ use native.Mathlib.Omega.{arith}
 use borrow.Author.Tests.{ltb-true}
 use lib.ListN.{length}
 use borrow.Author.Rules.{rules}
-use Rattle.joblist.specs.Limits.{mostJobs}
+use Rattle.joblist.specs.Limits.{most_jobs}
 use Rattle.cases.proofs.run.column.Statement.{statement}
 use Rattle.cases.proofs.run.column.Tie as tie
 
 abbrev invariant-loop : tie.invariant-loop
-invariant-loop words₀ at jobs width place next₀ n₀ i₀ words next n i = (n ≤ mostJobs + 1) × (length words ≡ length words₀)
+invariant-loop words₀ at jobs width place next₀ n₀ i₀ words next n i = (n ≤ most_jobs + 1) × (length words ≡ length words₀)
 
 abbrev decreases-loop : tie.decreases-loop
-decreases-loop words₀ at jobs width place next₀ n₀ i₀ words next n i = mostJobs + 1 - n
+decreases-loop words₀ at jobs width place next₀ n₀ i₀ words next n i = most_jobs + 1 - n
 
 put-requires : tie.Need-put-requires invariant-loop decreases-loop
 put-requires c κs = search rules

@@ -4,13 +4,13 @@ use Prim.Native.Nat.{◌<◌}
 use native.Mathlib.Omega.{arith}
 use borrow.Author.Rules.{rules}
 use lib.ListN.{length, drop}
-use Rattle.joblist.specs.Limits.{mostJobs}
+use Rattle.joblist.specs.Limits.{most_jobs}
 use Rattle.texts.specs.Tokens.{tokens}
 use Rattle.walking.specs.Walk.{Fit}
 use Rattle.walking.specs.Comes.{comes, rows_at}
 use Rattle.precedence.specs.Pairs.{PullSays}
 use Rattle.precedence.specs.declared.Pull.TheVariants.{Next}
-use Rattle.passes.proofs.Relaxing.{Relaxing, relaxing-start, relaxing-kept, relaxing-rose, relaxing-over, relaxing-same, relaxing-changed, both_below}
+use Rattle.passes.proofs.Relaxing.{Relaxing, relaxing_start, relaxing_kept, relaxing_rose, relaxing_over, relaxing_same, relaxing_changed, both_below}
 use Rattle.precedence.proofs.rounds.relax.Statement.{statement}
 use Rattle.precedence.proofs.rounds.relax.Tie as tie
 
@@ -34,13 +34,13 @@ looped e = e.before.before.before.before.before.before
 pulled : (e : Paired) → let a = (started e).args in let g = e.before.before.before.a.given.0 in PullSays a.n a.table a.text.now (looped e).loop.w (Next g.0 g.1.0 g.1.1.0)
 pulled e = rw e.before.before.before.a.given.1 at e.before.before.before.before.before.next-pair.ensures
 
-ends : (e : Paired) → (e.before.select.result < mostJobs) × (e.select2.result < mostJobs)
-ends e = both_below (started e).args.back _ _ _ _ _ mostJobs e.before.select.ensures e.select2.ensures (pulled e).3 (pulled e).4 (started e).pre.0.0
+ends : (e : Paired) → (e.before.select.result < most_jobs) × (e.select2.result < most_jobs)
+ends e = both_below (started e).args.back _ _ _ _ _ most_jobs e.before.select.ensures e.select2.ensures (pulled e).3 (pulled e).4 (started e).pre.0.0
 
 loop-holds : tie.Need-loop-init invariant-loop decreases-loop
 loop-holds c =
     let q = c.before.requires in
-    (record { begun = omega arith; owned = omega arith }, relaxing-start _ _ _ _ _ q.0.2 q.1.1)
+    (record { begun = omega arith; owned = omega arith }, relaxing_start _ _ _ _ _ q.0.2 q.1.1)
 
 next-pair-requires : tie.Need-next-pair-requires invariant-loop decreases-loop
 next-pair-requires c κs = (c.loop.invariant.0, c.before.before.requires.0.0)
@@ -52,13 +52,13 @@ returns : tie.Need-returns invariant-loop decreases-loop
 returns c =
     let t = rw c.before.enum_told.given.1 at c.before.before.before.next-pair.ensures in
     let g = c.before.before.before.before.loop.invariant.1 in
-    (relaxing-changed _ _ _ _ _ _ _ _ g t c.if1.true, g.long)
+    (relaxing_changed _ _ _ _ _ _ _ _ g t c.if1.true, g.long)
 
 returns-2 : tie.Need-returns-2 invariant-loop decreases-loop
 returns-2 c =
     let t = rw c.before.enum_told.given.1 at c.before.before.before.next-pair.ensures in
     let g = c.before.before.before.before.loop.invariant.1 in
-    (relaxing-same _ _ _ _ _ _ _ _ g t c.if1.false, g.long)
+    (relaxing_same _ _ _ _ _ _ _ _ g t c.if1.false, g.long)
 
 enum-known-a : tie.Need-enum-known-a invariant-loop decreases-loop
 enum-known-a c = search rules
@@ -97,7 +97,7 @@ loop-again c =
     let e = c.before.before.before.before.before in
     let t = pulled e in
     let h = rw c.enum-told2.given.1 at c.before.before.lift.ensures.0 in
-    (t.1, relaxing-kept _ _ _ _ _ _ _ _ (looped e).loop.invariant.1 _ _ _ t.0 _ _ e.before.select.ensures e.select2.ensures _ h)
+    (t.1, relaxing_kept _ _ _ _ _ _ _ _ (looped e).loop.invariant.1 _ _ _ t.0 _ _ e.before.select.ensures e.select2.ensures _ h)
 
 enum-told-3 : tie.Need-enum-told-3 invariant-loop decreases-loop
 enum-told-3 c = search rules
@@ -110,7 +110,7 @@ loop-again-2 c =
     let e = c.before.before.before.before.before in
     let t = pulled e in
     let h = rw c.enum-told3.given.1 at c.before.before.lift.ensures.0 in
-    (t.1, relaxing-rose _ _ _ _ _ _ _ _ (looped e).loop.invariant.1 _ _ _ t.0 _ _ e.before.select.ensures e.select2.ensures _ (ends e).1 h)
+    (t.1, relaxing_rose _ _ _ _ _ _ _ _ (looped e).loop.invariant.1 _ _ _ t.0 _ _ e.before.select.ensures e.select2.ensures _ (ends e).1 h)
 
 enum-told-4 : tie.Need-enum-told-4 invariant-loop decreases-loop
 enum-told-4 c = search rules
@@ -119,7 +119,7 @@ returns-3 : tie.Need-returns-3 invariant-loop decreases-loop
 returns-3 c =
     let e = c.before.before.before.before.before in
     let h = rw c.enum-told4.given.1 at c.before.before.lift.ensures.0 in
-    (relaxing-over _ _ _ _ _ _ _ _ (looped e).loop.invariant.1 _ _ _ (pulled e).0 _ _ e.before.select.ensures e.select2.ensures _ h, c.before.before.lift.ensures.1)
+    (relaxing_over _ _ _ _ _ _ _ _ (looped e).loop.invariant.1 _ _ _ (pulled e).0 _ _ e.before.select.ensures e.select2.ensures _ h, c.before.before.lift.ensures.1)
 
 pub relax-spec : {M : Type 1} → statement M
 relax-spec =

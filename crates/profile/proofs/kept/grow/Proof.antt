@@ -1,6 +1,6 @@
 -- `profile::kept::grow` meets its contract: two points cut and the levels between them lifted raise each function that is kept.
 use native.Mathlib.Omega.{arith}
-use Rattle.profile.proofs.Raised.{before-to, low-all, raises}
+use Rattle.profile.proofs.Raised.{before_to, low_all, raises}
 use Rattle.profile.proofs.Keeping.{grows_none, grows}
 use borrow.Author.Rules.{rules}
 use Rattle.profile.proofs.kept.grow.Statement.{statement}
@@ -37,7 +37,7 @@ lift-requires c κs =
     let D = t.cut2.ensures in
     let h = (apart (first t)).if1.false in
     let p = (started (first t)).requires in
-    (omega (arith, before-to C h p.near D), omega (arith, D.listed, D.points.grid.inside, D.points.beside), low-all C h p.near D _ p.low, p.small)
+    (omega (arith, before_to C h p.near D), omega (arith, D.listed, D.points.grid.inside, D.points.beside), low_all C h p.near D _ p.low, p.small)
 
 same_length : tie.Need-same-length
 same_length c = search rules

@@ -5,11 +5,11 @@ use borrow.Author.Rules.{rules}
 use Prim.Native.Nat.{◌-◌, ◌<◌}
 use native.Mathlib.Omega.{arith}
 use lib.ListN.{length}
-use Rattle.joblist.specs.Limits.{mostJobs}
+use Rattle.joblist.specs.Limits.{most_jobs}
 use Rattle.narrowing.specs.Windows.{win}
-use Rattle.theta.proofs.Ranges.{end-under}
+use Rattle.theta.proofs.Ranges.{end_under}
 use Rattle.readhead.proofs.Sweeps.{going_start}
-use Rattle.readhead.proofs.Turns.{Turning, next-in, turn_on, turn-reached, turn-found, turn-none, root-read}
+use Rattle.readhead.proofs.Turns.{Turning, next_in, turn_on, turn_reached, turn_found, turn_none, root_read}
 use Rattle.readhead.proofs.sweep.sweep.Statement.{statement}
 use Rattle.readhead.proofs.sweep.sweep.Tie as tie
 
@@ -22,7 +22,7 @@ decreases-loop est lct dur place starts stops sums₀ ends₀ k₀ sums ends k =
 loop-holds : tie.Need-loop-init invariant-loop decreases-loop
 loop-holds c =
     let a = c.before.before.before.args in
-    going_start (length a.est.now) mostJobs a.dur.now (win a.est.now a.lct.now)
+    going_start (length a.est.now) most_jobs a.dur.now (win a.est.now a.lct.now)
 
 -- ---- a turn, with the start of the call and the place where the latest end has been tested
 
@@ -40,7 +40,7 @@ entered d = d.before.before
 
 -- the job that comes next
 next : (d : Turn) → (started d).args.stops.now ! d.before.loop.k < length (started d).args.est.now
-next d = next-in _ _ _ _ _ _ (started d).pre d.before.loop.k d.loop-test.taken
+next d = next_in _ _ _ _ _ _ (started d).pre d.before.loop.k d.loop-test.taken
 
 mul-j : tie.Need-overflow-mul-j invariant-loop decreases-loop
 mul-j c = search rules
@@ -73,7 +73,7 @@ due-requires : tie.Need-due-requires invariant-loop decreases-loop
 due-requires c κs =
     let s = (started c.before.before.before.before.before.before).pre in
     let r = c.before.enter.ensures.ranged in
-    ((rw s.good.sized.1.0 s.good.few, rw s.good.sized.1.0 s.by-stop, s.stops-long), rw (root-read _ _ r) (end-under _ _ r 1 (omega arith)))
+    ((rw s.good.sized.1.0 s.good.few, rw s.good.sized.1.0 s.by_stop, s.stops_long), rw (root_read _ _ r) (end_under _ _ r 1 (omega arith)))
 
 -- ---- the latest end is tested
 
@@ -83,7 +83,7 @@ start-of-requires c κs =
     let t = turn d in
     let s = (started t).pre in
     let e = (entered d).enter.ensures in
-    ((e.ranged, e.joins, s.starts-long), turn-reached _ _ _ _ _ _ s _ _ _ _ _ t.before.loop.inv t.loop-test.taken e _ d.due.ensures c.before.before.if1.true)
+    ((e.ranged, e.joins, s.starts_long), turn_reached _ _ _ _ _ _ s _ _ _ _ _ t.before.loop.inv t.loop-test.taken e _ d.due.ensures c.before.before.if1.true)
 
 returns : tie.Need-returns invariant-loop decreases-loop
 returns c =
@@ -91,7 +91,7 @@ returns c =
     let t = turn d in
     let e = (entered d).enter.ensures in
     rw c.start_of_lem.ensures
-    (turn-found _ _ _ _ _ _ (started t).pre _ _ _ _ _ t.before.loop.inv t.loop-test.taken e _ d.due.ensures c.before.before.before.if1.true)
+    (turn_found _ _ _ _ _ _ (started t).pre _ _ _ _ _ t.before.loop.inv t.loop-test.taken e _ d.due.ensures c.before.before.before.if1.true)
 
 loop-less : tie.Need-loop-smaller invariant-loop decreases-loop
 loop-less c = omega arith
@@ -104,7 +104,7 @@ loop-again c =
     turn_on _ _ _ _ _ _ (started t).pre _ _ _ _ _ t.before.loop.inv t.loop-test.taken e _ d.due.ensures c.if1.false
 
 returns-2 : tie.Need-returns-2 invariant-loop decreases-loop
-returns-2 c = turn-none _ _ _ _ _ _ c.before.before.before.before.before.requires c.before.loop.k _ _ c.before.loop.invariant c.loop-test.false
+returns-2 c = turn_none _ _ _ _ _ _ c.before.before.before.before.before.requires c.before.loop.k _ _ c.before.loop.invariant c.loop-test.false
 
 pub sweep-spec : {M : Type 1} → statement M
 sweep-spec =

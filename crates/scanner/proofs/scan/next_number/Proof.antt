@@ -3,7 +3,7 @@ use Prim.Native.Nat.{◌<◌, ◌-◌}
 use mathlib.Core.Path.{◌∙◌}
 use native.Mathlib.Omega.{arith}
 use lib.ListN.{length}
-use Rattle.scanner.proofs.Tokens.{token-next, tokens_none}
+use Rattle.scanner.proofs.Tokens.{token_next, tokens_none}
 use borrow.Author.Rules.{rules}
 use Rattle.scanner.proofs.scan.next_number.Statement.{statement}
 use Rattle.scanner.proofs.scan.next_number.Tie as tie
@@ -20,7 +20,7 @@ token-at-requires c κs = search rules
 returns-2 : tie.Need-returns-2
 returns-2 c =
     let h : c.before.before.skip.result < length c.before.before.before.before.args.text.now = omega (arith, c.before.if1.false) in
-    token-next _ _ _ c.token-at.result c.before.before.skip.ensures h c.token-at.ensures
+    token_next _ _ _ c.token-at.result c.before.before.skip.ensures h c.token-at.ensures
 
 pub next-number-spec : {M : Type 1} → statement M
 next-number-spec = tie.close (tie.spec skip-requires returns token-at-requires returns-2)

@@ -6,7 +6,7 @@ use native.Mathlib.Omega.{arith}
 use borrow.Author.Rules.{rules}
 use lib.ListN.{length, drop}
 use Rattle.texts.specs.Tokens.{tokens}
-use Rattle.scanner.proofs.Tokens.{tokens-blank}
+use Rattle.scanner.proofs.Tokens.{tokens_blank}
 use Rattle.scanner.proofs.scan.skip.Statement.{statement}
 use Rattle.scanner.proofs.scan.skip.Tie as tie
 
@@ -40,7 +40,7 @@ loop-again : tie.Need-loop-preserved invariant-loop decreases-loop
 loop-again c =
     let l = c.before.before.before.before in
     let h : l.loop.i < length l.before.before.args.text.now = omega arith in
-    l.loop.invariant ∙ tokens-blank _ _ h (sym c.before.is-blank.ensures ∙ not-false _ c.if1.false)
+    l.loop.invariant ∙ tokens_blank _ _ h (sym c.before.is-blank.ensures ∙ not-false _ c.if1.false)
 
 returns-2 : tie.Need-returns-2 invariant-loop decreases-loop
 returns-2 c = record { same = c.before.loop.invariant; stops = λ h. absurd (omega arith) }

@@ -1,8 +1,8 @@
 -- `scribe::jobs::put_job` puts a job's line in four parts: duration, demand, how many successors, and these.
 use native.Mathlib.Omega.{arith}
 use borrow.Author.Rules.{rules}
-use Rattle.scribe.proofs.Puts.{room-same, first-room, second-room, third-room, fourth-room, all-put}
-use Rattle.scribe.proofs.Steps.{number_same, byte-same, job-parts}
+use Rattle.scribe.proofs.Puts.{room_same, first_room, second_room, third_room, fourth_room, all_put}
+use Rattle.scribe.proofs.Steps.{number_same, byte_same, job_parts}
 use Rattle.scribe.proofs.jobs.put_job.Statement.{statement}
 use Rattle.scribe.proofs.jobs.put_job.Tie as tie
 
@@ -19,13 +19,13 @@ before-3 e = e.before.before.before.before.before
 put-requires : tie.Need-put-requires
 put-requires c κs =
     let p = c.before.before.before.requires in
-    room-same (first-room (job-parts _ _ _ _ _ p.0.within) p.1) (omega arith) (number_same (omega arith) (omega arith))
+    room_same (first_room (job_parts _ _ _ _ _ p.0.within) p.1) (omega arith) (number_same (omega arith) (omega arith))
 
 put-requires-2 : tie.Need-put-requires-2
 put-requires-2 c κs =
     let one = c.before.before.before in
     let p = (before-1 one).requires in
-    room-same (second-room (job-parts _ _ _ _ _ p.0.within) p.1 one.put.ensures) (omega arith) (number_same (omega arith) (omega arith))
+    room_same (second_room (job_parts _ _ _ _ _ p.0.within) p.1 one.put.ensures) (omega arith) (number_same (omega arith) (omega arith))
 
 sub-put : tie.Need-overflow-sub-put
 sub-put c = search rules
@@ -42,8 +42,8 @@ put-requires-3 c κs =
     let one = before-2 two in
     let s = before-1 one in
     let p = s.pre in
-    room-same (third-room (job-parts _ _ _ _ _ p.0.within) p.1 one.put.ensures two.put2.ensures) (omega arith)
-    (number_same (omega arith) (byte-same s.args.from s.args.to c.before.mark_of.ensures (omega arith) (omega arith)))
+    room_same (third_room (job_parts _ _ _ _ _ p.0.within) p.1 one.put.ensures two.put2.ensures) (omega arith)
+    (number_same (omega arith) (byte_same s.args.from s.args.to c.before.mark_of.ensures (omega arith) (omega arith)))
 
 put-successors-requires : tie.Need-put-successors-requires
 put-successors-requires c κs =
@@ -52,7 +52,7 @@ put-successors-requires c κs =
     let one = before-2 two in
     let p = (before-1 one).pre in
     let counted = rw three.before.before.mark_of.ensures.byte at three.put3.ensures in
-    (p.0, fourth-room (job-parts _ _ _ _ _ p.0.within) p.1 one.put.ensures two.put2.ensures counted)
+    (p.0, fourth_room (job_parts _ _ _ _ _ p.0.within) p.1 one.put.ensures two.put2.ensures counted)
 
 same_length : tie.Need-same-length
 same_length c = search rules
@@ -64,7 +64,7 @@ returns c =
     let one = before-2 two in
     let p = (before-1 one).pre in
     let counted = rw three.before.before.mark_of.ensures.byte at three.put3.ensures in
-    all-put (job-parts _ _ _ _ _ p.0.within) p.1 one.put.ensures two.put2.ensures counted c.before.before.put-successors.ensures
+    all_put (job_parts _ _ _ _ _ p.0.within) p.1 one.put.ensures two.put2.ensures counted c.before.before.put-successors.ensures
 
 pub put-job-spec : {M : Type 1} → statement M
 put-job-spec =

@@ -6,18 +6,18 @@ use mathlib.Core.Path.{◌≡◌, ◌∙◌}
 use lib.ListN.{length, drop}
 use borrow.Author.Rules.{rules}
 use Rattle.chains.specs.Listed.{paired}
-use Rattle.projects.specs.Form.{jobLines}
+use Rattle.projects.specs.Form.{job_lines}
 use Rattle.projects.specs.Made.{rows_from}
-use Rattle.scribe.proofs.Puts.{room-same, Going, going_start, going-room, going_step, going_end}
-use Rattle.scribe.proofs.Steps.{job-same}
-use Rattle.scribe.proofs.Passing.{Passed, passed_start, passed-step, stretch, lines_step, lines_end}
+use Rattle.scribe.proofs.Puts.{room_same, Going, going_start, going_room, going_step, going_end}
+use Rattle.scribe.proofs.Steps.{job_same}
+use Rattle.scribe.proofs.Passing.{Passed, passed_start, passed_step, stretch, lines_step, lines_end}
 use Rattle.scribe.proofs.jobs.put_jobs.Statement.{statement}
 use Rattle.scribe.proofs.jobs.put_jobs.Tie as tie
 
 abbrev invariant-loop : tie.invariant-loop
 invariant-loop dry dur dem jobs successors at buffer₀ j₀ i₀ place₀ buffer j i place =
     (j ≤ length dur) × (length buffer ≡ length buffer₀) × Passed jobs j i
-    × Going dry at (jobLines (rows_from 0 dur dem (paired jobs successors))) buffer₀ buffer place (jobLines (rows_from j (drop j dur) (drop j dem) (paired jobs successors)))
+    × Going dry at (job_lines (rows_from 0 dur dem (paired jobs successors))) buffer₀ buffer place (job_lines (rows_from j (drop j dur) (drop j dem) (paired jobs successors)))
 
 abbrev decreases-loop : tie.decreases-loop
 decreases-loop dry dur dem jobs successors at buffer₀ j₀ i₀ place₀ buffer j i place = length dur - j
@@ -60,7 +60,7 @@ put-job-requires c κs =
     let l = (looped e).loop.invariant in
     let p = (started e).requires in
     let line = lines_step p.0 l.2 e.run-end.ensures e.before.loop-test.true in
-    (stretch p.0 l.2 e.run-end.ensures, room-same (going-room _ _ line p.1 l.3) (omega arith) (job-same _ (omega arith) (omega arith) (omega arith)))
+    (stretch p.0 l.2 e.run-end.ensures, room_same (going_room _ _ line p.1 l.3) (omega arith) (job_same _ (omega arith) (omega arith) (omega arith)))
 
 add-j : tie.Need-overflow-add-j invariant-loop decreases-loop
 add-j c = search rules
@@ -75,7 +75,7 @@ loop-again c =
     let p = (started e).requires in
     let line = lines_step p.0 l.2 e.run-end.ensures e.before.loop-test.true in
     let put = c.before.before.put-job in
-    (omega (arith, e.before.loop-test.true), put.auto.1.1.1.1.1.1.1.0 ∙ l.1, passed-step p.0 l.2 e.run-end.ensures, going_step _ _ line p.1 l.3 put.ensures)
+    (omega (arith, e.before.loop-test.true), put.auto.1.1.1.1.1.1.1.0 ∙ l.1, passed_step p.0 l.2 e.run-end.ensures, going_step _ _ line p.1 l.3 put.ensures)
 
 same_length : tie.Need-same-length invariant-loop decreases-loop
 same_length c = c.before.loop.invariant.1

@@ -5,15 +5,15 @@ use native.Mathlib.Omega.{arith}
 use mathlib.Core.Path.{◌≡◌, ap, ◌∙◌}
 use lib.ListN.{length}
 use borrow.Author.Rules.{rules}
-use Rattle.scribe.specs.Says.{rest_of, fromOne}
-use Rattle.scribe.proofs.Puts.{room-same, Going, going_start, going-room, going_step, going_end}
-use Rattle.scribe.proofs.Steps.{number_same, byte-same, numbered-none, successors-step}
+use Rattle.scribe.specs.Says.{rest_of, from_one}
+use Rattle.scribe.proofs.Puts.{room_same, Going, going_start, going_room, going_step, going_end}
+use Rattle.scribe.proofs.Steps.{number_same, byte_same, numbered_none, successors_step}
 use Rattle.scribe.proofs.jobs.put_successors.Statement.{statement}
 use Rattle.scribe.proofs.jobs.put_successors.Tie as tie
 
 abbrev invariant-loop : tie.invariant-loop
 invariant-loop dry successors from to at buffer₀ i₀ place₀ buffer i place =
-    (i ≤ to) × (length buffer ≡ length buffer₀) × Going dry at (rest_of (fromOne successors from to)) buffer₀ buffer place (rest_of (fromOne successors i to))
+    (i ≤ to) × (length buffer ≡ length buffer₀) × Going dry at (rest_of (from_one successors from to)) buffer₀ buffer place (rest_of (from_one successors i to))
 
 abbrev decreases-loop : tie.decreases-loop
 decreases-loop dry successors from to at buffer₀ i₀ place₀ buffer i place = to - i
@@ -52,9 +52,9 @@ put-requires c κs =
     let e = c.before in
     let l = (looped e).loop in
     let s = started e in
-    let next = successors-step s.args.successors.now l.i s.args.to e.before.before.loop-test.true s.pre.0.within in
-    room-same (going-room _ _ next s.pre.1 l.inv.2) (omega arith)
-    (number_same (omega arith) (byte-same (l.i + 1) s.args.to e.mark_of.ensures (omega arith) (omega arith)))
+    let next = successors_step s.args.successors.now l.i s.args.to e.before.before.loop-test.true s.pre.0.within in
+    room_same (going_room _ _ next s.pre.1 l.inv.2) (omega arith)
+    (number_same (omega arith) (byte_same (l.i + 1) s.args.to e.mark_of.ensures (omega arith) (omega arith)))
 
 add-i : tie.Need-overflow-add-i invariant-loop decreases-loop
 add-i c = search rules
@@ -67,7 +67,7 @@ loop-again c =
     let e = c.before.before.before.before in
     let l = (looped e).loop in
     let s = started e in
-    let next = successors-step s.args.successors.now l.i s.args.to e.before.before.loop-test.true s.pre.0.within in
+    let next = successors_step s.args.successors.now l.i s.args.to e.before.before.loop-test.true s.pre.0.within in
     let put = c.before.before.put in
     (omega arith, put.auto.1.1.1.1.0 ∙ l.inv.1, going_step _ _ next s.pre.1 l.inv.2 (rw e.mark_of.ensures.byte at put.ensures))
 
@@ -75,7 +75,7 @@ same_length : tie.Need-same-length invariant-loop decreases-loop
 same_length c = c.before.loop.invariant.1
 
 returns : tie.Need-returns invariant-loop decreases-loop
-returns c = going_end (ap rest_of (numbered-none _ _ _ c.loop-test.false c.before.before.before.before.requires.0.within)) c.before.loop.invariant.2
+returns c = going_end (ap rest_of (numbered_none _ _ _ c.loop-test.false c.before.before.before.before.requires.0.within)) c.before.loop.invariant.2
 
 pub put-successors-spec : {M : Type 1} → statement M
 put-successors-spec =

@@ -7,8 +7,8 @@ use borrow.Author.Rules.{rules}
 use borrow.Fn.Kinds.{In}
 use borrow.Fn.PlainCycle.{Measures, is, falls, and}
 use Rattle.projects.specs.Form.{decimal}
-use Rattle.scribe.proofs.Decimals.{decimal-one, decimal-more}
-use Rattle.scribe.proofs.Puts.{room-same, room-front, room_back, put_then}
+use Rattle.scribe.proofs.Decimals.{decimal_one, decimal_more}
+use Rattle.scribe.proofs.Puts.{room_same, room_front, room_back, put_then}
 use Rattle.scribe.proofs.marks.put_digits.Reads as put-digits
 use Rattle.scribe.proofs.marks.put_digits.Kinds as put-digits-kinds
 use Rattle.scribe.proofs.marks.+put_digits.Lts-put_digits as put-digits-lts
@@ -49,7 +49,7 @@ put-digits-store-requires : (t : ℕ) → put-digits-lts.Need-store-requires (
   put-digits-below t,
   put-digits.Post,
 ) (put-digits-at t) put-digits.Post
-put-digits-store-requires t c κs = let s = c.before.before.before in rw (← decimal-one s.args.v c.before.if1.true) s.requires.1
+put-digits-store-requires t c κs = let s = c.before.before.before in rw (← decimal_one s.args.v c.before.if1.true) s.requires.1
 
 put-digits-same-length : (t : ℕ) → put-digits-lts.Need-same-length (
   store-reads.Asked,
@@ -65,7 +65,7 @@ put-digits-returns : (t : ℕ) → put-digits-lts.Need-returns (
   put-digits-below t,
   put-digits.Post,
 ) (put-digits-at t) put-digits.Post
-put-digits-returns t c = rw (decimal-one _ c.before.before.before.before.if1.true) c.before.before.store.ensures
+put-digits-returns t c = rw (decimal_one _ c.before.before.before.before.if1.true) c.before.before.store.ensures
 
 put-digits-put-digits-requires : (t : ℕ) → put-digits-lts.Need-put-digits-requires (
   store-reads.Asked,
@@ -75,7 +75,7 @@ put-digits-put-digits-requires : (t : ℕ) → put-digits-lts.Need-put-digits-re
 ) (put-digits-at t) put-digits.Post
 put-digits-put-digits-requires t c κs =
     let s = c.before.before.before in
-    (omega (arith, s.requires.0, c.before.if1.false), room-same (room-front _ _ (rw (decimal-more s.args.v c.before.if1.false) at s.requires.1)) (omega arith) (ap decimal (omega arith)))
+    (omega (arith, s.requires.0, c.before.if1.false), room_same (room_front _ _ (rw (decimal_more s.args.v c.before.if1.false) at s.requires.1)) (omega arith) (ap decimal (omega arith)))
 
 put-digits-cast-store-2 : (t : ℕ) → put-digits-lts.Need-overflow-cast-store-2 (
   store-reads.Asked,
@@ -101,8 +101,8 @@ put-digits-store-requires-2 : (t : ℕ) → put-digits-lts.Need-store-requires-2
 ) (put-digits-at t) put-digits.Post
 put-digits-store-requires-2 t c κs =
     let s = c.before.before.before.before.before.before.before in
-    let d = decimal-more s.args.v c.before.before.before.before.before.if1.false in
-    room-same (room_back _ _ (rw d at s.requires.1) c.before.before.before.put-digits.ensures) (omega arith) (ap (λ (b : ℕ). b ∷ []) (omega arith))
+    let d = decimal_more s.args.v c.before.before.before.before.before.if1.false in
+    room_same (room_back _ _ (rw d at s.requires.1) c.before.before.before.put-digits.ensures) (omega arith) (ap (λ (b : ℕ). b ∷ []) (omega arith))
 
 put-digits-same-length-2 : (t : ℕ) → put-digits-lts.Need-same-length-2 (
   store-reads.Asked,
@@ -120,8 +120,8 @@ put-digits-returns-2 : (t : ℕ) → put-digits-lts.Need-returns-2 (
 ) (put-digits-at t) put-digits.Post
 put-digits-returns-2 t c =
     let s = c.before.before.before.before.before.before.before.before.before.before in
-    let d = decimal-more s.args.v c.before.before.before.before.before.before.before.before.if1.false in
-    rw d (put_then _ _ (room-front _ _ (rw d at s.requires.1)) c.before.before.before.before.before.before.put-digits.ensures c.before.before.store2.ensures)
+    let d = decimal_more s.args.v c.before.before.before.before.before.before.before.before.if1.false in
+    rw d (put_then _ _ (room_front _ _ (rw d at s.requires.1)) c.before.before.before.before.before.before.put-digits.ensures c.before.before.store2.ensures)
 
 pub +put-digits-spec : {M : Type 1} → statement M
 +put-digits-spec = close μ-put-digits λ t. put-digits-lts.spec (

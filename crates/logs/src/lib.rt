@@ -2,7 +2,7 @@
 // and the call that shows one record.
 ghost use Rattle.std.specs.Prelude.{◌≡◌, not, ◌+◌, ◌≤◌, length};
 ghost use Rattle.std.proofs.Math.Seq.{paste};
-ghost use Rattle.journal.specs.Journal.{recordWords, in_words, setOfRecord, roomOf, is_whole, recordAt, rewritten, cleared};
+ghost use Rattle.journal.specs.Journal.{record_words, in_words, set_of_record, room_of, is_whole, record_at, rewritten, cleared};
 
 // The places of the words before the member set: job, side, time, number of members.
 pub const JOB_WORD: usize = 0;
@@ -21,7 +21,7 @@ pub const RECORD: usize = HEAD + bits::WORDS;
 
 // The whole records that a log can hold, whatever the remainder.
 pub fn room(log: &[u32]) -> usize
-    ensures { result ≡ roomOf log.now }
+    ensures { result ≡ room_of log.now }
 {
     log.len() / RECORD
 }
@@ -36,7 +36,7 @@ pub fn ragged(log: &[u32]) -> bool
 // Record k as a part of the caller's own log; an empty part where the log ends before it.
 // k is compared before it is multiplied, so that no k wraps.
 pub fn show_record(log: &[u32], k: usize) -> &[u32]
-    ensures { result.now ≡ recordAt log.now k }
+    ensures { result.now ≡ record_at log.now k }
 {
     if k < room(log) {
         let from = RECORD * k;
@@ -48,8 +48,8 @@ pub fn show_record(log: &[u32], k: usize) -> &[u32]
 
 // The member set of a record.
 pub fn set_of(words: &[u32]) -> &[u32]
-    requires { length words.now ≡ recordWords }
-    ensures { result.now ≡ setOfRecord words.now }
+    requires { length words.now ≡ record_words }
+    ensures { result.now ≡ set_of_record words.now }
 {
     &words[HEAD..]
 }

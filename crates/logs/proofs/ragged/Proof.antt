@@ -1,8 +1,8 @@
 -- `logbook::ragged` meets its contract: it is the definition.
 use mathlib.Core.Path.{refl}
 use Rattle.journal.specs.Journal.{is_whole}
-use Rattle.logbook.proofs.ragged.Statement.{statement}
-use Rattle.logbook.proofs.ragged.Tie as tie
+use Rattle.logs.proofs.ragged.Statement.{statement}
+use Rattle.logs.proofs.ragged.Tie as tie
 
 returns : tie.Need-returns
 unfolding is_whole

@@ -8,8 +8,8 @@ use lib.Seq.{drop-length}
 use borrow.Author.Fill.{fill_more}
 use borrow.Author.Rules.{rules}
 use Rattle.journal.specs.Journal.{cleared}
-use Rattle.logbook.proofs.clear.Statement.{statement}
-use Rattle.logbook.proofs.clear.Tie as tie
+use Rattle.logs.proofs.clear.Statement.{statement}
+use Rattle.logs.proofs.clear.Tie as tie
 
 abbrev invariant-loop : tie.invariant-loop
 invariant-loop log₀ done₀ log done = (done ≤ length log) × (length log ≡ length log₀) × (log ≡ replicate done 0 ++ drop done log₀)

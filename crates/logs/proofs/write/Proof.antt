@@ -5,11 +5,11 @@ use mathlib.Core.List.{[], ◌∷◌}
 use mathlib.Core.Path.{◌≡◌, sym, ap, ◌∙◌}
 use lib.ListN.{length}
 use borrow.Author.Rules.{rules}
-use Rattle.members.specs.Members.{setWords}
-use Rattle.journal.specs.Journal.{recordWords, roomOf, in_words}
-use Rattle.journal.proofs.Records.{room-words, rewritten-out, rewritten-parts, written-length}
-use Rattle.logbook.proofs.write.Statement.{statement}
-use Rattle.logbook.proofs.write.Tie as tie
+use Rattle.members.specs.Members.{set_words}
+use Rattle.journal.specs.Journal.{record_words, room_of, in_words}
+use Rattle.journal.proofs.Records.{room_words, rewritten_out, rewritten_parts, written_length}
+use Rattle.logs.proofs.write.Statement.{statement}
+use Rattle.logs.proofs.write.Tie as tie
 
 -- ---- past the test for room: the record's words fit; and the head laid
 
@@ -19,13 +19,13 @@ begun d = d.before.before.before.before
 abbrev headed : tie.After-lay → tie.Else1
 headed d = d.before.before.before.before.before
 
-room-left : (d : tie.Else1) → (begun d).args.k < roomOf (begun d).args.log.now
+room-left : (d : tie.Else1) → (begun d).args.k < room_of (begun d).args.log.now
 room-left d = omega (arith, d.before.room.ensures, d.if1.false)
 
-enough : (d : tie.Else1) → recordWords * (begun d).args.k + recordWords ≤ length (begun d).args.log.now
-enough d = room-words (begun d).args.log.now (begun d).args.k (room-left d)
+enough : (d : tie.Else1) → record_words * (begun d).args.k + record_words ≤ length (begun d).args.log.now
+enough d = room_words (begun d).args.log.now (begun d).args.k (room-left d)
 
-set-sized : (d : tie.After-lay) → length (begun (headed d)).args.t6 ≡ setWords
+set-sized : (d : tie.After-lay) → length (begun (headed d)).args.t6 ≡ set_words
 set-sized d = search rules
 
 -- ---- the needs
@@ -39,7 +39,7 @@ same_length c = search rules
 returns : tie.Need-returns
 returns c =
     let s = c.before.before.before.before in
-    sym (rewritten-out s.args.log.now s.args.k _ (omega (arith, c.before.room.ensures, c.if1.true)))
+    sym (rewritten_out s.args.log.now s.args.k _ (omega (arith, c.before.room.ensures, c.if1.true)))
 
 slice-aggregate-count : tie.Need-slice-aggregate-count
 slice-aggregate-count c = search rules
@@ -78,8 +78,8 @@ returns-2 c =
     let words = laid.before.before.before.count in
     c.before.before.lay2.ensures
     ∙ rw laid.lay.ensures
-    (rewritten-parts a.log.now a.k (in_words a.job a.side a.time a.t6) (room-left passed)
-    (written-length a.job a.side a.time a.t6 (set-sized laid)) (a.job ∷ a.side ∷ a.time ∷ words.result ∷ []) a.t6
+    (rewritten_parts a.log.now a.k (in_words a.job a.side a.time a.t6) (room-left passed)
+    (written_length a.job a.side a.time a.t6 (set-sized laid)) (a.job ∷ a.side ∷ a.time ∷ words.result ∷ []) a.t6
     (ap (λ (m : ℕ). a.job ∷ a.side ∷ a.time ∷ m ∷ a.t6) words.ensures))
 
 pub write_spec : {M : Type 1} → statement M

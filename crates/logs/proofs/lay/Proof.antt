@@ -7,8 +7,8 @@ use mathlib.Core.Path.{◌≡◌, refl}
 use lib.ListN.{length, length-set}
 use lib.Seq.{paste, paste-zero, paste-suc}
 use borrow.Author.Rules.{rules}
-use Rattle.logbook.proofs.lay.Statement.{statement}
-use Rattle.logbook.proofs.lay.Tie as tie
+use Rattle.logs.proofs.lay.Statement.{statement}
+use Rattle.logs.proofs.lay.Tie as tie
 
 abbrev invariant-loop : tie.invariant-loop
 invariant-loop log₀ at words i₀ log i = (i ≤ length words) × (length log ≡ length log₀) × (log ≡ paste log₀ at words i)
