@@ -1,4 +1,6 @@
 // Which calls with a log are turned away before the work (document 01, 'Answer table'; document 02, Item 10): tests 1 to 3 of the lists, then 7 of the log.
+#![tactic(auto)]
+
 ghost use Rattle.std.specs.Prelude.{◌≡◌};
 ghost use Rattle.narrowing.specs.Windows.{win};
 ghost use Rattle.timetable.specs.Table.{call, refusal_of};

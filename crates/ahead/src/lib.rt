@@ -1,5 +1,7 @@
 // The search of detectable precedences in code (document 02, Item 2): the new earliest start of a job, by one pass over the jobs by rising earliest start.
 // The windows are told from both ends, so that side 1 is the same search on them told the other way round.
+#![tactic(auto)]
+
 ghost use Rattle.std.specs.Prelude.{◌≡◌, not, ◌+◌, ◌*◌, ◌-◌, ◌<◌, ◌≤◌, leb, ltb, eqb, length};
 ghost use Rattle.lists.specs.Lists.{◌!◌};
 ghost use Rattle.lists.specs.Tests.{both, pick};

@@ -1,4 +1,5 @@
 // The answers of the desk's calls. `says` in specs/ gives each one in the paper's words and numbers.
+#![tactic(auto)]
 
 // Narrowing: the record count; the record count and the job; the refusal's number.
 #[derive(Drop)]

@@ -1,5 +1,7 @@
 // Member sets (01, 'Log records'): member k is bit (k mod 32) of word (k div 32), bit 0 lowest, whatever the number of words.
 // A number beyond the words is no member, and putting it in changes nothing.
+#![tactic(auto)]
+
 ghost use Rattle.std.specs.Prelude.{◌≡◌, ◌*◌, ◌%◌, ◌^◌, ◌<◌, length, replicate};
 ghost use Rattle.members.specs.Members.{set_words, has, ones_of, inserted, joined};
 

@@ -1,4 +1,6 @@
 // A user of the desk: it names `desk answers` and nothing else, and is proved like the rest, from the contracts of the desk's calls.
+#![tactic(auto)]
+
 ghost use Rattle.std.specs.Prelude.{◌≡◌, true, ◌↔◌};
 ghost use Rattle.answers.specs.Said.{Word, says, says_check, says_read, says_conflict};
 ghost use Rattle.desk.specs.Lists.{win};

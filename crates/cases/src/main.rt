@@ -1,6 +1,8 @@
 // Writes the runs on the record (document 01, 'Runs on the record'), cases 1 to 13, a line for each run in the text's
 // order: the case number, the answer word and its numbers, and for narrowing each job's earliest start and latest
 // end, then the words of the counted records.
+#![tactic(auto)]
+
 mod run;
 
 ghost use Rattle.std.specs.Prelude.{◌<◌, length};

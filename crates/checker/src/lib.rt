@@ -1,5 +1,7 @@
 // The checker (document 01, 'Answer table'; document 02, Items 3 and 10): it has a log replayed from the submitted windows, and rewrites them only where
 // the log holds.
+#![tactic(auto)]
+
 ghost use Rattle.std.specs.Prelude.{◌≡◌, [], ◌≤◌, length};
 ghost use Rattle.narrowing.specs.Windows.{win};
 ghost use Rattle.answers.specs.Said.{says_check};

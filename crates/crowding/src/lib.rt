@@ -1,4 +1,6 @@
 // Time-tabling in code (01, 'The two time-tabling rules'): the load of the other jobs at a time.
+#![tactic(auto)]
+
 ghost use Rattle.std.specs.Prelude.{◌≡◌, not, ◌+◌, ◌≤◌, leb, ltb, eqb};
 ghost use Rattle.lists.specs.Tests.{both, only};
 ghost use Rattle.joblist.specs.Limits.{most_time};

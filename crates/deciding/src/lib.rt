@@ -1,6 +1,8 @@
 // Whether a project text is taken, whatever its layout (document 02, Items 1 and 13): every refusal is decided here, on numbers and on arrays of its own,
 // before a lent word is written. What the lists are filled from stands in the arrays then. The pairs are not stored: chains are found, and pairs
 // written, by reading the text again (docs/DECISIONS.md says why).
+#![tactic(auto)]
+
 ghost use Rattle.std.specs.Prelude.{◌≡◌, List, ℕ, ◌≤◌, length, replicate};
 ghost use Rattle.lists.specs.Lists.{◌!◌};
 ghost use Rattle.joblist.specs.Limits.{most_time, most_jobs};

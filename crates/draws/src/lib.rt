@@ -1,5 +1,7 @@
 // Codes 24 and 27 (document 01, 'Answer table'; document 02, Item 7): the demands named, members' and moved job's together, exceed the capacity, and without
 // any one member they do not.
+#![tactic(auto)]
+
 ghost use Rattle.std.specs.Prelude.{◌≡◌, true, [], ◌-◌, ◌≤◌, ◌<◌, ltb, length};
 ghost use Rattle.lists.specs.Lists.{◌!◌};
 ghost use Rattle.lists.specs.Tests.{both, only};

@@ -1,4 +1,6 @@
 // What a record has to be (document 01, 'Answer table'), a function for each test: codes 21, 22, 23 and 26. `draws` has 24 and 27, `stated` 25.
+#![tactic(auto)]
+
 ghost use Rattle.std.specs.Prelude.{◌≡◌, not, [], ◌+◌, ◌*◌, ◌<◌, eqb, length};
 ghost use Rattle.lists.specs.Lists.{◌!◌};
 ghost use Rattle.lists.specs.Tests.{both, where?};

@@ -1,6 +1,8 @@
 // The lists and the bytes of a line of input, each its length and then its numbers, read into what the caller lends.
 //
 // Where a line is spoiled every number is 0 from there on, and no byte more is read.
+#![tactic(auto)]
+
 ghost use Rattle.std.specs.Prelude.{◌≤◌, length};
 ghost use Rattle.io.specs.Counts.{IsPrefixLen};
 

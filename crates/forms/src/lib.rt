@@ -1,4 +1,6 @@
 // A line of input of a given form, read whole behind its first word: its numbers, its lists and its bytes.
+#![tactic(auto)]
+
 ghost use Rattle.std.specs.Prelude.{◌≤◌};
 ghost use Rattle.io.specs.Counts.{IsPrefixLen};
 

@@ -1,5 +1,7 @@
 // One turn of the read head's work (document 02, Item 2): at a job's side the move to the farthest bound that the rule gives, with the jobs' order kept.
 // Side 1 is side 0 of the windows told the other way round.
+#![tactic(auto)]
+
 ghost use Rattle.std.specs.Prelude.{◌<◌, length};
 ghost use Rattle.narrowing.specs.Windows.{side_of};
 ghost use Rattle.ahead.specs.Ready.{Ready};

@@ -1,6 +1,8 @@
 // The calls over a job list: narrowing, the check of a log, the jobs that a clash log names, the overload check, and narrowing for the read head, made over
 // the lists of a line, which stand packed in lent words. Both narrowings and the check change their lists there; the result is what a call says, and beside
 // it the set that one gives.
+#![tactic(auto)]
+
 ghost use Rattle.std.specs.Prelude.{◌≡◌, length};
 ghost use Rattle.answers.specs.Said.{Said};
 ghost use Rattle.desk.specs.Lists.{win};

@@ -20,10 +20,14 @@ module _ (n : ℕ) (π σ : ℕ → ℕ) (t : Permutes n π σ) where
   sized_same : (cs ds : List Column) → SameColumns n π cs ds → Every (Sized n) cs → Every (Sized n) ds
   sized_same [] [] v s = tt
   sized_same (c ∷ cs) (d ∷ ds) v s = (v.0.size ∙ s.0, sized_same cs ds v.1 s.1)
+  sized_same [] (d ∷ ds) v s = elim v [ ]
+  sized_same (c ∷ cs) [] v s = elim v [ ]
 
   unequal_same : (cs ds : List Column) → SameColumns n π cs ds → Any (λ c. Sized n c → ⊥) cs → Any (λ c. Sized n c → ⊥) ds
   unequal_same (c ∷ cs) (d ∷ ds) v (inl a) = inl (λ s. a (sym v.0.size ∙ s))
   unequal_same (c ∷ cs) (d ∷ ds) v (inr a) = inr (unequal_same cs ds v.1 a)
+  unequal_same [] ds v x'' = elim x'' [ ]
+  unequal_same (c ∷ cs) [] v _ = elim v [ ]
 
   within_one : (c d : Column) → SameColumn n π c d → Sized n c → Within c → Within d
   within_one c d v s w k =
@@ -35,6 +39,8 @@ module _ (n : ℕ) (π σ : ℕ → ℕ) (t : Permutes n π σ) where
   within_same : (cs ds : List Column) → SameColumns n π cs ds → Every (Sized n) cs → Every Within cs → Every Within ds
   within_same [] [] v s w = tt
   within_same (c ∷ cs) (d ∷ ds) v s w = (within_one c d v.0 s.0 w.0, within_same cs ds v.1 s.1 w.1)
+  within_same [] (d ∷ ds) v s w = elim v [ ]
+  within_same (c ∷ cs) [] v s w = elim v [ ]
 
   above_one : (c d : Column) → SameColumn n π c d → Sized n c → Above c → Above d
   above_one c d v s a =
@@ -49,6 +55,8 @@ module _ (n : ℕ) (π σ : ℕ → ℕ) (t : Permutes n π σ) where
   above_same [] [] es v s a = a
   above_same (c ∷ cs) (d ∷ ds) es v s (inl a) = inl (above_one c d v.0 s.0 a)
   above_same (c ∷ cs) (d ∷ ds) es v s (inr a) = inr (above_same cs ds es v.1 s.1 a)
+  above_same [] (d ∷ ds) es v s a = elim v [ ]
+  above_same (c ∷ cs) [] es v s a = elim v [ ]
 
   module _ (cs ds es : List Column) (v : SameColumns n π cs ds) where
     given_same : (k : ℕ) → Given k n cs es → Given k n ds es

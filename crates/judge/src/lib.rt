@@ -1,4 +1,6 @@
 // The code of a record: the first test that it fails.
+#![tactic(auto)]
+
 ghost use Rattle.std.specs.Prelude.{◌≡◌, [], length};
 ghost use Rattle.narrowing.specs.Windows.{win};
 ghost use Rattle.journal.specs.Journal.{record_words};

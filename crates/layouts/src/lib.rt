@@ -1,5 +1,7 @@
 // Project texts read (document 02, Items 1 and 13): a job list and its precedence pairs are made of a partner's text. What is decided is decided before
 // (`deciding`), and the lent lists are filled behind the last refusal. The readers differ in their layouts alone.
+#![tactic(auto)]
+
 ghost use Rattle.answers.specs.Said.{says_read};
 ghost use Rattle.projects.specs.Patterson.{patterson};
 ghost use Rattle.psplib.specs.Psplib.{psplib};

@@ -1,4 +1,6 @@
 // The lists that a reader of project texts is lent (document 02, Item 1): whether their lengths fit, and how they are filled.
+#![tactic(auto)]
+
 ghost use Rattle.std.specs.Prelude.{◌≡◌, ℕ, ◌≤◌, length};
 ghost use Rattle.lists.specs.Lists.{◌!◌};
 ghost use Rattle.joblist.specs.Limits.{most_jobs};

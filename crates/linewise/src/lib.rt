@@ -1,5 +1,7 @@
 // The lines of a text (document 01, 'Library layouts'): from place to place along them, the place behind so many of them, and the number behind the colon
 // of one.
+#![tactic(auto)]
+
 ghost use Rattle.std.specs.Prelude.{◌≡◌, drop};
 ghost use Rattle.headings.specs.Lines.{behind, next_line, behind_lines, counted};
 ghost use Rattle.headings.specs.Headings.{starts_with, unspaced};

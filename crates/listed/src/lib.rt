@@ -1,5 +1,7 @@
 // Pairs that are lent as two lists, jobs and successors (document 02, Item 13): whether they are of the jobs and in strictly rising order, and whether
 // there is a cycle along them.
+#![tactic(auto)]
+
 ghost use Rattle.std.specs.Prelude.{◌≡◌, false, [], ℕ, ◌≤◌, ◌<◌, length, replicate};
 ghost use Rattle.lists.specs.Lists.{◌!◌};
 ghost use Rattle.joblist.specs.Limits.{most_jobs};

@@ -1,5 +1,7 @@
 // The load of all jobs kept as a profile (02, Item 5): built from the windows, and raised where a move has made a sure part longer. Its points are 0
 // and where a sure part begins or ends, or has done so before a move.
+#![tactic(auto)]
+
 ghost use Rattle.std.specs.Prelude.{◌≡◌, ◌<◌, ◌≤◌, length};
 ghost use Rattle.narrowing.specs.Windows.{win, moved, side_of, Respects};
 ghost use Rattle.joblist.specs.Limits.{most_time};

@@ -1,5 +1,7 @@
 // The log of reasons (document 01, 'Log records'; document 02, Item 10): the record's layout, the room of a log, whether it is ragged, writing, clearing,
 // and the call that shows one record.
+#![tactic(auto)]
+
 ghost use Rattle.std.specs.Prelude.{◌≡◌, not, ◌+◌, ◌≤◌, length};
 ghost use Rattle.std.proofs.Math.Seq.{paste};
 ghost use Rattle.journal.specs.Journal.{record_words, in_words, set_of_record, room_of, is_whole, record_at, rewritten, cleared};

@@ -1,4 +1,6 @@
 // The marks of a clash log (document 02, Item 14): the walk back from its closing record. Whether the records are good is not looked at here.
+#![tactic(auto)]
+
 ghost use Rattle.std.specs.Prelude.{◌≡◌, ◌≤◌, ◌<◌};
 ghost use Rattle.answers.specs.Said.{says_conflict};
 ghost use Rattle.joblist.specs.Limits.{most_jobs};

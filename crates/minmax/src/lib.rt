@@ -1,4 +1,6 @@
 // The lesser and the greater of two numbers.
+#![tactic(auto)]
+
 ghost use Rattle.minmax.specs.MinMax.{IsLesser, IsGreater};
 
 pub fn lesser(x: u32, y: u32) -> u32

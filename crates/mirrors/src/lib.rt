@@ -1,4 +1,6 @@
 // Times counted back from the greatest one, in place: the latest ends so are the earliest starts of the windows mirrored in time.
+#![tactic(auto)]
+
 ghost use Rattle.std.specs.Prelude.{◌≡◌};
 ghost use Rattle.joblist.specs.Limits.{time_column};
 ghost use Rattle.joblist.specs.GoodList.{Within};

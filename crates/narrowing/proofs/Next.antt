@@ -16,9 +16,9 @@ abbrev pub Place : ℕ → ℕ → Side → Type 0
 Place n j early = j ≤ n
 Place n j late = j < n
 
-pub place_of : (n j : ℕ) (s : Side) → j < n → Place n j s
-place_of n j early b = omega arith
-place_of n j late b = b
+pub place_of_lem : (n j : ℕ) (s : Side) → j < n → Place n j s
+place_of_lem n j early b = omega arith
+place_of_lem n j late b = b
 
 place_apart : (k j : ℕ) (u s : Side) → place_of k u ≡ place_of j s → (k ≡ j) × (u ≡ s)
 place_apart k j early early e = (omega arith, refl)

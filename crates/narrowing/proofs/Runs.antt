@@ -14,7 +14,7 @@ use Rattle.narrowing.specs.Run.{Next, rests, moves, next_move, Out, settled, cla
 use Rattle.narrowing.specs.Rounds.{Choice, Chosen}
 use Rattle.narrowing.proofs.Moves.{long_after, Whole, whole_after, slack_less}
 use Rattle.narrowing.proofs.Steps.{step_move, any_settled, any_clash}
-use Rattle.narrowing.proofs.Next.{Place, place_of, Ahead, next-is}
+use Rattle.narrowing.proofs.Next.{Place, place_of_lem, Ahead, next-is}
 use Rattle.narrowing.proofs.TooShort.{run_by}
 
 -- what an end says of the windows W that the work began on
@@ -57,7 +57,7 @@ module _ (R : Search) (G : Family) (search : Searches R G) where
         ind_ends (suc room) W j s _ _ (closes R.p (after R W i v c) i) (closes R.p (after R W i v c) i) refl
         (λ e. stop room W j s i v c L a e)
         (λ e. step room W j s i v c (work R room (after R W i v c) i v) L a e
-        (work_ind room (after R W i v c) i v (long_after R.n R.p W i v (R.bound v c) L e) (place_of R.n i v a.listed))))
+        (work_ind room (after R W i v c) i v (long_after R.n R.p W i v (R.bound v c) L e) (place_of_lem R.n i v a.listed))))
 
   -- ---- each move is the search's own choice
 

@@ -1,4 +1,6 @@
 // The record of a move (document 01, 'Log records'; document 02, Item 7): the members that the writer names, and the words in the log.
+#![tactic(auto)]
+
 ghost use Rattle.std.specs.Prelude.{◌≡◌, not, ◌+◌, ◌≤◌, ◌<◌, length, leb, ltb, eqb};
 ghost use Rattle.lists.specs.Tests.{both};
 ghost use Rattle.joblist.specs.Limits.{most_time};

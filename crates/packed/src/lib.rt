@@ -1,5 +1,7 @@
 // Lists packed into one list of words, one behind the other, each as its length and then its numbers: found, copied out and put back.
 // They stand as a line of input or output has them (docs/ANSWERS.md). Nothing here knows of jobs.
+#![tactic(auto)]
+
 ghost use Rattle.std.specs.Prelude.{◌≡◌, min};
 ghost use Rattle.io.specs.Counts.{IsPrefixLen};
 ghost use Rattle.packed.specs.Packed.{behind_at, start_of, list_of, put_at, Copied};

@@ -1,4 +1,6 @@
 // A text of the Patterson layout read whole (document 01, 'Library layouts'; refusals of document 02, Item 1): its counts and capacities, then its rows.
+#![tactic(auto)]
+
 ghost use Rattle.std.specs.Prelude.{◌≡◌, ℕ, ◌≤◌, length};
 ghost use Rattle.lists.specs.Lists.{◌!◌};
 ghost use Rattle.joblist.specs.Limits.{most_time, most_jobs};

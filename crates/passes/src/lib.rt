@@ -1,5 +1,7 @@
 // The values of jobs raised along pairs, in code (document 02, Item 1): one pair's step. A value is a chain's length; what rounds of such steps come to
 // is said and proved once here, wherever the pairs are read from.
+#![tactic(auto)]
+
 ghost use Rattle.std.specs.Prelude.{◌≡◌, ◌≤◌, ◌<◌, length};
 ghost use Rattle.lists.specs.Lists.{◌!◌};
 ghost use Rattle.joblist.specs.Limits.{most_time, most_jobs};

@@ -1,5 +1,7 @@
 // The last and the first time of a stretch at which a kept function lies over a limit. They are looked for only where the peak does, and only at the points:
 // from one to the next the function is the same.
+#![tactic(auto)]
+
 ghost use Rattle.std.specs.Prelude.{◌<◌, ◌≤◌};
 ghost use Rattle.profile.specs.Steps.{behind_all, Points};
 ghost use Rattle.peaks.specs.Peaks.{LastOver, FirstOver};

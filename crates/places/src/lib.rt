@@ -1,4 +1,6 @@
 // The places of a round (document 01, 'Order of work'): a job and its side, one after the other. Every loop that narrows walks them.
+#![tactic(auto)]
+
 ghost use Rattle.std.specs.Prelude.{◌≡◌, ◌<◌};
 ghost use Rattle.places.specs.Places.{onward_of};
 

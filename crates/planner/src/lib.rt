@@ -1,4 +1,6 @@
 // Narrowing (document 01, 'Answer table'; document 02, Items 3 and 10): the call, on copies of the windows. The crate `rounds` does the work, turn by turn.
+#![tactic(auto)]
+
 ghost use Rattle.narrowing.specs.Windows.{win};
 ghost use Rattle.answers.specs.Said.{says};
 ghost use Rattle.timetable.specs.Table.{call, leaves};

@@ -1,5 +1,7 @@
 // The order of a text's jobs: its pairs one by one, cycles, and the longest chains before and after each job (document 02, Item 1). Each round
 // reads the text again.
+#![tactic(auto)]
+
 mod rounds;
 
 ghost use Rattle.std.specs.Prelude.{◌≡◌, List, ℕ, ◌≤◌, length, replicate};

@@ -3,6 +3,8 @@
 // The bytes wait in a sink that the caller lends, in its first `at` bytes, until it is full or flushed.
 // Each function puts more there and answers the new `at`. A full sink is written out at once, so
 // `at` always lies within it.
+#![tactic(auto)]
+
 ghost use Rattle.std.specs.Prelude.{◌≡◌, ◌<◌, length, set};
 
 use libc::STDOUT_FILENO;

@@ -16,6 +16,8 @@
 //
 // The lists of a line stand packed in one lent list of words, as the line has them, and a call changes them there: so what is
 // written behind most answers are stretches of these words (`replies`).
+#![tactic(auto)]
+
 mod replies;
 
 ghost use Rattle.std.specs.Prelude.{◌≡◌, ◌<◌, length};

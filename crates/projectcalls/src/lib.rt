@@ -1,6 +1,8 @@
 // The calls over a project list: read in the Patterson layout (document 02, Item 1) or the PSPLIB layout (Item 13), and written in the
 // Patterson layout (Item 13). They are made over the lists of a line, which stand packed in lent words. Each call changes its lists there; the
 // result is what it says.
+#![tactic(auto)]
+
 ghost use Rattle.std.specs.Prelude.{◌≡◌, length};
 ghost use Rattle.answers.specs.Said.{Said};
 ghost use Rattle.desk.specs.Writing.{Writes};

@@ -1,4 +1,6 @@
 // One job at a time (01; 02, Item 3): the overload check by 001's Theta-tree.
+#![tactic(auto)]
+
 mod sweep; // sweep.rt: the jobs put in by rising latest end
 
 ghost use Rattle.std.specs.Prelude.{◌≡◌, length};

@@ -1,4 +1,6 @@
 // The replay of a log (document 01, 'Answer table'; document 02, Item 3): its records in turn, each judged on the windows reached.
+#![tactic(auto)]
+
 ghost use Rattle.std.specs.Prelude.{◌≡◌, [], ◌≤◌, length};
 ghost use Rattle.narrowing.specs.Windows.{win};
 ghost use Rattle.journal.specs.Journal.{room_of, records};

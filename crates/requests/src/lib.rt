@@ -1,4 +1,6 @@
 // A call as a line of input asks it (docs/ANSWERS.md has the forms): its name, its numbers, its lists and its bytes.
+#![tactic(auto)]
+
 mod names; // names.rt: the calls' names, and the form of each one's line
 
 ghost use Rattle.io.specs.Counts.{IsPrefixLen};

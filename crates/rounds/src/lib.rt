@@ -1,4 +1,6 @@
 // The work (document 01, 'Order of work'): rounds over the jobs by rising number, for each job side 0 until it rests, then side 1.
+#![tactic(auto)]
+
 ghost use Rattle.narrowing.specs.Windows.{win};
 ghost use Rattle.timetable.specs.Table.{call, Workable};
 ghost use Rattle.rounds.specs.Work.{Works};

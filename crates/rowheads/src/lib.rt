@@ -1,5 +1,7 @@
 // The heads of rows (document 01, 'Library layouts'; refusals of document 02, Items 1 and 13): what stands before a row's successors, by its table; several
 // numbers of which one is picked; and a successor.
+#![tactic(auto)]
+
 ghost use Rattle.std.specs.Prelude.{◌≡◌, ℕ, ◌<◌, eqb, drop};
 ghost use Rattle.lists.specs.Lists.{◌!◌};
 ghost use Rattle.lists.specs.Tests.{pick};

@@ -1,5 +1,7 @@
 // The answers of the calls: the answer word, then its numbers (`answers: Said`). An answer is first made a value, whichever call gave it, and printed
 // by one function.
+#![tactic(auto)]
+
 ghost use Rattle.std.specs.Prelude.{◌≡◌, [], ◌∷◌, ◌<◌, length};
 ghost use Rattle.answers.specs.Said.{says, says_check, says_overload, says_read, says_write, says_conflict};
 ghost use Rattle.sayings.specs.Sayings.{numbers_of, Tells};

@@ -1,4 +1,6 @@
 // The tokens of a text, one number at a time (document 01, 'Library layouts'). A number may have any length.
+#![tactic(auto)]
+
 mod scan;
 
 ghost use Rattle.std.specs.Prelude.{◌≡◌, drop};

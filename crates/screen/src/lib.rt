@@ -1,4 +1,6 @@
 // Tests 1 to 3 of job lists in code, in the order of their numbers (document 01, 'Answer table'), and the limits (document 01, 'Job lists').
+#![tactic(auto)]
+
 ghost use Rattle.std.specs.Prelude.{◌≡◌, not, [], leb, length};
 ghost use Rattle.lists.specs.Tests.{both};
 ghost use Rattle.narrowing.specs.Windows.{win};

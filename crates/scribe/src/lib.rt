@@ -1,4 +1,6 @@
 // A project written as a text (document 01, 'Library layouts'; document 02, Item 13).
+#![tactic(auto)]
+
 mod jobs;
 mod marks;
 

@@ -1,4 +1,6 @@
 // The next time at which a rule moves a job's side, found in the kept load of all jobs (02, Item 5).
+#![tactic(auto)]
+
 ghost use Rattle.std.specs.Prelude.{◌≡◌, ◌<◌, ◌≤◌, length};
 ghost use Rattle.narrowing.specs.Windows.{win, side_of};
 ghost use Rattle.profile.specs.Steps.{behind_all, Points};

@@ -1,5 +1,7 @@
 // A text of the PSPLIB layout read whole (document 01, 'Library layouts'; refusals of document 02, Items 1 and 13): its headings, the two counts, and
 // its three tables.
+#![tactic(auto)]
+
 ghost use Rattle.std.specs.Prelude.{◌≡◌, ℕ, ◌≤◌, length, drop};
 ghost use Rattle.lists.specs.Lists.{◌!◌};
 ghost use Rattle.joblist.specs.Limits.{most_time, most_jobs};

@@ -1,4 +1,6 @@
 // The headings of a PSPLIB text (document 01, 'Library layouts'): whether its lines have the five in order, and where each of them starts.
+#![tactic(auto)]
+
 ghost use Rattle.std.specs.Prelude.{◌≡◌, length, drop};
 ghost use Rattle.headings.specs.Headings.{headings};
 ghost use Rattle.seeker.specs.Found.{StandsSays, FindSays};

@@ -1,4 +1,6 @@
 // The read head (document 02, Items 2 and 3): the call, on copies of the windows. The crate `sequencing` does the work, turn by turn.
+#![tactic(auto)]
+
 ghost use Rattle.narrowing.specs.Windows.{win};
 ghost use Rattle.answers.specs.Said.{says};
 ghost use Rattle.heads.specs.Promise.{left, Sequences};

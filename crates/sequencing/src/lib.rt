@@ -1,5 +1,7 @@
 // The work of the read head (document 01, 'Order of work'; document 02, Item 2): rounds over the jobs by rising number, for each job side 0 until it rests,
 // then side 1.
+#![tactic(auto)]
+
 ghost use Rattle.std.specs.Prelude.{length};
 ghost use Rattle.narrowing.specs.Windows.{win, Long};
 ghost use Rattle.heads.specs.Promise.{GoodHead};

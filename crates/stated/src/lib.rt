@@ -1,4 +1,6 @@
 // Code 25 (document 01, 'Log records'): what a record states of the starts, held against the windows reached so far.
+#![tactic(auto)]
+
 ghost use Rattle.std.specs.Prelude.{◌≡◌, true, [], ◌*◌, ◌≤◌, ◌<◌, length};
 ghost use Rattle.lists.specs.Tests.{where?};
 ghost use Rattle.narrowing.specs.Windows.{win, side_of};

@@ -1,5 +1,7 @@
 // 001's Theta-tree in two lent arrays: total durations and completions. A leaf is filled, and the nodes above it are made right,
 // towards the root.
+#![tactic(auto)]
+
 ghost use Rattle.std.specs.Prelude.{◌≡◌, ◌+◌, ◌*◌, ◌^◌, ◌≤◌, ◌<◌, pos, ◌+ℤ◌, set};
 ghost use Rattle.std.specs.Int.Signed.{mag, lt_z};
 ghost use Rattle.joblist.specs.Limits.{most_jobs, most_time};

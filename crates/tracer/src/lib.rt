@@ -1,5 +1,7 @@
 // The call that names the jobs which cannot be done together (document 02, Item 14): the log is judged by the checker alone, which is lent copies of the
 // windows; where it ends in a clash, the marks of the walk back are given.
+#![tactic(auto)]
+
 ghost use Rattle.std.specs.Prelude.{◌≡◌};
 ghost use Rattle.narrowing.specs.Windows.{win};
 ghost use Rattle.answers.specs.Said.{says_check, says_conflict};

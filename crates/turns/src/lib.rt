@@ -1,5 +1,7 @@
 // One turn of the work (document 01, 'Order of work'): at a place of a round, a job and its side, the move with its record, if a rule applies and there is
 // room; and the place after one that rests.
+#![tactic(auto)]
+
 ghost use Rattle.std.specs.Prelude.{◌≡◌, ◌<◌, ◌≤◌, length};
 ghost use Rattle.narrowing.specs.Windows.{win};
 ghost use Rattle.timetable.specs.Table.{call, Workable};

@@ -1,5 +1,7 @@
 // The rows of a table walked (document 01, 'Library layouts'; refusals of document 02, Items 1 and 13), in either layout: one step along them, and all of
 // them checked.
+#![tactic(auto)]
+
 ghost use Rattle.std.specs.Prelude.{◌≡◌, ℕ, ◌≤◌, length, drop};
 ghost use Rattle.lists.specs.Lists.{◌!◌};
 ghost use Rattle.joblist.specs.Limits.{most_time, most_jobs};

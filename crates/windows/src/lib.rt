@@ -1,5 +1,7 @@
 // Windows in code: tested against the job's length (document 02, Item 3), moved by a rule (document 01, 'The two time-tabling rules'), and copied. The search and
 // the checker both stand on it.
+#![tactic(auto)]
+
 ghost use Rattle.std.specs.Prelude.{◌≡◌, ◌+◌, ◌≤◌, ◌<◌, ◌++◌, leb, ltb, pos, ◌+ℤ◌, ◌-ℤ◌, length, take, drop};
 ghost use Rattle.lists.specs.Tests.{both};
 ghost use Rattle.lists.specs.Extremes.{found_or};

@@ -1,1 +1,2 @@
 // No code: tables (specs/) and their proofs (proofs/).
+#![tactic(auto)]

@@ -1,4 +1,6 @@
 // The writer of project texts (document 02, Item 13): the tests in their order, and then the text, which the lists say.
+#![tactic(auto)]
+
 ghost use Rattle.answers.specs.Said.{says_write};
 ghost use Rattle.exchange.specs.Write.{Writes};
 
