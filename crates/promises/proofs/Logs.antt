@@ -6,7 +6,7 @@ use mathlib.Core.List.{List, [], ◌∷◌, map}
 use lib.ListN.{length, get_or}
 use Rattle.narrowing.specs.Windows.{Win, Side}
 use Rattle.narrowing.specs.Rules.{Family}
-use Rattle.narrowing.specs.Search.{Search, Move}
+use Rattle.narrowing.specs.Search.{Search, Move, after}
 use Rattle.narrowing.specs.Rounds.{Choice, Chosen}
 use Rattle.journal.specs.Journal.{record_words, AreRecords, room_of, record_at, logged}
 use Rattle.journal.proofs.Records.{logged_record}
@@ -26,7 +26,7 @@ module _ (entry : Move → List ℕ) where
       entries_fine : (W : Win) (j : ℕ) (s : Side) (ms : List Move) → Chosen R G W j s ms → (i : ℕ) → i < length ms → fine (get_or (map entry ms) i [])
       entries_fine W j s [] x i b = absurd (omega arith)
       entries_fine W j s (m ∷ ms) x zero b = each W j s m x.0
-      entries_fine W j s (m ∷ ms) x (suc i) b = entries_fine _ m.job m.side ms x.1 i (omega arith)
+      entries_fine W j s (m ∷ ms) x (suc i) b = entries_fine (after R W m.job m.side m.choice) m.job m.side ms x.1 i (omega arith)
 
       pub logged_fine : (W : Win) (j : ℕ) (s : Side) (ms : List Move) → Chosen R G W j s ms → (log : List ℕ) → length ms ≤ room_of log → (i : ℕ) → i < length ms
           → fine (record_at (logged (map entry ms) log) i)

@@ -1,6 +1,6 @@
 -- Schedules and the rules: no rule applies to windows fixed by a schedule; and where every job is fixed, a rule applies exactly if the demands of
 -- the running jobs exceed the capacity at some time.
-use Prim.Native.Nat.{ℕ, suc, ◌+◌, ◌<◌}
+use Prim.Native.Nat.{ℕ, zero, suc, ◌+◌, ◌<◌}
 use native.Mathlib.Omega.{arith}
 use mathlib.Core.Path.{◌≡◌, refl, ap}
 use mathlib.Core.Bool.{Bool, true, false}
@@ -43,6 +43,7 @@ module _ (J : Jobs) (s : List ℕ) (W : Win) (f : Fixed J.n J.p s W) where
   applies_over : (j : ℕ) (v : Side) (b : ℕ) → j < J.n → Applies J W j v b → Overdrawn J s
   applies_over j early (suc t) h a = (t, crowded_over j t h (omega (arith, f.early j h)) a.crowded)
   applies_over j late t h a = (t, crowded_over j t h (omega (arith, f.late j h)) a.crowded)
+  applies_over j early zero h a = elim a [ ]
 
   -- and such a time gives a rule that applies
   over_applies : Overdrawn J s → (j : ℕ) × (b : ℕ) × (j < J.n) × Applies J W j early b

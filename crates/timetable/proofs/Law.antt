@@ -1,6 +1,6 @@
 -- Time-tabling is a lawful family; its searches find the greatest crowded time on side 0 and the least on side 1, and, where every window is long enough, a
 -- rule wherever one applies.
-use Prim.Native.Nat.{ℕ, suc, ◌-◌, ◌≤◌, ◌<◌}
+use Prim.Native.Nat.{ℕ, zero, suc, ◌-◌, ◌≤◌, ◌<◌}
 use native.Mathlib.Omega.{arith}
 use mathlib.Core.Path.{◌≡◌}
 use mathlib.Core.Bool.{true, not}
@@ -40,10 +40,12 @@ module _ (J : Jobs) (U W : Win) (i : Inside J.n U W) where
   again : (j : ℕ) (s : Side) (b : ℕ) → j < J.n → Applies J W j s b → Tighter U j s b → Applies J U j s b
   again j early (suc t) h a q = record { from = omega arith; to = omega (arith, i.early j h); crowded = crowded_in j t a.crowded }
   again j late t h a q = record { from = omega (arith, i.late j h); to = q; crowded = crowded_in j t a.crowded }
+  again j early zero h a q = elim a [ ]
 
 tighter : (J : Jobs) (W : Win) (j : ℕ) (s : Side) (b : ℕ) → Applies J W j s b → Tighter W j s b
 tighter J W j early (suc t) a = omega arith
 tighter J W j late t a = omega arith
+tighter J W j early zero a = elim a [ ]
 
 pub lawful : (J : Jobs) → Lawful J.n (Applies J)
 lawful J = record { tighter = λ W j s b h a. tighter J W j s b a; again = λ U W j s b i h a t. (b, again J U W i j s b h a t) }
@@ -67,6 +69,7 @@ module _ (J : Jobs) (W : Win) (j : ℕ) where
     where
       none_early : (b : ℕ) → Applies J W j early b → ⊥
       none_early (suc t) a = d t (record { from = a.from; to = a.to; has = a.crowded })
+      none_early zero a = elim a [ ]
   early_found (some t) d = record { from = d.0.from; to = d.0.to; crowded = d.0.has }
 
   late_found : J.p ! j ≤ W.l ! j → (x : Option ℕ) → Least (Crowded J W j) (W.l ! j - J.p ! j) (J.p ! j) x → Offered (Applies J W j late) (bound late) x

@@ -1,5 +1,5 @@
 -- Time-tabling does not look at the jobs' numbers: renumbered, the same rules apply.
-use Prim.Native.Nat.{ℕ, suc, ◌<◌}
+use Prim.Native.Nat.{ℕ, zero, suc, ◌<◌}
 use native.Mathlib.Omega.{arith}
 use mathlib.Core.Path.{◌≡◌, sym, ap, subst, ◌∙◌}
 use mathlib.Core.Bool.{not}
@@ -46,6 +46,7 @@ module _ (π σ : ℕ → ℕ) (J I : Jobs) (h : Permutes J.n π σ) (s : SameJo
       record { from = omega (arith, v.early j c); to = omega (arith, v.early j c, s.lasts j c); crowded = crowded_same W U v j t c a.crowded }
   alike W U v j late t c a =
       record { from = omega (arith, v.late j c, s.lasts j c); to = omega (arith, v.late j c); crowded = crowded_same W U v j t c a.crowded }
+  alike W U v j early zero c a = elim a [ ]
 
   jobs_back : SameJobs σ I J
   jobs_back =
