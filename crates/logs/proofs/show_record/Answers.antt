@@ -19,8 +19,8 @@ offset_bounds-log-from c =
     let a = c.args in
     omega (arith, room_words a.log.now a.k (omega (arith, c.room.ensures, c.if-k-room.true)))
 
-pub UNKNOWN-slice-bounds-result-end : goal.UNKNOWN-slice-bounds-result-end
-UNKNOWN-slice-bounds-result-end c =
+pub slice_bounds-result-end : goal.slice_bounds-result-end
+slice_bounds-result-end c =
     let a = c.args in
     omega (arith, room_words a.log.now a.k (omega (arith, c.room.ensures, c.if-k-room.true)))
 

@@ -11,19 +11,19 @@ use Rattle.journal.proofs.Records.{room_words, rewritten_out, rewritten_parts, w
 use Rattle.logs.proofs.write.Goals as goal
 use Rattle.logs.proofs.write.Goals.{After-lay, Else-room-k}
 
-room-left : (d : Else-room-k) → d.args.k < room_of d.args.log-1.now
+room-left : (d : Else-room-k) → d.args.k < room_of d.args.log.now
 room-left d = omega (arith, d.room.ensures, d.if-room-k.false)
 
-enough : (d : Else-room-k) → record_words * d.args.k + record_words ≤ length d.args.log-1.now
-enough d = room_words d.args.log-1.now d.args.k (room-left d)
+enough : (d : Else-room-k) → record_words * d.args.k + record_words ≤ length d.args.log.now
+enough d = room_words d.args.log.now d.args.k (room-left d)
 
-set-sized : (d : After-lay) → length (d).args.t6 ≡ set_words
+set-sized : (d : After-lay) → length d.args.t6 ≡ set_words
 set-sized d = search rules
 
 pub returns-then-room-k : goal.returns-then-room-k
 returns-then-room-k c =
     let s = c in
-    sym (rewritten_out s.args.log-1.now s.args.k _ (omega (arith, c.room.ensures, c.if-room-k.true)))
+    sym (rewritten_out s.args.log.now s.args.k _ (omega (arith, c.room.ensures, c.if-room-k.true)))
 
 pub overflow_mul-at : goal.overflow_mul-at
 overflow_mul-at c = omega (arith, enough (goal.at.overflow_mul-at c).Else-room-k)
@@ -47,6 +47,6 @@ returns c =
     let words = laid.count in
     c.lay-2.ensures
     ∙ rw laid.lay.ensures
-    (rewritten_parts a.log-1.now a.k (in_words a.job a.side a.time a.t6) (room-left passed)
+    (rewritten_parts a.log.now a.k (in_words a.job a.side a.time a.t6) (room-left passed)
     (written_length a.job a.side a.time a.t6 (set-sized (goal.at.returns c).After-lay)) (a.job ∷ a.side ∷ a.time ∷ words.result ∷ []) a.t6
     (ap (λ (m : ℕ). a.job ∷ a.side ∷ a.time ∷ m ∷ a.t6) words.ensures))

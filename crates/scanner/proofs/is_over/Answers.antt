@@ -4,15 +4,15 @@ use Rattle.scanner.proofs.is_over.Goals as goal
 
 pub returns-in-Number : goal.returns-in-Number
 returns-in-Number c =
-    let q = rw c.enum_told-1.given.1 at c.next_number.ensures in
+    let q = rw c.in-Number.is at c.next_number.ensures in
     some_left _ _ _ q.2
 
 pub returns-in-Other : goal.returns-in-Other
 returns-in-Other c =
-    let q = rw c.enum_told-in-Other-1.given.1 at c.next_number.ensures in
+    let q = rw c.in-Other.is at c.next_number.ensures in
     some_left _ _ _ q.1
 
 pub returns-in-End : goal.returns-in-End
 returns-in-End c =
-    let q = rw c.enum_told-in-End-1.given.1 at c.next_number.ensures in
+    let q = rw c.in-End.is at c.next_number.ensures in
     none_left _ q

@@ -13,7 +13,7 @@ pub returns : goal.returns
 returns c =
     let a = c.args in
     rw (
-      to_z-of_z (sfits_of {w = w32} c.low.type-inv),
+      to_z-of_z (sfits_of {w = w32} c.low.type_inv),
       to_z_pos w32 {n = a.e} (omega arith),
       c.low.ensures,
       pos_sub a.t a.p,

@@ -7,4 +7,4 @@ use Rattle.windows.proofs.restore.Goals as goal
 pub returns : goal.returns
 returns c =
     let a = c.args in
-    c.copy.ensures ∙ over_whole a.from.now a.to-1.now (omega (arith, c.requires))
+    c.copy.ensures ∙ over_whole a.from.now a.to.now (omega (arith, c.requires))

@@ -1,4 +1,3 @@
-use borrow.Author.Tests.{not-true, not-false}
 use Prim.Native.Nat.{◌<◌, ◌-◌}
 use mathlib.Core.Path.{refl, sym, ◌∙◌}
 use native.Mathlib.Omega.{arith}
@@ -26,13 +25,13 @@ returns-then-not-is_digit c =
     let h : l.loop-i.i < length l.args.text.now = omega arith in
     let q = l.loop-i.invariant in
     let solid = sym c.is_blank.ensures ∙ c.if-is_blank.false in
-    let o = inside_other _ _ h q.0 solid (sym c.is_digit.ensures ∙ not-true _ c.if-not-is_digit.true) in
+    let o = inside_other _ _ h q.0 solid (sym c.is_digit.ensures ∙ c.if-not-is_digit.true) in
     (o.0, q.2 ∙ o.1)
 
 pub with_digit-v-requires : goal.with_digit-v-requires
 with_digit-v-requires c =
     let l = c in
-    (l.loop-i.invariant.1.most, sym c.is_digit.ensures ∙ not-false _ c.if-not-is_digit.false)
+    (l.loop-i.invariant.1.most, sym c.is_digit.ensures ∙ c.if-not-is_digit.false)
 
 pub overflow_add-i : goal.overflow_add-i
 overflow_add-i c = omega arith
@@ -46,7 +45,7 @@ loop-i-preserved c =
     let h : l.loop-i.i < length l.args.text.now = omega arith in
     let q = l.loop-i.invariant in
     let solid = sym c.is_blank.ensures ∙ c.if-is_blank.false in
-    let counts = sym c.is_digit.ensures ∙ not-false _ c.if-not-is_digit.false in
+    let counts = sym c.is_digit.ensures ∙ c.if-not-is_digit.false in
     (_, c.with_digit-v.ensures q.0 q.1, q.2 ∙ inside_digit _ _ h q.0 solid counts)
 
 pub returns : goal.returns
