@@ -1,4 +1,4 @@
--- `logbook::clear` meets its contract. Invariant: the first `done` words are 0, the rest is as it was. The measure is what is left of the log.
+-- `logs::clear` meets its contract. Invariant: the first `done` words are 0, the rest is as it was. The measure is what is left of the log.
 use Prim.Native.Nat.{◌≤◌, ◌-◌}
 use mathlib.Core.List.{◌++◌}
 use mathlib.Core.Path.{◌≡◌}

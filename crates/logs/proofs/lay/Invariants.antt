@@ -1,4 +1,4 @@
--- `logbook::lay` meets its contract. Invariant: the first i words are laid, the rest is as it was. The measure is what is left of the words.
+-- `logs::lay` meets its contract. Invariant: the first i words are laid, the rest is as it was. The measure is what is left of the words.
 use Prim.Native.Nat.{◌-◌, ◌≤◌}
 use mathlib.Core.Path.{◌≡◌}
 use lib.ListN.{length}

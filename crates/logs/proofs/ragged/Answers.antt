@@ -1,4 +1,4 @@
--- `logbook::ragged` meets its contract: it is the definition.
+-- `logs::ragged` meets its contract: it is the definition.
 use mathlib.Core.Path.{refl}
 use Rattle.journal.specs.Journal.{is_whole}
 use Rattle.logs.proofs.ragged.Goals as goal

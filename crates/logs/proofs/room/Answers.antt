@@ -1,4 +1,4 @@
--- `logbook::room` meets its contract: it is the definition.
+-- `logs::room` meets its contract: it is the definition.
 use mathlib.Core.Path.{refl}
 use Rattle.journal.specs.Journal.{room_of}
 use Rattle.logs.proofs.room.Goals as goal

@@ -1,4 +1,4 @@
--- `logbook::set_of` meets its contract: the part from the head's end is all that is left of the record.
+-- `logs::set_of` meets its contract: the part from the head's end is all that is left of the record.
 use Prim.Native.Nat.{◌-◌}
 use native.Mathlib.Omega.{arith}
 use lib.ListN.{length, drop, length-drop}

@@ -1,4 +1,4 @@
--- `logbook::show_record` meets its contract. Where k is below the room the record's words lie within the log, so nothing wraps.
+-- `logs::show_record` meets its contract. Where k is below the room the record's words lie within the log, so nothing wraps.
 use native.Mathlib.Omega.{arith}
 use mathlib.Core.Path.{sym}
 use Rattle.journal.proofs.Records.{room_words, record_part, record_out}

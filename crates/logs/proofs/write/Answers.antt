@@ -1,4 +1,4 @@
--- `logbook::write` meets its contract: the head is laid, then the set behind it, and together they are the record's words.
+-- `logs::write` meets its contract: the head is laid, then the set behind it, and together they are the record's words.
 use Prim.Native.Nat.{ℕ, ◌+◌, ◌*◌, ◌≤◌, ◌<◌}
 use native.Mathlib.Omega.{arith}
 use mathlib.Core.List.{[], ◌∷◌}
@@ -17,7 +17,7 @@ room-left d = omega (arith, d.room.ensures, d.if-room-k.false)
 enough : (d : Else-room-k) → record_words * d.args.k + record_words ≤ length d.args.log.now
 enough d = room_words d.args.log.now d.args.k (room-left d)
 
-set-sized : (d : After-lay) → length d.args.t6 ≡ set_words
+set-sized : (d : After-lay) → length d.args.set ≡ set_words
 set-sized d = search rules
 
 pub returns-then-room-k : goal.returns-then-room-k
@@ -37,7 +37,7 @@ overflow_add-at c = omega (arith, enough (goal.at.overflow_add-at c).Else-room-k
 pub lay-requires-2 : goal.lay-requires-2
 lay-requires-2 c =
     let laid = c in
-    omega (arith, enough (goal.at.lay-requires-2 c).Else-room-k, set-sized (goal.at.lay-requires-2 c).After-lay, laid.lay.auto.0)
+    omega (arith, enough (goal.at.lay-requires-2 c).Else-room-k, set-sized (goal.at.lay-requires-2 c).After-lay, laid.lay.auto.log)
 
 pub returns : goal.returns
 returns c =
@@ -47,6 +47,6 @@ returns c =
     let words = laid.count in
     c.lay-2.ensures
     ∙ rw laid.lay.ensures
-    (rewritten_parts a.log.now a.k (in_words a.job a.side a.time a.t6) (room-left passed)
-    (written_length a.job a.side a.time a.t6 (set-sized (goal.at.returns c).After-lay)) (a.job ∷ a.side ∷ a.time ∷ words.result ∷ []) a.t6
-    (ap (λ (m : ℕ). a.job ∷ a.side ∷ a.time ∷ m ∷ a.t6) words.ensures))
+    (rewritten_parts a.log.now a.k (in_words a.job a.side a.time a.set) (room-left (goal.at.returns c).Else-room-k)
+    (written_length a.job a.side a.time a.set (set-sized (goal.at.returns c).After-lay)) (a.job ∷ a.side ∷ a.time ∷ words.result ∷ []) a.set
+    (ap (λ (m : ℕ). a.job ∷ a.side ∷ a.time ∷ m ∷ a.set) words.ensures))
