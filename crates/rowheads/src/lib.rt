@@ -17,7 +17,7 @@ ghost use Rattle.rowheads.specs.Says.{PickSays, HeadSays};
 use scanner::Got;
 
 // A table of rows: whole jobs on so many resources, as in Patterson's layout; or PSPLIB's precedence relations, and its requests on so many resources.
-#[derive(Drop)]
+#[derive(Clone, Copy)]
 pub enum Table {
     Whole(u32),
     Relations,
