@@ -1,0 +1,12 @@
+-- `printing::numbers` is safe and ends. The loop's invariant: the place lies within the sink, which stays as long as it was.
+-- The measure is what is left of the numbers. Assumes nothing.
+use mathlib.Core.Path.{◌≡◌}
+use Prim.Native.Nat.{◌≤◌, ◌<◌, ◌-◌}
+use lib.ListN.{length}
+use Rattle.printing.proofs.numbers.Given as goal
+
+abbrev pub invariant-loop-i : goal.invariant-loop-i
+invariant-loop-i g l = (l.i ≤ length l.xs) × (length l.sink ≡ length l.initial.sink) × (l.next < length l.sink)
+
+abbrev pub decreases-loop-i : goal.decreases-loop-i
+decreases-loop-i g l = length l.xs - l.i
