@@ -14,7 +14,6 @@ use Rattle.lists.proofs.Tests.{both_false, every_fault}
 use Rattle.narrowing.specs.Windows.{Win, side_of}
 use Rattle.members.specs.Members.{has}
 use Rattle.journal.specs.Journal.{set_of_record, job_of}
-use Rattle.codes.specs.Facts.{side}
 use Rattle.codes.specs.Codes.{takes_part, partners, tightens}
 use Rattle.exam.specs.Lent.{jobs_in}
 
