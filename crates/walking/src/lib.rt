@@ -12,7 +12,7 @@ use rowheads::{RowHead, Table};
 use scanner::Got;
 
 // A place among the rows: the next row, the successors left of the row before it, and the place in the text.
-#[derive(Drop)]
+#[derive(Clone, Copy)]
 pub struct Walk {
     pub next: u32,
     pub left: u32,
