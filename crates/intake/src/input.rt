@@ -6,7 +6,7 @@
 ghost use Rattle.std.specs.Prelude.{true, false, ◌≡◌, ◌≤◌, ◌<◌, ◌-◌};
 ghost use Rattle.intake.specs.Line.{line_end, at_byte, whole};
 
-use libc::STDIN_FILENO;
+use std::io::Read;
 
 // The greatest number of 64 bits.
 pub const LONG: u64 = 18446744073709551615;
@@ -14,7 +14,7 @@ pub const LONG: u64 = 18446744073709551615;
 // `now` is the byte that the cursor stands at, those from `at` up to `end` of the source wait behind it.
 // `left` is how many bytes may still be stood at, and 0 at the end of the input. Nothing says that an input
 // ends, and a proved loop has to: so it begins with a number that no run uses up, and falls with each byte.
-#[derive(Drop)]
+#[derive(Clone, Copy)]
 pub struct Cursor {
     pub now: u8,
     pub at: usize,
@@ -24,7 +24,7 @@ pub struct Cursor {
 }
 
 // The cursor at the first byte of the input.
-pub fn start(source: &mut [u8]) -> Cursor {
+pub fn start(input: &mut impl Read, source: &mut [u8]) -> Cursor {
     let before = Cursor {
         now: 0,
         at: 0,
@@ -32,35 +32,35 @@ pub fn start(source: &mut [u8]) -> Cursor {
         left: LONG,
         good: true,
     };
-    step(source, before)
+    step(input, source, before)
 }
 
 // The cursor with bytes waiting behind it: where none wait, those of the next read, of which the end
 // of the input, or a read that fails, brings none.
-fn filled(source: &mut [u8], c: Cursor) -> Cursor
+fn filled(input: &mut impl Read, source: &mut [u8], c: Cursor) -> Cursor
     ensures { result.left ≤ c.left }
 {
     if c.at < c.end {
         return c;
     }
-    let got = libc::read(STDIN_FILENO, source);
+    let got = input.read(source);
     Cursor {
         now: c.now,
         at: 0,
-        end: io::count(got, source),
+        end: got.unwrap_or(0),
         left: c.left,
         good: c.good,
     }
 }
 
 // The cursor one byte further on. At the end of the input it stays.
-pub fn step(source: &mut [u8], c: Cursor) -> Cursor
+pub fn step(input: &mut impl Read, source: &mut [u8], c: Cursor) -> Cursor
     ensures { result.left ≤ c.left - 1 }
 {
     if c.left == 0 {
         return c;
     }
-    let f = filled(source, c);
+    let f = filled(input, source, c);
     let at = f.at;
     if at < f.end && at < source.len() {
         return Cursor {
@@ -132,13 +132,13 @@ pub fn spoiled(c: Cursor) -> Cursor
 }
 
 // The cursor at the next line's first byte, with nothing wrong.
-pub fn next_line(source: &mut [u8], c: Cursor) -> Cursor
+pub fn next_line(input: &mut impl Read, source: &mut [u8], c: Cursor) -> Cursor
     ensures { result.left ≤ c.left - 1 }
 {
     let mut cursor = c;
     while !is_line_end(cursor) {
-        cursor = step(source, cursor);
+        cursor = step(input, source, cursor);
     }
     cursor.good = true;
-    step(source, cursor)
+    step(input, source, cursor)
 }

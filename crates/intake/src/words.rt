@@ -5,6 +5,7 @@ ghost use Rattle.std.specs.Prelude.{◌≤◌};
 ghost use Rattle.io.specs.Counts.{IsPrefixLen};
 
 use crate::input::{Cursor, is_at, is_digit, is_line_end, spoiled, step};
+use std::io::Read;
 
 // The greatest number of 32 bits.
 pub const SHORT: u64 = 4294967295;
@@ -17,11 +18,11 @@ pub struct Taken {
 }
 
 // The cursor past a space, at the digit behind it.
-fn at_digit(source: &mut [u8], c: Cursor) -> Cursor {
+fn at_digit(input: &mut impl Read, source: &mut [u8], c: Cursor) -> Cursor {
     if !c.good || !is_at(c, b' ') {
         return spoiled(c);
     }
-    let next = step(source, c);
+    let next = step(input, source, c);
     if !is_digit(next) {
         return spoiled(next);
     }
@@ -29,10 +30,10 @@ fn at_digit(source: &mut [u8], c: Cursor) -> Cursor {
 }
 
 // The number behind a space, at most `most`: one or more digits, however many zeros come first.
-pub fn number(source: &mut [u8], c: Cursor, most: u64) -> Taken
+pub fn number(input: &mut impl Read, source: &mut [u8], c: Cursor, most: u64) -> Taken
     ensures { result.value ≤ most }
 {
-    let mut cursor = at_digit(source, c);
+    let mut cursor = at_digit(input, source, c);
     let mut value: u64 = 0;
     while cursor.good && is_digit(cursor) {
         let digit = (cursor.now - b'0') as u64;
@@ -41,20 +42,20 @@ pub fn number(source: &mut [u8], c: Cursor, most: u64) -> Taken
             return Taken { value: 0, cursor };
         }
         value = 10 * value + digit;
-        cursor = step(source, cursor);
+        cursor = step(input, source, cursor);
     }
     Taken { value, cursor }
 }
 
 // A line's first word, or as much of it as the lent bytes hold; the number is its length.
-pub fn word(source: &mut [u8], c: Cursor, into: &mut [u8]) -> Taken
+pub fn word(input: &mut impl Read, source: &mut [u8], c: Cursor, into: &mut [u8]) -> Taken
     ensures { IsPrefixLen result.value into.new }
 {
     let mut cursor = c;
     let mut n = 0;
     while n < into.len() && !is_line_end(cursor) && cursor.now != b' ' {
         into[n] = cursor.now;
-        cursor = step(source, cursor);
+        cursor = step(input, source, cursor);
         n += 1;
     }
     Taken {
