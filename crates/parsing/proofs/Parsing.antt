@@ -1,5 +1,5 @@
 -- A text read whole: from its opening and its rows to the project.
-use Prim.Native.Nat.{ℕ, ◌-◌, ◌≤◌}
+use Prim.Native.Nat.{ℕ, ◌≤◌}
 use native.Mathlib.Omega.{arith}
 use mathlib.Core.Path.{◌≡◌, refl, sym, ap, ◌∙◌}
 use mathlib.Core.Bool.{true, false}
@@ -9,10 +9,10 @@ use lib.Seq.{length-take-le}
 use Rattle.joblist.specs.Limits.{most_jobs}
 use Rattle.chains.specs.Paths.{Precedes, Below}
 use Rattle.texts.specs.Tokens.{Token, tokens}
-use Rattle.texts.specs.Readings.{Read, bad, good}
+use Rattle.texts.specs.Readings.{bad, good}
 use Rattle.scanner.specs.Scan.{none?}
 use Rattle.projects.specs.Projects.{Row, Project, pairs_from, pairs_of, durations}
-use Rattle.projects.specs.Patterson.{row, opening, project, patterson}
+use Rattle.projects.specs.Patterson.{row, opening, patterson}
 use Rattle.rowheads.specs.Heads.{head_in, row_in}
 use Rattle.walking.specs.Walk.{Seen, seeing, WalkedSays}
 use Rattle.walking.specs.Comes.{only_pairs}
