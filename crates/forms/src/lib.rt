@@ -6,9 +6,10 @@ ghost use Rattle.io.specs.Counts.{IsPrefixLen};
 
 use fields::{bytes, lists};
 use intake::{Cursor, LONG, SHORT, Taken, number};
+use std::io::Read;
 
 // So many lists, each with at most so many numbers.
-#[derive(Drop)]
+#[derive(Clone, Copy)]
 pub struct Lists {
     pub count: usize,
     pub most: u32,
@@ -16,7 +17,7 @@ pub struct Lists {
 
 // What stands in a line, in this order: none, one or two numbers below 2^32, perhaps one below 2^64, lists, more lists, and
 // perhaps a list of bytes.
-#[derive(Drop)]
+#[derive(Clone, Copy)]
 pub struct Form {
     pub shorts: u32,
     pub long: bool,
@@ -27,7 +28,7 @@ pub struct Form {
 
 // A line that was read: its numbers, each 0 where there is none, how many bytes it has, and the cursor behind it. Where the cursor
 // says that the line is not whole, the line has another form, and the rest says nothing.
-#[derive(Drop)]
+#[derive(Clone, Copy)]
 pub struct Line {
     pub first: u32,
     pub second: u32,
@@ -46,11 +47,11 @@ struct Head {
 }
 
 // A number, or 0 where none is asked for.
-fn number_if(asked: bool, source: &mut [u8], c: Cursor, most: u64) -> Taken
+fn number_if(asked: bool, input: &mut impl Read, source: &mut [u8], c: Cursor, most: u64) -> Taken
     ensures { result.value ≤ most }
 {
     if asked {
-        return number(source, c, most);
+        return number(input, source, c, most);
     }
     Taken {
         value: 0,
@@ -59,12 +60,12 @@ fn number_if(asked: bool, source: &mut [u8], c: Cursor, most: u64) -> Taken
 }
 
 // Reads them.
-fn numbers(source: &mut [u8], c: Cursor, form: Form) -> Head {
-    let a = number_if(0 < form.shorts, source, c, SHORT);
+fn numbers(input: &mut impl Read, source: &mut [u8], c: Cursor, form: Form) -> Head {
+    let a = number_if(0 < form.shorts, input, source, c, SHORT);
     let first = a.value as u32;
-    let b = number_if(1 < form.shorts, source, a.cursor, SHORT);
+    let b = number_if(1 < form.shorts, input, source, a.cursor, SHORT);
     let second = b.value as u32;
-    let l = number_if(form.long, source, b.cursor, LONG);
+    let l = number_if(form.long, input, source, b.cursor, LONG);
     let cursor = l.cursor;
     Head {
         first,
@@ -75,9 +76,24 @@ fn numbers(source: &mut [u8], c: Cursor, form: Form) -> Head {
 }
 
 // Reads the lists.
-fn all_lists(source: &mut [u8], c: Cursor, form: Form, words: &mut [u32]) -> Cursor {
-    let few = lists(source, c, words, 0, form.lists.count, form.lists.most);
+fn all_lists(
+    input: &mut impl Read,
+    source: &mut [u8],
+    c: Cursor,
+    form: Form,
+    words: &mut [u32],
+) -> Cursor {
+    let few = lists(
+        input,
+        source,
+        c,
+        words,
+        0,
+        form.lists.count,
+        form.lists.most,
+    );
     let all = lists(
+        input,
         source,
         few.cursor,
         words,
@@ -89,11 +105,17 @@ fn all_lists(source: &mut [u8], c: Cursor, form: Form, words: &mut [u32]) -> Cur
 }
 
 // Reads the bytes, or 0 where none are asked for.
-fn bytes_if(asked: bool, source: &mut [u8], c: Cursor, into: &mut [u8]) -> Taken
+fn bytes_if(
+    asked: bool,
+    input: &mut impl Read,
+    source: &mut [u8],
+    c: Cursor,
+    into: &mut [u8],
+) -> Taken
     ensures { IsPrefixLen result.value into.new }
 {
     if asked {
-        return bytes(source, c, into);
+        return bytes(input, source, c, into);
     }
     Taken {
         value: 0,
@@ -102,12 +124,19 @@ fn bytes_if(asked: bool, source: &mut [u8], c: Cursor, into: &mut [u8]) -> Taken
 }
 
 // Reads the rest of a line: its lists into the lent words, each behind its length and one behind the other, its bytes into the lent ones.
-pub fn read(source: &mut [u8], c: Cursor, form: Form, words: &mut [u32], text: &mut [u8]) -> Line
+pub fn read(
+    input: &mut impl Read,
+    source: &mut [u8],
+    c: Cursor,
+    form: Form,
+    words: &mut [u32],
+    text: &mut [u8],
+) -> Line
     ensures { IsPrefixLen result.bytes text.new }
 {
-    let h = numbers(source, c, form);
-    let behind = all_lists(source, h.cursor, form, words);
-    let t = bytes_if(form.bytes, source, behind, text);
+    let h = numbers(input, source, c, form);
+    let behind = all_lists(input, source, h.cursor, form, words);
+    let t = bytes_if(form.bytes, input, source, behind, text);
     let cursor = t.cursor;
     Line {
         first: h.first,
