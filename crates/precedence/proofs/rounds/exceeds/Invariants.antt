@@ -1,0 +1,10 @@
+-- `precedence::rounds::exceeds` meets its contract: none of the first j is above h.
+use Prim.Native.Nat.{ℕ, ◌≤◌, ◌<◌, ◌+◌, ◌-◌}
+use Rattle.lists.specs.Lists.{◌!◌}
+use Rattle.precedence.proofs.rounds.exceeds.Given as goal
+
+abbrev pub invariant-loop-j : goal.invariant-loop-j
+invariant-loop-j l = (l.j ≤ l.m) × ((i : ℕ) → i < l.j → l.v ! i + l.p ! i ≤ l.h)
+
+abbrev pub decreases-loop-j : goal.decreases-loop-j
+decreases-loop-j l = l.m - l.j
