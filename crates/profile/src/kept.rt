@@ -5,7 +5,7 @@ ghost use Rattle.profile.specs.Keeps.{Growable, Starts, Grows};
 use crate::points::{BEHIND_ALL, cut, lift};
 
 // How many points there are, and a level that the function nowhere passes.
-#[derive(Drop)]
+#[derive(Clone, Copy)]
 pub struct Outline {
     pub m: usize,
     pub peak: u32,
