@@ -12,7 +12,7 @@ use Rattle.lists.specs.Lists.{◌!◌}
 use Rattle.lists.specs.Tests.{both, pick}
 use Rattle.lists.specs.Extremes.{found_or}
 use Rattle.lists.specs.Sets.{Set}
-use Rattle.lists.specs.Sweeps.{advanced, sweep}
+use Rattle.lists.specs.Sweeps.{sweep}
 use Rattle.lists.proofs.Sweeps.{sweep_latest}
 use Rattle.narrowing.specs.Windows.{Win, early}
 use Rattle.joblist.specs.Limits.{most_time, most_jobs}
