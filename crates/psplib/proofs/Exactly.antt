@@ -8,7 +8,7 @@ use mathlib.Core.List.{List, [], ◌∷◌, map}
 use mathlib.Core.Logic.{◌⊎◌, inl, inr, ◌↔◌}
 use Rattle.lists.proofs.Sets.{clash}
 use Rattle.joblist.specs.Limits.{most_demand, most_jobs, most_resources}
-use Rattle.texts.specs.Tokens.{Token, tokens}
+use Rattle.texts.specs.Tokens.{tokens}
 use Rattle.texts.specs.Readings.{Read, bad, in_turn, numbers_up_to}
 use Rattle.texts.proofs.Exactly.{OneRefused, First, first_refused, last_refused, Behind, in_turn_refused, NumbersRefused, numbers_refused}
 use Rattle.headings.specs.Lines.{line, behind, behind_lines, counted}
