@@ -3,7 +3,6 @@ ghost use Rattle.std.specs.Prelude.{◌≡◌, cond};
 ghost use Rattle.requests.specs.declared.names.Call as calls;
 ghost use Rattle.requests.specs.Names.{Named, line_form, form_of};
 
-use check::same;
 use forms::{Form, Lists};
 
 // The most entries of a list of jobs, the most words of a log, the most pairs, and the most bytes of a text or a buffer.
@@ -19,21 +18,21 @@ pub const TEXT: usize = 524288;
 pub const WORDS: usize = 4 * (JOBS + 1) + 2 * (PAIRS + 1);
 
 // The layout that a text is to be read in.
-#[derive(Drop)]
+#[derive(Clone, Copy)]
 pub enum Layout {
     Patterson,
     Psplib,
 }
 
 // What is asked of a job list and its log.
-#[derive(Drop)]
+#[derive(Clone, Copy)]
 pub enum Task {
     Narrow,
     Check,
 }
 
 // The calls; of no other line is anything known.
-#[derive(Drop)]
+#[derive(Clone, Copy)]
 pub enum Call {
     Jobs(Task),
     Conflict,
@@ -49,31 +48,31 @@ pub enum Call {
 pub fn named(word: &[u8]) -> Call
     ensures { Named word.now result }
 {
-    if same(word, b"narrow") {
+    if word == b"narrow".as_slice() {
         return Call::Jobs(Task::Narrow);
     }
-    if same(word, b"check") {
+    if word == b"check".as_slice() {
         return Call::Jobs(Task::Check);
     }
-    if same(word, b"conflict") {
+    if word == b"conflict".as_slice() {
         return Call::Conflict;
     }
-    if same(word, b"record") {
+    if word == b"record".as_slice() {
         return Call::Record;
     }
-    if same(word, b"overload") {
+    if word == b"overload".as_slice() {
         return Call::Overload;
     }
-    if same(word, b"head") {
+    if word == b"head".as_slice() {
         return Call::Head;
     }
-    if same(word, b"patterson") {
+    if word == b"patterson".as_slice() {
         return Call::Read(Layout::Patterson);
     }
-    if same(word, b"psplib") {
+    if word == b"psplib".as_slice() {
         return Call::Read(Layout::Psplib);
     }
-    if same(word, b"write") {
+    if word == b"write".as_slice() {
         return Call::Write;
     }
     Call::Unknown
