@@ -1,8 +1,7 @@
 -- A turn on side 0 of the windows is one at side 0, and of the windows told the other way round one at side 1.
 use Prim.Native.Nat.{ℕ, ◌+◌, ◌-◌, ◌≤◌, ◌<◌}
 use native.Mathlib.Omega.{arith}
-use mathlib.Core.Path.{◌≡◌, sym, ap, subst, ◌∙◌}
-use mathlib.Core.Bool.{true, false}
+use mathlib.Core.Path.{◌≡◌, ap, subst, ◌∙◌}
 use mathlib.Core.List.{List}
 use mathlib.Core.Option.{Option, none, some}
 use lib.ListN.{length, set, length-set}
@@ -11,7 +10,7 @@ use borrow.Author.Tests.{lt-ltb, le-ltb}
 use Rattle.lists.specs.Lists.{◌!◌}
 use Rattle.lists.specs.Bounds.{lead}
 use Rattle.lists.proofs.Lists.{set_any}
-use Rattle.narrowing.specs.Windows.{Win, win, early, late, moved, closes}
+use Rattle.narrowing.specs.Windows.{Win, win, early, late, moved}
 use Rattle.joblist.specs.Limits.{most_time}
 use Rattle.heads.specs.Search.{bound, detect}
 use Rattle.heads.specs.Mirror.{less_from}
