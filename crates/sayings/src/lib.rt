@@ -10,7 +10,7 @@ use answers::{Answer, CheckAnswer, ConflictAnswer, OverloadAnswer, ReadAnswer, W
 use printing::{byte, number};
 
 // The answer words of documents 01 and 02, and two of the programs' own: that a record is shown, and that a line cannot be read.
-#[derive(Drop)]
+#[derive(Clone, Copy)]
 pub enum Word {
     Settled,
     Clash,
@@ -27,7 +27,7 @@ pub enum Word {
 }
 
 // A word, how many numbers stand behind it, at most two, and these.
-#[derive(Drop)]
+#[derive(Clone, Copy)]
 pub struct Saying {
     pub word: Word,
     pub count: u32,
@@ -147,32 +147,32 @@ fn spelled(word: Word) -> [u8; LETTERS] {
     }
 }
 
-fn letters(sink: &mut [u8], at: usize, word: &[u8]) -> usize
+fn letters(out: &impl Print, sink: &mut [u8], at: usize, word: &[u8]) -> usize
     requires { at < length sink.old }
     ensures { result < length sink.old }
 {
     let mut next = at;
     let mut i = 0;
     while i < word.len() && word[i] != b' ' {
-        next = byte(sink, next, word[i]);
+        next = byte(out, sink, next, word[i]);
         i += 1;
     }
     next
 }
 
-pub fn say(sink: &mut [u8], at: usize, s: Saying) -> usize
+pub fn say(out: &impl Print, sink: &mut [u8], at: usize, s: Saying) -> usize
     requires { at < length sink.old }
     ensures { result < length sink.old }
 {
     let said = s.word;
     let word = spelled(said);
-    let behind = letters(sink, at, &word);
+    let behind = letters(out, sink, at, &word);
     if s.count == 0 {
         return behind;
     }
-    let next = number(sink, behind, s.first);
+    let next = number(out, sink, behind, s.first);
     if s.count == 1 {
         return next;
     }
-    number(sink, next, s.second)
+    number(out, sink, next, s.second)
 }
