@@ -21,7 +21,7 @@ use Rattle.chains.proofs.Listed.{pair_listed, listed_pair}
 use Rattle.chains.proofs.Chains.{stable_most, stable_after, chain_on, chain_starts}
 use Rattle.texts.specs.Tokens.{Token}
 use Rattle.texts.specs.Readings.{good}
-use Rattle.projects.specs.Projects.{Row, Project, pairs_of, durations, demands_on, WithinLimits}
+use Rattle.projects.specs.Projects.{Row, Project, pairs_of, demands_on, WithinLimits}
 use Rattle.exchange.specs.Calls.{Lent, TextCall, TextAfter, Order, duration_of}
 use Rattle.exchange.specs.Tests.{Refusal}
 use Rattle.exchange.specs.Table.{Filled, Taken, Leaves, Answered}

@@ -13,7 +13,7 @@ use Rattle.joblist.specs.GoodList.{GoodList, refusal}
 use Rattle.chains.specs.Paths.{Precedes, Cycle}
 use Rattle.chains.specs.Listed.{Rising, NotRising}
 use Rattle.texts.specs.Readings.{good}
-use Rattle.projects.specs.Projects.{Project, durations}
+use Rattle.projects.specs.Projects.{Project}
 use Rattle.projects.specs.Patterson.{patterson}
 use Rattle.projects.specs.Made.{made}
 use Rattle.scribe.proofs.Rows.{made_back, pairs_back, durations_back, demands_back}
