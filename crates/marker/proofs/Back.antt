@@ -1,12 +1,12 @@
 -- One record of the walk back: from the member set of the marks behind it to that of the marks with it.
-use Prim.Native.Nat.{ℕ, suc, ◌+◌, ◌-◌, ◌≤◌, ◌<◌}
+use Prim.Native.Nat.{ℕ, suc, ◌+◌, ◌*◌, ◌-◌, ◌≤◌, ◌<◌}
 use native.Mathlib.Omega.{arith}
-use native.Mathlib.Decide.{ℕ_discrete}
+use native.Mathlib.Decide.{ℕ_discrete, dec_lt}
 use mathlib.Core.Path.{◌≡◌, refl, sym, ◌∙◌}
 use mathlib.Core.Bool.{Bool, true, false}
 use mathlib.Core.List.{List}
-use lib.Seq.{get_or-drop}
-use lib.ListN.{length, replicate, length-replicate}
+use lib.Seq.{get_or-drop, get_or-take}
+use lib.ListN.{length, drop, replicate, length-replicate, get_or-eq_default}
 use lib.Dec.{eqb}
 use borrow.Author.Tests.{eq-eqb, ne_eqb}
 use Rattle.lists.specs.Tests.{both, either}
@@ -17,7 +17,8 @@ use Rattle.members.proofs.Inserted.{inserted_length, inserted_words, inserted_sa
 use Rattle.members.proofs.Joined.{joined_set}
 use Rattle.members.proofs.Writing.{zeros_words, zeros_has}
 use Rattle.joblist.specs.Limits.{most_jobs}
-use Rattle.journal.specs.Journal.{head_words, room_of, record_at, records, job_of, is_member, set_of_record}
+use Rattle.journal.specs.Journal.{head_words, record_words, room_of, record_at, records, job_of, is_member, set_of_record}
+use Rattle.journal.proofs.Records.{record_in, record_out, record_length}
 use Rattle.conflicts.specs.Marks.{marked_by}
 use Rattle.conflicts.specs.Table.{marks_of}
 use Rattle.conflicts.proofs.Marks.{records_are, set_tells}
@@ -41,6 +42,24 @@ either_no false = refl
 -- a record's member words are words
 pub member_words : (x : List ℕ) → AreWords x → AreWords (set_of_record x)
 member_words x h q = rw (get_or-drop head_words x q 0) (h (head_words + q))
+
+-- a record's words are the log's, and behind its end there is none
+pub record_fits : (log : List ℕ) (k : ℕ) → AreWords log → AreWords (record_at log k)
+record_fits log k h q =
+    elim (dec_lt k (room_of log)) [
+      | no n ↦ rw (record_out log k (omega arith)) (omega arith)
+      | yes b ↦
+          elim (dec_lt q record_words) [
+            | yes c ↦
+                rw (
+                  record_in log k b,
+                  get_or-take record_words (drop (record_words * k) log) q 0 c,
+                  get_or-drop (record_words * k) log q 0,
+                )
+                (h (record_words * k + q))
+            | no n ↦ let long : length (record_at log k) ≤ q = omega (arith, record_length log k b) in rw (get_or-eq_default (record_at log k) 0 {n = q} long) (omega arith)
+          ]
+    ]
 
 -- whom the records from place i on mark
 abbrev pub behind : List ℕ → ℕ → ℕ → ℕ → Set
