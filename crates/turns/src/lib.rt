@@ -12,7 +12,7 @@ ghost use Rattle.turns.specs.Moves.{TurnSays};
 use profile::Outline;
 
 // A place of a round: a job, its side, and whether the round has moved a bound so far.
-#[derive(Drop)]
+#[derive(Clone, Copy)]
 pub struct Place {
     pub job: usize,
     pub side: u32,
