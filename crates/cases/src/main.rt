@@ -25,37 +25,37 @@ const FULL: usize = 4 * screen::MOST_JOBS;
 
 const OVERFULL: usize = FULL + 4;
 
-fn narrow_usual(case: u64, cap: u32, jobs: &[u32]) {
-    narrow_line(case, cap, jobs, USUAL);
+fn narrow_usual(rt: &impl Print, case: u64, cap: u32, jobs: &[u32]) {
+    narrow_line(rt, case, cap, jobs, USUAL);
 }
 
-fn cases_1_to_5() {
-    narrow_usual(1, 1, &[]);
-    narrow_usual(2, 5, &[2, 10, 3, 2, 2, 7, 3, 2, 2, 8, 4, 2]);
-    narrow_usual(3, 5, &[2, 10, 3, 2, 5, 10, 3, 2, 4, 10, 4, 2]);
-    narrow_usual(4, 1, &[0, 2, 2, 1, 0, 2, 2, 1]);
-    narrow_usual(5, 1, &[0, 2, 2, 1, 2, 4, 2, 1]);
+fn cases_1_to_5(rt: &impl Print) {
+    narrow_usual(rt, 1, 1, &[]);
+    narrow_usual(rt, 2, 5, &[2, 10, 3, 2, 2, 7, 3, 2, 2, 8, 4, 2]);
+    narrow_usual(rt, 3, 5, &[2, 10, 3, 2, 5, 10, 3, 2, 4, 10, 4, 2]);
+    narrow_usual(rt, 4, 1, &[0, 2, 2, 1, 0, 2, 2, 1]);
+    narrow_usual(rt, 5, 1, &[0, 2, 2, 1, 2, 4, 2, 1]);
 }
 
-fn cases_6_to_9() {
-    narrow_line(6, 1, &[0, 3, 1, 2], 3 * ONE);
-    narrow_line(6, 1, &[0, 3, 1, 2], 2 * ONE);
-    narrow_usual(7, 1, &[0, 3, 2, 1, 0, 3, 2, 1]);
-    narrow_usual(7, 1, &[0, 4, 2, 1, 0, 4, 2, 1]);
-    narrow_usual(8, 1, &[1, 1, 0, 5]);
-    narrow_usual(9, 1, &[3, 7, 4, 1]);
-    narrow_usual(9, 1, &[3, 6, 4, 1]);
+fn cases_6_to_9(rt: &impl Print) {
+    narrow_line(rt, 6, 1, &[0, 3, 1, 2], 3 * ONE);
+    narrow_line(rt, 6, 1, &[0, 3, 1, 2], 2 * ONE);
+    narrow_usual(rt, 7, 1, &[0, 3, 2, 1, 0, 3, 2, 1]);
+    narrow_usual(rt, 7, 1, &[0, 4, 2, 1, 0, 4, 2, 1]);
+    narrow_usual(rt, 8, 1, &[1, 1, 0, 5]);
+    narrow_usual(rt, 9, 1, &[3, 7, 4, 1]);
+    narrow_usual(rt, 9, 1, &[3, 6, 4, 1]);
 }
 
-fn cases_10_to_12() {
-    overload_line(10, &[0, 4, 2, 0, 4, 2, 0, 4, 2]);
-    overload_line(10, &[0, 4, 2, 0, 4, 2]);
-    overload_line(11, &[0, 10, 1, 2, 5, 2, 2, 5, 2]);
-    overload_line(12, &[8, 10, 1, 0, 3, 1]);
+fn cases_10_to_12(rt: &impl Print) {
+    overload_line(rt, 10, &[0, 4, 2, 0, 4, 2, 0, 4, 2]);
+    overload_line(rt, 10, &[0, 4, 2, 0, 4, 2]);
+    overload_line(rt, 11, &[0, 10, 1, 2, 5, 2, 2, 5, 2]);
+    overload_line(rt, 12, &[8, 10, 1, 0, 3, 1]);
 }
 
 // Jobs (0,1,0,0), as many as the lent list has room for, but for the last one's latest end.
-fn many_line(jobs: &mut [u32], last: u32)
+fn many_line(rt: &impl Print, jobs: &mut [u32], last: u32)
     requires { 1 < length jobs.old }
 {
     let mut at = 1;
@@ -64,22 +64,22 @@ fn many_line(jobs: &mut [u32], last: u32)
         at += 4;
     }
     jobs[at] = last;
-    narrow_usual(13, 1, jobs);
+    narrow_usual(rt, 13, 1, jobs);
 }
 
-fn case_13() {
-    many_line(&mut [0; FULL], 1);
-    many_line(&mut [0; OVERFULL], 1);
-    many_line(&mut [0; OVERFULL], LATE);
-    narrow_usual(13, 1, &[0, screen::MOST_TIME, 1, 1]);
-    narrow_usual(13, 1, &[0, LATE, 1, 1]);
-    narrow_usual(13, screen::MOST_DEMAND, &[]);
-    narrow_usual(13, HEAVY, &[]);
+fn case_13(rt: &impl Print) {
+    many_line(rt, &mut [0; FULL], 1);
+    many_line(rt, &mut [0; OVERFULL], 1);
+    many_line(rt, &mut [0; OVERFULL], LATE);
+    narrow_usual(rt, 13, 1, &[0, screen::MOST_TIME, 1, 1]);
+    narrow_usual(rt, 13, 1, &[0, LATE, 1, 1]);
+    narrow_usual(rt, 13, screen::MOST_DEMAND, &[]);
+    narrow_usual(rt, 13, HEAVY, &[]);
 }
 
-fn main() {
-    cases_1_to_5();
-    cases_6_to_9();
-    cases_10_to_12();
-    case_13();
+fn main(rt: HostRuntime) {
+    cases_1_to_5(&rt);
+    cases_6_to_9(&rt);
+    cases_10_to_12(&rt);
+    case_13(&rt);
 }

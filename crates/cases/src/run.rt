@@ -46,24 +46,24 @@ fn column(words: &mut [u32], at: usize, jobs: &[u32], width: usize, place: usize
 }
 
 // The case number, a space, and what was said.
-fn begun(sink: &mut [u8], case: u64, says: Saying) -> usize
+fn begun(rt: &impl Print, sink: &mut [u8], case: u64, says: Saying) -> usize
     requires { 0 < length sink.old }
     ensures { result < length sink.old }
 {
-    let at = printing::digits(sink, 0, case);
-    let next = printing::byte(sink, at, b' ');
-    say(sink, next, says)
+    let at = printing::digits(rt, sink, 0, case);
+    let next = printing::byte(rt, sink, at, b' ');
+    say(rt, sink, next, says)
 }
 
 // Each job's earliest start and latest end.
-fn windows(sink: &mut [u8], at: usize, est: &[u32], lct: &[u32]) -> usize
+fn windows(rt: &impl Print, sink: &mut [u8], at: usize, est: &[u32], lct: &[u32]) -> usize
     requires { at < length sink.old }
     ensures { result < length sink.old }
 {
     let mut next = at;
     let mut i = 0;
     while i < est.len() && i < lct.len() {
-        next = printing::numbers(sink, next, &[est[i], lct[i]]);
+        next = printing::numbers(rt, sink, next, &[est[i], lct[i]]);
         i += 1;
     }
     next
@@ -78,21 +78,21 @@ fn counted(says: Saying) -> usize {
     says.first as usize
 }
 
-fn records(sink: &mut [u8], at: usize, log: &[u32], count: usize) -> usize
+fn records(rt: &impl Print, sink: &mut [u8], at: usize, log: &[u32], count: usize) -> usize
     requires { at < length sink.old }
     ensures { result < length sink.old }
 {
     let mut next = at;
     let mut k = 0;
     while k < count {
-        next = printing::numbers(sink, next, desk::show_record(log, k));
+        next = printing::numbers(rt, sink, next, desk::show_record(log, k));
         k += 1;
     }
     next
 }
 
 // The log has so many words.
-pub fn narrow_line(case: u64, cap: u32, jobs: &[u32], log: u32) {
+pub fn narrow_line(rt: &impl Print, case: u64, cap: u32, jobs: &[u32], log: u32) {
     let mut words = [0u32; WORDS];
     let e = column(&mut words, 0, jobs, 4, 0);
     let l = column(&mut words, e, jobs, 4, 1);
@@ -100,23 +100,23 @@ pub fn narrow_line(case: u64, cap: u32, jobs: &[u32], log: u32) {
     let r = column(&mut words, p, jobs, 4, 3);
     put(&mut words, r, log);
     let says = jobcalls::narrow_or_check(&mut words, Task::Narrow, cap, 0);
-    narrow_said(case, says, &words);
+    narrow_said(rt, case, says, &words);
 }
 
-fn narrow_said(case: u64, says: Saying, words: &[u32]) {
+fn narrow_said(rt: &impl Print, case: u64, says: Saying, words: &[u32]) {
     let mut sink = [0u8; PART];
-    let said = begun(&mut sink, case, says);
-    let shown = windows(&mut sink, said, list(words, 0), list(words, 1));
-    let end = records(&mut sink, shown, list(words, 4), counted(says));
-    printing::finish(&mut sink, end);
+    let said = begun(rt, &mut sink, case, says);
+    let shown = windows(rt, &mut sink, said, list(words, 0), list(words, 1));
+    let end = records(rt, &mut sink, shown, list(words, 4), counted(says));
+    printing::finish(rt, &mut sink, end);
 }
 
-pub fn overload_line(case: u64, jobs: &[u32]) {
+pub fn overload_line(rt: &impl Print, case: u64, jobs: &[u32]) {
     let mut words = [0u32; WORDS];
     let e = column(&mut words, 0, jobs, 3, 0);
     let l = column(&mut words, e, jobs, 3, 1);
     column(&mut words, l, jobs, 3, 2);
     let mut sink = [0u8; PART];
-    let end = begun(&mut sink, case, jobcalls::overload(&words));
-    printing::finish(&mut sink, end);
+    let end = begun(rt, &mut sink, case, jobcalls::overload(&words));
+    printing::finish(rt, &mut sink, end);
 }

@@ -26,29 +26,45 @@ ghost use Rattle.requests.specs.Sizes.{line_words, text_bytes};
 use intake::{Cursor, next_line};
 use replies::reply;
 use requests::{TEXT, WORDS};
+use std::io::Read;
 
 // Answers the line that the cursor is at the start of, and goes to the start of the next. The answer is written out before
 // anything more is read, so that it is seen at once.
-fn line(source: &mut [u8], sink: &mut [u8], c: Cursor, words: &mut [u32], text: &mut [u8]) -> Cursor
+fn line(
+    rt: &impl Print,
+    input: &mut impl Read,
+    source: &mut [u8],
+    sink: &mut [u8],
+    c: Cursor,
+    words: &mut [u32],
+    text: &mut [u8],
+) -> Cursor
     requires { 0 < length sink.old }
 {
-    let request = requests::take(source, c, words, text);
+    let request = requests::take(input, source, c, words, text);
     let call = request.call;
     let taken = request.line;
     let n = taken.bytes;
-    let at = reply(sink, call, taken, words, &mut text[..n]);
-    printing::finish(sink, at);
-    next_line(source, taken.cursor)
+    let at = reply(rt, sink, call, taken, words, &mut text[..n]);
+    printing::finish(rt, sink, at);
+    next_line(input, source, taken.cursor)
 }
 
 // Every line of the input. There are no more lines than bytes: the number of turns is not used up either.
-fn serve(source: &mut [u8], sink: &mut [u8], words: &mut [u32], text: &mut [u8])
+fn serve(
+    rt: &impl Print,
+    input: &mut impl Read,
+    source: &mut [u8],
+    sink: &mut [u8],
+    words: &mut [u32],
+    text: &mut [u8],
+)
     requires { 0 < length sink.old }
 {
-    let mut cursor = intake::start(source);
+    let mut cursor = intake::start(input, source);
     let mut turns = intake::LONG;
     while 0 < turns && 0 < cursor.left {
-        cursor = line(source, sink, cursor, words, text);
+        cursor = line(rt, input, source, sink, cursor, words, text);
         turns -= 1;
     }
 }
@@ -67,10 +83,18 @@ fn text_room() -> [u8; TEXT]
 }
 
 // The arrays take 1.2 MB of the stack; a call that reads a project list takes 0.3 MB more.
-fn main() {
+fn main(rt: HostRuntime) {
+    let mut input = rt.stdin();
     let mut source = io::large_buffer();
     let mut sink = io::large_buffer();
     let mut words = room();
     let mut text = text_room();
-    serve(&mut source, &mut sink, &mut words, &mut text);
+    serve(
+        &rt,
+        &mut input,
+        &mut source,
+        &mut sink,
+        &mut words,
+        &mut text,
+    );
 }

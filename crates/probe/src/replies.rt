@@ -8,54 +8,55 @@ use requests::{Call, Layout, Task};
 use sayings::{Word, bare, say};
 
 // The first so many of the packed lists.
-fn lists(sink: &mut [u8], at: usize, words: &[u32], k: usize) -> usize
+fn lists(rt: &impl Print, sink: &mut [u8], at: usize, words: &[u32], k: usize) -> usize
     requires { at < length sink.old }
     ensures { result < length sink.old }
 {
     let end = packed::start(words, k);
-    printing::numbers(sink, at, &words[..end])
+    printing::numbers(rt, sink, at, &words[..end])
 }
 
 // Behind narrowing and the check the windows; behind narrowing also the log.
-fn jobs(sink: &mut [u8], task: Task, line: Line, words: &mut [u32]) -> usize
+fn jobs(rt: &impl Print, sink: &mut [u8], task: Task, line: Line, words: &mut [u32]) -> usize
     requires { 0 < length sink.old }
     ensures { result < length sink.old }
 {
     let says = jobcalls::narrow_or_check(words, task, line.first, line.long as usize);
-    let said = say(sink, 0, says);
-    let at = lists(sink, said, words, 2);
+    let said = say(rt, sink, 0, says);
+    let at = lists(rt, sink, said, words, 2);
     match task {
-        Task::Narrow => printing::list(sink, at, packed::list(words, 4)),
+        Task::Narrow => printing::list(rt, sink, at, packed::list(words, 4)),
         Task::Check => at,
     }
 }
 
 // Behind the read head's answer the windows.
-fn head(sink: &mut [u8], words: &mut [u32]) -> usize
+fn head(rt: &impl Print, sink: &mut [u8], words: &mut [u32]) -> usize
     requires { 0 < length sink.old }
     ensures { result < length sink.old }
 {
     let says = jobcalls::sequence(words);
-    let at = say(sink, 0, says);
-    lists(sink, at, words, 2)
+    let at = say(rt, sink, 0, says);
+    lists(rt, sink, at, words, 2)
 }
 
-fn conflict(sink: &mut [u8], line: Line, words: &[u32]) -> usize
+fn conflict(rt: &impl Print, sink: &mut [u8], line: Line, words: &[u32]) -> usize
     requires { 0 < length sink.old }
     ensures { result < length sink.old }
 {
     let marks = jobcalls::conflict(words, line.first, line.long as usize);
     let says = marks.says;
-    let at = say(sink, 0, says);
-    printing::list(sink, at, &marks.set)
+    let at = say(rt, sink, 0, says);
+    printing::list(rt, sink, at, &marks.set)
 }
 
-fn record(sink: &mut [u8], line: Line, words: &[u32]) -> usize
+fn record(rt: &impl Print, sink: &mut [u8], line: Line, words: &[u32]) -> usize
     requires { 0 < length sink.old }
     ensures { result < length sink.old }
 {
-    let at = say(sink, 0, bare(Word::Record));
+    let at = say(rt, sink, 0, bare(Word::Record));
     printing::list(
+        rt,
         sink,
         at,
         desk::show_record(packed::list(words, 0), line.long as usize),
@@ -63,7 +64,14 @@ fn record(sink: &mut [u8], line: Line, words: &[u32]) -> usize
 }
 
 // Behind a text that was to be read all lists of the project.
-fn read(sink: &mut [u8], layout: Layout, line: Line, words: &mut [u32], text: &[u8]) -> usize
+fn read(
+    rt: &impl Print,
+    sink: &mut [u8],
+    layout: Layout,
+    line: Line,
+    words: &mut [u32],
+    text: &[u8],
+) -> usize
     requires { 0 < length sink.old }
     ensures { result < length sink.old }
 {
@@ -73,32 +81,39 @@ fn read(sink: &mut [u8], layout: Layout, line: Line, words: &mut [u32], text: &[
         horizon: line.second,
     };
     let says = projectcalls::read(words, task, text);
-    let at = say(sink, 0, says);
-    lists(sink, at, words, 6)
+    let at = say(rt, sink, 0, says);
+    lists(rt, sink, at, words, 6)
 }
 
-fn write(sink: &mut [u8], line: Line, words: &[u32], text: &mut [u8]) -> usize
+fn write(rt: &impl Print, sink: &mut [u8], line: Line, words: &[u32], text: &mut [u8]) -> usize
     requires { 0 < length sink.old }
     ensures { result < length sink.old }
 {
     let says = projectcalls::write(words, line.first, text);
-    let at = say(sink, 0, says);
-    printing::bytes(sink, at, text)
+    let at = say(rt, sink, 0, says);
+    printing::bytes(rt, sink, at, text)
 }
 
 // The text is what the line has of bytes.
-pub fn reply(sink: &mut [u8], call: Call, line: Line, words: &mut [u32], text: &mut [u8]) -> usize
+pub fn reply(
+    rt: &impl Print,
+    sink: &mut [u8],
+    call: Call,
+    line: Line,
+    words: &mut [u32],
+    text: &mut [u8],
+) -> usize
     requires { 0 < length sink.old }
     ensures { result < length sink.old }
 {
     match call {
-        Call::Jobs(task) => jobs(sink, task, line, words),
-        Call::Conflict => conflict(sink, line, words),
-        Call::Record => record(sink, line, words),
-        Call::Overload => say(sink, 0, jobcalls::overload(words)),
-        Call::Head => head(sink, words),
-        Call::Read(layout) => read(sink, layout, line, words, text),
-        Call::Write => write(sink, line, words, text),
-        Call::Unknown => say(sink, 0, bare(Word::Unreadable)),
+        Call::Jobs(task) => jobs(rt, sink, task, line, words),
+        Call::Conflict => conflict(rt, sink, line, words),
+        Call::Record => record(rt, sink, line, words),
+        Call::Overload => say(rt, sink, 0, jobcalls::overload(words)),
+        Call::Head => head(rt, sink, words),
+        Call::Read(layout) => read(rt, sink, layout, line, words, text),
+        Call::Write => write(rt, sink, line, words, text),
+        Call::Unknown => say(rt, sink, 0, bare(Word::Unreadable)),
     }
 }
