@@ -5,6 +5,7 @@ use Rattle.scribe.proofs.Steps.{number_same}
 use Rattle.scribe.proofs.Counts.{write_parts, whole_room, put_whole}
 use Rattle.scribe.proofs.put_project.Goals as goal
 
+-- `whole_room`: there is room for the whole text, and it is not too long to be counted.
 pub put-a-requires : goal.put-a-requires
 put-a-requires c =
     let k = c in
