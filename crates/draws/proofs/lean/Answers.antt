@@ -24,7 +24,7 @@ asked d =
     let k = d.loop-k.k in
     spare_is s.args.dem.now s.args.cap s.args.words.now _ d.set_of-set.ensures k (s.requires.1.members k) _ d.named-all.ensures
 
--- ---- the needs
+-- ---- the goals
 
 pub named-all-requires : goal.named-all-requires
 named-all-requires c = let p = c.requires in (p.0, p.1.words, p.1.job)

@@ -12,7 +12,7 @@ use Rattle.stated.proofs.stated_true.Goals.{At-loop-k}
 set-length : (d : At-loop-k) → length d.set_of-set.result.now ≡ length d.args.words.now - head_words
 set-length d = ap length d.set_of-set.ensures ∙ length-drop head_words d.args.words.now
 
--- ---- the needs
+-- ---- the goals
 
 pub bounds-words-2 : goal.bounds-words-2
 bounds-words-2 c = omega (arith, c.requires.1.words)
