@@ -3,11 +3,7 @@ use mathlib.Core.Path.{sym}
 use Prim.Native.Nat.{ℕ}
 use lib.ListN.{length-replicate}
 use Rattle.requests.specs.Sizes.{text_bytes}
-use Rattle.probe.proofs.text_room.Statement.{statement}
-use Rattle.probe.proofs.text_room.Tie as tie
+use Rattle.probe.proofs.text_room.Goals as goal
 
-returns : tie.Need-returns
+pub returns : goal.returns
 returns c = sym (length-replicate {A = ℕ} text_bytes 0)
-
-pub text-room-spec : {M : Type 1} → statement M
-text-room-spec = tie.close (tie.spec returns)
