@@ -114,8 +114,8 @@ pub fn reads(
     successors: &mut [u32],
 ) -> bool
     ensures { ToldReads
-        (record { text = patterson text.entry.now; resource = 0; horizon = horizon; lent = record { est = est.entry.now; lct = lct.old; dur = dur.old; dem = dem.old; jobs = jobs.old; successors = successors.old } })
-        (record { est = est.exit.now; lct = lct.new; dur = dur.new; dem = dem.new; jobs = jobs.new; successors = successors.new })
+        (record { text = patterson text.now; resource = 0; horizon = horizon; lent = record { est = est.old; lct = lct.old; dur = dur.old; dem = dem.old; jobs = jobs.old; successors = successors.old } })
+        (record { est = est.new; lct = lct.new; dur = dur.new; dem = dem.new; jobs = jobs.new; successors = successors.new })
         result }
 {
     read(desk::read_patterson(text, 0, horizon, est, lct, dur, dem, jobs, successors))

@@ -39,10 +39,10 @@ fn accept(
     requires dur_len { ((r : Read Project) × (q : List ℕ) × ParsedSays r text.now resource dur.now q parsed)
         × (length dur.now ≡ most_jobs) × (heads.old ≡ replicate most_jobs 0) × (tails.old ≡ replicate most_jobs 0) }
     requires by_index { (j : ℕ) → dur.now ! j ≤ most_time }
-    ensures { ((r : Read Project) (q : List ℕ) → ParsedSays r text.entry.now resource dur.now q parsed → (L : Lent) → LongAs L sizes → DecidedSays
-        (record { text = r; resource = resource; horizon = horizon; lent = L }) text.entry.now
-        (record { heads = heads.exit.now; tails = tails.new; dur = dur.now; dem = q }) result)
-        × (length heads.exit.now ≡ most_jobs) × (length tails.new ≡ most_jobs) }
+    ensures { ((r : Read Project) (q : List ℕ) → ParsedSays r text.now resource dur.now q parsed → (L : Lent) → LongAs L sizes → DecidedSays
+        (record { text = r; resource = resource; horizon = horizon; lent = L }) text.now
+        (record { heads = heads.new; tails = tails.new; dur = dur.now; dem = q }) result)
+        × (length heads.new ≡ most_jobs) × (length tails.new ≡ most_jobs) }
 {
     if screen::MOST_TIME < horizon {
         return Parsed::Refused(31);
@@ -69,7 +69,7 @@ fn accept(
 // Whether a text of the Patterson layout is taken, for one resource (from 0) and a horizon, with lent lists of these lengths.
 pub fn decide_patterson(text: &[u8], resource: u32, horizon: u32, sizes: Sizes) -> Decided
     ensures { ((L : Lent) → LongAs L sizes → DecidedSays
-        (record { text = patterson text.entry.now; resource = resource; horizon = horizon; lent = L }) text.entry.now result.draft result.parsed) × Drafted result.draft }
+        (record { text = patterson text.now; resource = resource; horizon = horizon; lent = L }) text.now result.draft result.parsed) × Drafted result.draft }
 {
     let mut dur = [0u32; screen::MOST_JOBS];
     let mut dem = [0u32; screen::MOST_JOBS];
@@ -91,7 +91,7 @@ pub fn decide_patterson(text: &[u8], resource: u32, horizon: u32, sizes: Sizes) 
 // The same of a text of the PSPLIB layout.
 pub fn decide_psplib(text: &[u8], resource: u32, horizon: u32, sizes: Sizes) -> Decided
     ensures { ((L : Lent) → LongAs L sizes → DecidedSays
-        (record { text = psplib text.entry.now; resource = resource; horizon = horizon; lent = L }) text.entry.now result.draft result.parsed) × Drafted result.draft }
+        (record { text = psplib text.now; resource = resource; horizon = horizon; lent = L }) text.now result.draft result.parsed) × Drafted result.draft }
 {
     let mut dur = [0u32; screen::MOST_JOBS];
     let mut dem = [0u32; screen::MOST_JOBS];

@@ -24,8 +24,8 @@ pub fn read_patterson(
     successors: &mut [u32],
 ) -> ReadAnswer
     ensures { Reads
-        (record { text = patterson text.entry.now; resource = resource; horizon = horizon; lent = record { est = est.entry.now; lct = lct.old; dur = dur.old; dem = dem.old; jobs = jobs.old; successors = successors.old } })
-        (record { says = says_read result; lent = record { est = est.exit.now; lct = lct.new; dur = dur.new; dem = dem.new; jobs = jobs.new; successors = successors.new } }) }
+        (record { text = patterson text.now; resource = resource; horizon = horizon; lent = record { est = est.old; lct = lct.old; dur = dur.old; dem = dem.old; jobs = jobs.old; successors = successors.old } })
+        (record { says = says_read result; lent = record { est = est.new; lct = lct.new; dur = dur.new; dem = dem.new; jobs = jobs.new; successors = successors.new } }) }
 {
     let sizes = Sizes {
         est: est.len(),
@@ -62,8 +62,8 @@ pub fn read_psplib(
     successors: &mut [u32],
 ) -> ReadAnswer
     ensures { Reads
-        (record { text = psplib text.entry.now; resource = resource; horizon = horizon; lent = record { est = est.entry.now; lct = lct.old; dur = dur.old; dem = dem.old; jobs = jobs.old; successors = successors.old } })
-        (record { says = says_read result; lent = record { est = est.exit.now; lct = lct.new; dur = dur.new; dem = dem.new; jobs = jobs.new; successors = successors.new } }) }
+        (record { text = psplib text.now; resource = resource; horizon = horizon; lent = record { est = est.old; lct = lct.old; dur = dur.old; dem = dem.old; jobs = jobs.old; successors = successors.old } })
+        (record { says = says_read result; lent = record { est = est.new; lct = lct.new; dur = dur.new; dem = dem.new; jobs = jobs.new; successors = successors.new } }) }
 {
     let sizes = Sizes {
         est: est.len(),
