@@ -26,7 +26,7 @@ use Rattle.codes.specs.Facts.{side, OwnTrue, StatedTrue, Passes, GoodRecord}
 use Rattle.codes.specs.Faults.{Idles}
 use Rattle.checks.specs.Replay.{rejected, Checked, finds}
 use Rattle.verdicts.specs.Fate as fate
-use Rattle.checks.specs.Fate.{reached, nth}
+use Rattle.checks.specs.Fate.{nth}
 use Rattle.checks.specs.Promise.{Checks}
 use Rattle.checks.proofs.Taken.{entry_good}
 use Rattle.checks.proofs.Rows.{fate_answers}

@@ -17,7 +17,7 @@ use Rattle.timetable.specs.Table.{Call, jobs_of, asks}
 use Rattle.timetable.proofs.Facts.{crowded_at}
 use Rattle.timetable.proofs.Entries.{entry_length}
 use Rattle.timetable.proofs.Lean.{lean_member_lem, entry_lean}
-use Rattle.codes.specs.Facts.{side, OwnTrue, Tightens, GoodRecord}
+use Rattle.codes.specs.Facts.{OwnTrue, Tightens, GoodRecord}
 use Rattle.verdicts.specs.Promise.{WritesGood}
 use Rattle.checks.specs.Replay.{changed, trial}
 

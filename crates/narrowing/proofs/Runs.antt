@@ -1,6 +1,6 @@
 -- The defined run over lawful rules, on any windows: "settled" is the largest candidate, "clash" says that there is none, the slack bounds the
 -- moves, and each move is the search's own choice.
-use Prim.Native.Nat.{ℕ, zero, suc, ◌-◌, ◌≤◌, ◌<◌}
+use Prim.Native.Nat.{ℕ, zero, suc, ◌≤◌, ◌<◌}
 use native.Mathlib.Omega.{arith}
 use mathlib.Core.Path.{◌≡◌, refl, subst}
 use mathlib.Core.Bool.{Bool, true, false}

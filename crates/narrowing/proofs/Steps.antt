@@ -1,6 +1,6 @@
 -- Steps in any order: where they end with nothing that applies they have reached the largest stable windows that hold their jobs, and where
 -- a window is closed there are none.
-use Prim.Native.Nat.{ℕ, ◌-◌, ◌<◌}
+use Prim.Native.Nat.{ℕ, ◌<◌}
 use native.Mathlib.Omega.{arith}
 use native.Mathlib.Decide.{dec_le}
 use mathlib.Core.Path.{◌≡◌}

@@ -1,6 +1,6 @@
 -- An overloaded set leaves no schedule of 01 with every demand 1 and capacity 1: its jobs, each within its window, run from the set's least e to
 -- its greatest l for longer than there are times, and at most one of them at each.
-use Prim.Native.Nat.{ℕ, ◌-◌, ◌≤◌, ◌<◌}
+use Prim.Native.Nat.{ℕ, ◌≤◌, ◌<◌}
 use native.Mathlib.Omega.{arith}
 use native.Mathlib.Decide.{dec_le}
 use mathlib.Core.Path.{◌≡◌, refl, sym}

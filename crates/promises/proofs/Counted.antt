@@ -1,8 +1,8 @@
 -- The answer table of a call without a log, whose room is always enough, meets the contract of one, over any rules.
 use Prim.Native.Nat.{ℕ, suc, ◌<◌}
 use native.Mathlib.Omega.{arith}
-use mathlib.Core.Path.{◌≡◌, refl}
-use mathlib.Core.List.{List, []}
+use mathlib.Core.Path.{refl}
+use mathlib.Core.List.{List}
 use mathlib.Core.Logic.{◌↔◌}
 use Rattle.narrowing.specs.Windows.{Win, Side, slack}
 use Rattle.narrowing.specs.Rules.{Family, Lawful}

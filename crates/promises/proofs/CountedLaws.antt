@@ -8,7 +8,7 @@ use mathlib.Core.List.{List, [], ◌∷◌}
 use mathlib.Core.Logic.{◌⊎◌, inl, inr, ◌↔◌}
 use lib.ListN.{length}
 use Rattle.lists.specs.Permutations.{Permutes}
-use Rattle.narrowing.specs.Windows.{Win, win, early}
+use Rattle.narrowing.specs.Windows.{win, early}
 use Rattle.narrowing.specs.Rules.{Stable}
 use Rattle.narrowing.specs.Search.{Move}
 use Rattle.narrowing.specs.Rounds.{Chosen}
@@ -21,8 +21,8 @@ use Rattle.answers.specs.Said.{Word, Said, said, says}
 use Rattle.answers.proofs.Same.{says_same}
 use Rattle.joblist.specs.GoodList.{Given}
 use Rattle.promises.specs.Ask.{Ask, job_count, columns, Good, TooShort}
-use Rattle.promises.specs.Promise.{StableIn, LargestIn, NoneIn, needs}
-use Rattle.promises.specs.Plain.{task_of, Left, left, unnumbered, numberless, Plain}
+use Rattle.promises.specs.Promise.{LargestIn, needs}
+use Rattle.promises.specs.Plain.{task_of, Left, left, unnumbered, numberless}
 use Rattle.promises.specs.Counted.{ExactlyCounts, Counts}
 use Rattle.promises.specs.Reordered.{SameAsk, Anew}
 use Rattle.promises.proofs.TooShort.{too_short_none, too_short_needs}

@@ -14,7 +14,7 @@ use Rattle.narrowing.specs.Search as search
 use Rattle.narrowing.proofs.Moves.{long_after}
 use Rattle.joblist.specs.Limits.{jobs, most_time}
 use Rattle.timetable.specs.Time.{Jobs, Applies, bound}
-use Rattle.timetable.specs.Search.{best, search}
+use Rattle.timetable.specs.Search.{best}
 use Rattle.timetable.specs.Table.{Call, call, jobs_of, Good, Workable}
 use Rattle.timetable.proofs.Law.{searches}
 

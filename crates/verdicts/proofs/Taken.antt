@@ -21,7 +21,7 @@ use Rattle.promises.specs.Promise.{Narrows}
 use Rattle.promises.proofs.Calls.{call_admitted, whole}
 use Rattle.promises.proofs.Logs.{entries_are, entries_count}
 use Rattle.promises.proofs.Cased.{Case, cased}
-use Rattle.verdicts.specs.Replay.{Trial, holds, verdict_on, Checked, finds, judged, rows, checked}
+use Rattle.verdicts.specs.Replay.{Trial, verdict_on, Checked, finds, judged, rows, checked}
 use Rattle.verdicts.specs.Promise.{Judges, WritesGood, with_log, TakesLogs}
 use Rattle.verdicts.proofs.Replays.{Ends, ran_ends}
 
