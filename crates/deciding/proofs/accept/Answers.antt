@@ -30,7 +30,7 @@ chosen e = omega (arith, e.if-z-resource.false)
 room : (e : Else-not-roomy) → RoomSays e.args.sizes e.in-Read.z.n e.in-Read.z.pairs true
 room e = rw e.if-not-roomy.false at e.roomy.ensures
 
--- ---- the needs
+-- ---- the goals
 
 pub returns-then-horizon-gt-MOST_TIME : goal.returns-then-horizon-gt-MOST_TIME
 returns-then-horizon-gt-MOST_TIME c =

@@ -37,7 +37,7 @@ tails e = e.settle-3.new.v
 tails-rest : (e : Else-not-settle-3) → AtRest (comes e.args.n e.args.table e.args.text.now (rows_at e.args.at)) e.args.n e.args.dur.now true e.args.h (tails e)
 tails-rest e = rw e.if-not-settle-3.false at e.settle-3.ensures.0
 
--- ---- the needs
+-- ---- the goals
 
 pub settle-requires : goal.settle-requires
 settle-requires c =
