@@ -3,11 +3,10 @@ use mathlib.Core.Path.{sym}
 use Rattle.jobcalls.proofs.conflict.Goals as goal
 
 pub returns : goal.returns
-returns c =
-    (
-      _,
-      c.marking-says.ensures,
-      rw
-        (sym c.list-est.ensures, sym c.list-lct.ensures, sym c.list-dur.ensures, sym c.list-dem.ensures, sym c.list-log.ensures)
-        c.conflict-given.ensures
-    )
+returns c = (
+  _,
+  c.marking-says.ensures,
+  rw
+      (sym c.list-est.ensures, sym c.list-lct.ensures, sym c.list-dur.ensures, sym c.list-dem.ensures, sym c.list-log.ensures)
+      c.conflict-given.ensures,
+)

@@ -3,9 +3,8 @@ use mathlib.Core.Path.{sym}
 use Rattle.projectcalls.proofs.write.Goals as goal
 
 pub returns : goal.returns
-returns c =
-    (
-      _,
-      c.writing.ensures,
-      rw (sym c.list-dur.ensures, sym c.list-dem.ensures, sym c.list-jobs.ensures, sym c.list-successors.ensures) c.write_patterson.ensures
-    )
+returns c = (
+  _,
+  c.writing.ensures,
+  rw (sym c.list-dur.ensures, sym c.list-dem.ensures, sym c.list-jobs.ensures, sym c.list-successors.ensures) c.write_patterson.ensures,
+)
