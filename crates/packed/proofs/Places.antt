@@ -1,12 +1,14 @@
 -- Where packed lists begin: from one list to the next, never beyond the end, and nothing of a list that would begin there; what is laid
--- over a list.
+-- over a list, and what was copied.
 use mathlib.Core.Path.{◌≡◌, refl, ◌∙◌, sym, ap}
 use mathlib.Core.List.{List, [], ◌++◌, append-nil}
-use Prim.Native.Nat.{ℕ, zero, suc, ◌+◌, ◌-◌, ◌≤◌}
+use Prim.Native.Nat.{ℕ, zero, suc, ◌+◌, ◌-◌, ◌≤◌, min}
 use native.Mathlib.Numerals.{add-one}
 use native.Mathlib.Omega.{arith}
-use lib.ListN.{length, take, drop, drop_of_length-le}
+use lib.ListN.{length, take, drop, drop_of_length-le, length-append, length-drop}
 use lib.Seq.{take_all}
+use Rattle.io.specs.Counts.{IsPrefixLen}
+use Rattle.io.proofs.Counting.{prefix_len_of_le}
 use Rattle.packed.specs.Packed.{behind_at, start_of, list_of, laid_over, put_at}
 
 pub start_more : (xs : List ℕ) (k : ℕ) → start_of xs (k + 1) ≡ behind_at xs (start_of xs k)
@@ -50,3 +52,12 @@ pub put_found : (xs ys zs : List ℕ) (k at end : ℕ) → at ≡ start_of xs k 
     → take (at + 1) xs ++ (zs ++ drop (end - (at + 1)) (drop (at + 1) xs)) ≡ put_at xs k ys
 unfolding start_of
 put_found xs ys zs k at end e f z = rw (z, f, e)
+
+-- what was copied counts as many entries as both lists have
+pub copied : (ys into now : List ℕ) (r : ℕ) → r ≡ min (length ys) (length now) → length now ≡ length into
+    → (r ≡ min (length ys) (length into)) × IsPrefixLen r now
+copied ys into now r e h = (rw (e, h), prefix_len_of_le r now (omega (arith, e)))
+
+-- a list is as long as it was when its front, which was lent, is back
+pub front_back : (n k : ℕ) (xs front : List ℕ) → n ≡ length xs → IsPrefixLen k xs → length front ≡ length (take k xs) → n ≡ length (front ++ drop k xs)
+front_back n k xs front e h f = rw (length-append front (drop k xs), length-drop k xs) (omega (arith, e, h.0, h.1, f))
