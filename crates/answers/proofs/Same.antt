@@ -11,12 +11,12 @@ use lib.Dec.{eqb}
 use Rattle.lists.specs.Lists.{◌!◌}
 use Rattle.answers.specs.declared.Answer.{Answer}
 use Rattle.answers.specs.declared.CheckAnswer.{CheckAnswer}
-use Rattle.answers.specs.declared.OverloadAnswer.{OverloadAnswer}
-use Rattle.answers.specs.declared.ReadAnswer.{ReadAnswer}
-use Rattle.answers.specs.declared.WriteAnswer.{WriteAnswer}
-use Rattle.answers.specs.declared.ConflictAnswer.{ConflictAnswer}
+use Rattle.std.specs.Prelude.{Option, Some, None, Result, Ok, Err}
+use Rattle.answers.specs.declared.reasons.Refusal.{Refusal}
+use Rattle.answers.specs.declared.Overload.{Overload}
+use Rattle.answers.specs.declared.ProjectRead.{ProjectRead}
 use Rattle.answers.specs.declared.Conflict.{Conflict}
-use Rattle.answers.specs.Said.{Word, Said, said, says, says_check, says_overload, says_read, says_write, says_conflict}
+use Rattle.answers.specs.Said.{Word, Said, said, says, says_check, says_overload, says_read, says_write, says_conflict, number_of}
 
 -- the words told apart by numbers
 abbrev pub told : Word → ℕ
@@ -101,47 +101,90 @@ heard_check_lem (CheckAnswer.Refused k) = refl
 pub check_same : (a b : CheckAnswer) → says_check a ≡ says_check b → a ≡ b
 check_same = read_back says_check heard_check heard_check_lem
 
-abbrev heard_overload : Said → OverloadAnswer
-heard_overload s =
-    cond (is s Word.none) OverloadAnswer.None
-    (cond (is s Word.overload) (OverloadAnswer.Overload (s.numbers ! 0) (s.numbers ! 1)) (OverloadAnswer.Refused (s.numbers ! 0)))
+-- the refusal of a number
+abbrev refusal_at : ℕ → Refusal
+refusal_at n =
+    cond (eqb n 1) Refusal.Lengths
+    (cond (eqb n 2) Refusal.Jobs
+    (cond (eqb n 3) Refusal.Limit
+    (cond (eqb n 5) Refusal.Room
+    (cond (eqb n 6) Refusal.Claimed
+    (cond (eqb n 7) Refusal.Ragged
+    (cond (eqb n 8) Refusal.NoClash
+    (cond (eqb n 30) Refusal.NoNumber
+    (cond (eqb n 31) Refusal.AboveLimit
+    (cond (eqb n 32) Refusal.Pairs
+    (cond (eqb n 33) Refusal.Cycle
+    (cond (eqb n 34) Refusal.Horizon
+    (cond (eqb n 35) Refusal.Headings
+    (cond (eqb n 36) Refusal.Buffer
+    (cond (eqb n 37) Refusal.Resource Refusal.Lists))))))))))))))
 
-heard_overload_lem : (a : OverloadAnswer) → heard_overload (says_overload a) ≡ a
-heard_overload_lem OverloadAnswer.None = refl
-heard_overload_lem (OverloadAnswer.Overload a b) = refl
-heard_overload_lem (OverloadAnswer.Refused k) = refl
+refusal_at_lem : (r : Refusal) → refusal_at (number_of r) ≡ r
+refusal_at_lem Refusal.Lengths = refl
+refusal_at_lem Refusal.Jobs = refl
+refusal_at_lem Refusal.Limit = refl
+refusal_at_lem Refusal.Room = refl
+refusal_at_lem Refusal.Claimed = refl
+refusal_at_lem Refusal.Ragged = refl
+refusal_at_lem Refusal.NoClash = refl
+refusal_at_lem Refusal.NoNumber = refl
+refusal_at_lem Refusal.AboveLimit = refl
+refusal_at_lem Refusal.Pairs = refl
+refusal_at_lem Refusal.Cycle = refl
+refusal_at_lem Refusal.Horizon = refl
+refusal_at_lem Refusal.Headings = refl
+refusal_at_lem Refusal.Buffer = refl
+refusal_at_lem Refusal.Resource = refl
+refusal_at_lem Refusal.Lists = refl
 
-pub overload_same : (a b : OverloadAnswer) → says_overload a ≡ says_overload b → a ≡ b
+-- two refusals of one number are the same
+pub refusals_same : (r q : Refusal) → number_of r ≡ number_of q → r ≡ q
+refusals_same r q e = sym (refusal_at_lem r) ∙ ap refusal_at e ∙ refusal_at_lem q
+
+-- a result read back: where it has the word w, what stands behind it, else the refusal of its number
+abbrev heard_result : {A : Type 0} → Word → (List ℕ → A) → Said → Result A Refusal
+heard_result w good s = cond (is s w) (Ok (good s.numbers)) (Err (refusal_at (s.numbers ! 0)))
+
+abbrev heard_overload : Said → Result (Option Overload) Refusal
+heard_overload s = cond (is s Word.none) (Ok None) (heard_result Word.overload (λ ns. Some (record { a = ns ! 0; b = ns ! 1 })) s)
+
+heard_overload_lem : (a : Result (Option Overload) Refusal) → heard_overload (says_overload a) ≡ a
+heard_overload_lem (Ok None) = refl
+heard_overload_lem (Ok (Some pair)) = refl
+heard_overload_lem (Err r) = ap Err (refusal_at_lem r)
+
+pub overload_same : (a b : Result (Option Overload) Refusal) → says_overload a ≡ says_overload b → a ≡ b
 overload_same = read_back says_overload heard_overload heard_overload_lem
 
-abbrev heard_read : Said → ReadAnswer
-heard_read s = cond (is s Word.read) (ReadAnswer.Read (s.numbers ! 0) (s.numbers ! 1)) (ReadAnswer.Refused (s.numbers ! 0))
+abbrev heard_read : Said → Result ProjectRead Refusal
+heard_read = heard_result Word.read (λ ns. record { capacity = ns ! 0; pairs = ns ! 1 })
 
-heard_read_lem : (a : ReadAnswer) → heard_read (says_read a) ≡ a
-heard_read_lem (ReadAnswer.Read cap pairs) = refl
-heard_read_lem (ReadAnswer.Refused k) = refl
+heard_read_lem : (a : Result ProjectRead Refusal) → heard_read (says_read a) ≡ a
+heard_read_lem (Ok text) = refl
+heard_read_lem (Err r) = ap Err (refusal_at_lem r)
 
-pub read_same : (a b : ReadAnswer) → says_read a ≡ says_read b → a ≡ b
+pub read_same : (a b : Result ProjectRead Refusal) → says_read a ≡ says_read b → a ≡ b
 read_same = read_back says_read heard_read heard_read_lem
 
-abbrev heard_write : Said → WriteAnswer
-heard_write s = cond (is s Word.written) (WriteAnswer.Written (s.numbers ! 0)) (WriteAnswer.Refused (s.numbers ! 0))
+abbrev heard_write : Said → Result ℕ Refusal
+heard_write = heard_result Word.written (λ ns. ns ! 0)
 
-heard_write_lem : (a : WriteAnswer) → heard_write (says_write a) ≡ a
-heard_write_lem (WriteAnswer.Written bytes) = refl
-heard_write_lem (WriteAnswer.Refused k) = refl
+heard_write_lem : (a : Result ℕ Refusal) → heard_write (says_write a) ≡ a
+heard_write_lem (Ok bytes) = refl
+heard_write_lem (Err r) = ap Err (refusal_at_lem r)
 
-pub write_same : (a b : WriteAnswer) → says_write a ≡ says_write b → a ≡ b
+pub write_same : (a b : Result ℕ Refusal) → says_write a ≡ says_write b → a ≡ b
 write_same = read_back says_write heard_write heard_write_lem
 
-abbrev heard_conflict : Said → ConflictAnswer
-heard_conflict s = cond (is s Word.marked) (ConflictAnswer.Marked (s.numbers ! 0)) (ConflictAnswer.Refused (s.numbers ! 0))
+abbrev heard_conflict : Said → Result ℕ Refusal
+heard_conflict = heard_result Word.marked (λ ns. ns ! 0)
 
-heard_conflict_lem : (a : ConflictAnswer) → heard_conflict (says_conflict a) ≡ a
-heard_conflict_lem (ConflictAnswer.Marked m) = refl
-heard_conflict_lem (ConflictAnswer.Refused k) = refl
+heard_conflict_lem : (a : Result ℕ Refusal) → heard_conflict (says_conflict a) ≡ a
+heard_conflict_lem (Ok m) = refl
+heard_conflict_lem (Err r) = ap Err (refusal_at_lem r)
 
-pub conflict_same : (a b : ConflictAnswer) → says_conflict a ≡ says_conflict b → a ≡ b
+pub conflict_same : (a b : Result ℕ Refusal) → says_conflict a ≡ says_conflict b → a ≡ b
 conflict_same = read_back says_conflict heard_conflict heard_conflict_lem
 
 -- with the set beside it

@@ -1,7 +1,11 @@
 // The answers of the desk's calls. `says` in specs/ gives each one in the paper's words and numbers.
 #![tactic(auto)]
 
-// Narrowing: the record count; the record count and the job; the refusal's number.
+mod reasons; // reasons.rt: why a call is refused, and why a record is bad
+
+pub use reasons::{Code, Refusal};
+
+// Narrowing: the record count; the record count and the job; the refusal's number. Document 01 binds this form and the next ('Which form goes where').
 #[derive(Drop)]
 pub enum Answer {
     Settled(usize),
@@ -18,38 +22,24 @@ pub enum CheckAnswer {
     Refused(u32),
 }
 
-// The overload check: no set is overloaded; the pair a, b; the refusal's number.
-#[derive(Drop)]
-pub enum OverloadAnswer {
-    None,
-    Overload(u32, u32),
-    Refused(u32),
+// An overload: its pair a, b. The check answers with one or none, or a refusal.
+#[derive(Clone, Copy, Debug, PartialEq, Eq)]
+pub struct Overload {
+    pub a: u32,
+    pub b: u32,
 }
 
-// The readers of project texts: the capacity and the pair count; the refusal's number.
-#[derive(Drop)]
-pub enum ReadAnswer {
-    Read(u32, usize),
-    Refused(u32),
+// A project text that was read: the capacity and the pair count.
+#[derive(Clone, Copy, Debug, PartialEq, Eq)]
+pub struct ProjectRead {
+    pub capacity: u32,
+    pub pairs: usize,
 }
 
-// The writer of project texts: the number of bytes; the refusal's number.
-#[derive(Drop)]
-pub enum WriteAnswer {
-    Written(usize),
-    Refused(u32),
-}
-
-// The call that names the jobs which cannot be done together: how many are marked; the refusal's number.
-#[derive(Drop)]
-pub enum ConflictAnswer {
-    Marked(u32),
-    Refused(u32),
-}
-
-// What that call gives: its answer, and the marked jobs as a member set, all zeros on a refusal.
+// What the call gives that names the jobs which cannot be done together: how many are marked, or a refusal, and the marked jobs as a member set. The set
+// stands beside the result, and not in its Ok, since its promise (`conflicts: Promise.Blames`) says that it is all zeros on a refusal.
 #[derive(Drop)]
 pub struct Conflict {
-    pub answer: ConflictAnswer,
+    pub answer: Result<u32, Refusal>,
     pub set: [u32; bits::WORDS],
 }
