@@ -6,7 +6,9 @@ use mathlib.Core.List.{List, [], ◌∷◌}
 use lib.ListN.{length}
 use Rattle.lists.specs.Lists.{◌!◌}
 use Rattle.lists.proofs.Lists.{same_list}
-use Rattle.answers.specs.declared.ReadAnswer.{ReadAnswer}
+use Rattle.std.specs.Prelude.{Result}
+use Rattle.answers.specs.declared.ProjectRead.{ProjectRead}
+use Rattle.answers.specs.declared.reasons.Refusal.{Refusal}
 use Rattle.answers.specs.Said.{Word, Said, said, says_read}
 use Rattle.answers.proofs.Same.{read_same}
 use Rattle.chains.specs.Paths.{Back}
@@ -71,7 +73,7 @@ pub reads_one : (c : TextCall) (a b : TextAfter) → Reads c a → Reads c b →
 reads_one c a b p q = answered_one c a b p.answered q.answered
 
 -- two results and the lists that they leave
-pub results_one : (c : TextCall) (r s : ReadAnswer) (A B : Lent) → Reads c (record { says = says_read r; lent = A }) → Reads c (record { says = says_read s; lent = B }) → (r ≡ s) × (A ≡ B)
+pub results_one : (c : TextCall) (r s : Result ProjectRead Refusal) (A B : Lent) → Reads c (record { says = says_read r; lent = A }) → Reads c (record { says = says_read s; lent = B }) → (r ≡ s) × (A ≡ B)
 results_one c r s A B p q =
     let e = reads_one c (record { says = says_read r; lent = A }) (record { says = says_read s; lent = B }) p q in
     (read_same r s (ap (λ (y : TextAfter). y.says) e), ap (λ (y : TextAfter). y.lent) e)

@@ -7,7 +7,8 @@ use mathlib.Core.Logic.{inl, inr, ◌↔◌}
 use lib.ListN.{length}
 use Rattle.lists.specs.Lists.{◌!◌}
 use Rattle.answers.specs.Said.{Word, Said, said, says_write}
-use Rattle.answers.specs.declared.WriteAnswer.{WriteAnswer}
+use Rattle.std.specs.Prelude.{Result}
+use Rattle.answers.specs.declared.reasons.Refusal.{Refusal}
 use Rattle.answers.proofs.Same.{not_said, said_apart, write_same}
 use Rattle.joblist.specs.GoodList.{GoodList, Given, refusal}
 use Rattle.joblist.proofs.Refusals.{sized_judged, limits_judged, refusal_exactly}
@@ -61,7 +62,7 @@ pub writes_one : (c : WriteCall) (a b : WriteAfter) → Writes c a → Writes c 
 writes_one c a b p q = write_answered_one c a b p.answered q.answered
 
 -- as Rattle values, with the buffers that they leave
-pub write_results_one : (c : WriteCall) (r s : WriteAnswer) (A B : List ℕ) → Writes c (record { says = says_write r; buffer = A }) → Writes c (record { says = says_write s; buffer = B })
+pub write_results_one : (c : WriteCall) (r s : Result ℕ Refusal) (A B : List ℕ) → Writes c (record { says = says_write r; buffer = A }) → Writes c (record { says = says_write s; buffer = B })
     → (r ≡ s) × (A ≡ B)
 write_results_one c r s A B p q =
     let e = writes_one c (record { says = says_write r; buffer = A }) (record { says = says_write s; buffer = B }) p q in

@@ -6,7 +6,9 @@ use mathlib.Core.Path.{◌≡◌, refl, sym, ap, subst, ◌∙◌}
 use mathlib.Core.List.{List, [], ◌∷◌}
 use mathlib.Core.Logic.{◌⊎◌, inl, inr, ◌↔◌}
 use lib.Dec.{eqb}
-use Rattle.answers.specs.declared.OverloadAnswer.{OverloadAnswer}
+use Rattle.std.specs.Prelude.{Option, Result}
+use Rattle.answers.specs.declared.Overload.{Overload}
+use Rattle.answers.specs.declared.reasons.Refusal.{Refusal}
 use Rattle.answers.specs.Said.{Word, Said, said, says_overload}
 use Rattle.answers.proofs.Same.{overload_same, said_apart}
 use Rattle.joblist.specs.GoodList.{Given, refusal}
@@ -144,5 +146,5 @@ module _ (W : Win) (p : List ℕ) where
   pub overloads_same : (a b : Said) → Overloads W p a → Overloads W p b → a ≡ b
   overloads_same a b f g = f.answered ∙ sym g.answered
 
-  pub answers_same : (r q : OverloadAnswer) → Overloads W p (says_overload r) → Overloads W p (says_overload q) → r ≡ q
+  pub answers_same : (r q : Result (Option Overload) Refusal) → Overloads W p (says_overload r) → Overloads W p (says_overload q) → r ≡ q
   answers_same r q f g = overload_same r q (overloads_same (says_overload r) (says_overload q) f g)
