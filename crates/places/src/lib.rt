@@ -2,47 +2,50 @@
 #![tactic(auto)]
 
 ghost use Rattle.std.specs.Prelude.{◌≡◌, ◌<◌};
-ghost use Rattle.places.specs.Places.{onward_of};
+ghost use Rattle.places.specs.Places.{first_place, onward_of};
 
 // A place of a round: a job, its side, and whether the round has moved a bound so far.
-#[derive(Drop)]
+#[derive(Clone, Copy)]
 pub struct Place {
     pub job: usize,
     pub side: u32,
     pub changed: bool,
 }
 
-// The place after one that rests: side 1 after side 0, the next job's side 0 after side 1. After the last one comes a new round, or the
-// place past all jobs where the round has changed nothing.
-pub fn onward(at: Place, n: usize) -> Place
-    requires { at.job < n }
-    ensures { result ≡ onward_of at n }
-{
-    if at.side == 0 {
-        return Place {
-            job: at.job,
-            side: 1,
-            changed: at.changed,
-        };
-    }
-    let next = at.job + 1;
-    if next < n {
-        return Place {
-            job: next,
-            side: 0,
-            changed: at.changed,
-        };
-    }
-    if at.changed {
-        return Place {
+impl Place {
+    // The first job's side 0, with nothing changed yet.
+    pub fn first() -> Place
+        ensures { result ≡ first_place }
+    {
+        Place {
             job: 0,
             side: 0,
             changed: false,
-        };
+        }
     }
-    Place {
-        job: n,
-        side: 0,
-        changed: false,
+
+    // The place after one that rests: side 1 after side 0, the next job's side 0 after side 1. After the last one comes a new round, or the
+    // place past all jobs where the round has changed nothing.
+    pub fn onward(self, n: usize) -> Place
+        requires { self.job < n }
+        ensures { result ≡ onward_of self n }
+    {
+        if self.side == 0 {
+            Place { side: 1, ..self }
+        } else if self.job + 1 < n {
+            Place {
+                job: self.job + 1,
+                side: 0,
+                ..self
+            }
+        } else if self.changed {
+            Place::first()
+        } else {
+            Place {
+                job: n,
+                side: 0,
+                ..self
+            }
+        }
     }
 }

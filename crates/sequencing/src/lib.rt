@@ -40,7 +40,7 @@ fn take_turns(
         let turn = headturns::take_turn(starts, ends, dur, fore, rear, job, side);
         match turn {
             Turn::Rests => {
-                at = places::onward(at, n);
+                at = at.onward(n);
             }
             Turn::Moved => {
                 at = Place {
