@@ -7,8 +7,9 @@ use mathlib.Core.List.{List, [], ◌∷◌}
 use mathlib.Core.Logic.{◌⊎◌, inl, inr, ◌↔◌}
 use Rattle.answers.specs.declared.Answer.{Answer}
 use Rattle.answers.specs.declared.CheckAnswer.{CheckAnswer}
-use Rattle.answers.specs.declared.ConflictAnswer.{ConflictAnswer}
-use Rattle.answers.specs.declared.ReadAnswer.{ReadAnswer}
+use Rattle.answers.specs.declared.ProjectRead.{ProjectRead}
+use Rattle.answers.specs.declared.reasons.Refusal.{Refusal}
+use Rattle.std.specs.Prelude.{Result}
 use Rattle.answers.specs.Said.{Word, Said, said, says, says_check, says_read, says_conflict}
 use Rattle.desk.specs.Lists.{Win, Set, has}
 use Rattle.desk.specs.AnyRules.{needs}
@@ -24,13 +25,6 @@ use Rattle.caller.specs.Told.{ToldSettles, ToldHolds, ToldHopeless, ToldSequence
 -- false is not true
 not-true : false ≡ true → ⊥
 not-true e = let q : ◌≡◌ {A = ℕ} 0 1 = cc in omega arith
-
--- a result that is true exactly where the word of an answer is w
-pub yes_exactly : {A : Type 0} (word : A → Word) (a b : A) → a ≡ b → (true ≡ true) ↔ (word a ≡ word b)
-yes_exactly word a b e = (λ z. ap word e, λ z. refl)
-
-pub no_exactly : {A : Type 0} (word : A → Word) (a b : A) (w : Word) → (word b ≡ w → ⊥) → a ≡ b → (false ≡ true) ↔ (word a ≡ w)
-no_exactly word a b w f e = (λ z. absurd (not-true z), λ z. absurd (f (sym (ap word e) ∙ z)))
 
 pub tells_settles : (c : Call) (U : Win) (log : List ℕ) (a : Answer) (r : Bool) → Narrows c (leaves (says a) U log) → (r ≡ true) ↔ ((says a).word ≡ Word.settled)
     → ToldSettles c U log r
@@ -63,7 +57,7 @@ own_among M c =
       supply = omega arith;
     }
 
-pub tells_hopeless : (c : Call) (count : ℕ) (a : ConflictAnswer) (set : List ℕ) (r : Bool) → Blames c count (blame (says_conflict a) set)
+pub tells_hopeless : (c : Call) (count : ℕ) (a : Result ℕ Refusal) (set : List ℕ) (r : Bool) → Blames c count (blame (says_conflict a) set)
     → (r ≡ true) ↔ ((says_conflict a).word ≡ Word.marked) → ToldHopeless c count r
 tells_hopeless c count a set r h e =
     record {
@@ -97,6 +91,6 @@ tells_sequences W p U a r h e =
     clashes f (inl q) = absurd (f (e.1 (word q)))
     clashes f (inr (j, q)) = word q
 
-pub tells_reads : (c : TextCall) (L : Lent) (a : ReadAnswer) (r : Bool) → Reads c (record { says = says_read a; lent = L }) → (r ≡ true) ↔ ((says_read a).word ≡ Word.read)
+pub tells_reads : (c : TextCall) (L : Lent) (a : Result ProjectRead Refusal) (r : Bool) → Reads c (record { says = says_read a; lent = L }) → (r ≡ true) ↔ ((says_read a).word ≡ Word.read)
     → ToldReads c L r
 tells_reads c L a r h e = record { says = says_read a; reads = h; read = e; long = λ z. h.long (e.0 z) }

@@ -8,16 +8,12 @@ ghost use Rattle.desk.specs.Narrowing.{call};
 ghost use Rattle.desk.specs.Reading.{patterson};
 ghost use Rattle.caller.specs.Told.{ToldSettles, ToldHolds, ToldHopeless, ToldSequences, ToldReads};
 
-use answers::{Answer, CheckAnswer, ConflictAnswer, ReadAnswer};
+use answers::{Answer, CheckAnswer, ProjectRead, Refusal};
 
 fn settled(answer: Answer) -> bool
     ensures { (result ≡ true) ↔ ((says answer).word ≡ Word.settled) }
 {
-    match answer {
-        Answer::Settled(_) => true,
-        Answer::Clash(_, _) => false,
-        Answer::Refused(_) => false,
-    }
+    matches!(answer, Answer::Settled(_))
 }
 
 // Whether the windows of a job list could be narrowed, with room in the log for the reasons.
@@ -37,12 +33,7 @@ pub fn settles(
 fn held(answer: CheckAnswer) -> bool
     ensures { (result ≡ true) ↔ ((says_check answer).word ≡ Word.holds) }
 {
-    match answer {
-        CheckAnswer::Holds(_) => true,
-        CheckAnswer::Clash(_, _) => false,
-        CheckAnswer::Rejected(_, _) => false,
-        CheckAnswer::Refused(_) => false,
-    }
+    matches!(answer, CheckAnswer::Holds(_))
 }
 
 // Whether all claimed records of a log are good and close no window; the windows are then those that they reach.
@@ -60,13 +51,10 @@ pub fn holds(
     held(desk::check_log(est, lct, dur, dem, cap, log, count))
 }
 
-fn marked(answer: ConflictAnswer) -> bool
+fn marked(answer: Result<u32, Refusal>) -> bool
     ensures { (result ≡ true) ↔ ((says_conflict answer).word ≡ Word.marked) }
 {
-    match answer {
-        ConflictAnswer::Marked(_) => true,
-        ConflictAnswer::Refused(_) => false,
-    }
+    answer.is_ok()
 }
 
 // Whether a log shows some jobs that cannot be done together: then the whole list has no schedule either.
@@ -93,13 +81,10 @@ pub fn sequences(est: &mut [u32], lct: &mut [u32], dur: &[u32]) -> bool
     settled(desk::sequence(est, lct, dur))
 }
 
-fn read(answer: ReadAnswer) -> bool
+fn read(answer: Result<ProjectRead, Refusal>) -> bool
     ensures { (result ≡ true) ↔ ((says_read answer).word ≡ Word.read) }
 {
-    match answer {
-        ReadAnswer::Read(_, _) => true,
-        ReadAnswer::Refused(_) => false,
-    }
+    answer.is_ok()
 }
 
 // Whether a text of the Patterson layout could be read, for its first resource; the lists are then filled.
