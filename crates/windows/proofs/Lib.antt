@@ -1,3 +1,2 @@
 pub mod TooShort
 pub mod Copies
-pub mod Steps

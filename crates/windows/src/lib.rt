@@ -4,11 +4,48 @@
 
 ghost use Rattle.std.specs.Prelude.{◌≡◌, ◌+◌, ◌≤◌, ◌<◌, ◌++◌, leb, ltb, pos, ◌+ℤ◌, ◌-ℤ◌, length, take, drop};
 ghost use Rattle.lists.specs.Tests.{both};
-ghost use Rattle.lists.specs.Extremes.{found_or};
-ghost use Rattle.narrowing.specs.Windows.{win, closes, lowest_too_short, moved, side_of};
+ghost use Rattle.narrowing.specs.Windows.{win, closes, lowest_too_short, moved};
 ghost use Rattle.joblist.specs.Limits.{most_jobs, most_time};
 ghost use Rattle.timetable.specs.Time.{bound};
 ghost use Rattle.windows.specs.Bounds.{bound_at};
+ghost use Rattle.windows.specs.Sides.{side_is};
+ghost use Rattle.windows.specs.Found.{as_option};
+
+// The two sides of a job: its earliest start, side 0, and its latest end, side 1.
+#[derive(Clone, Copy, Debug, PartialEq, Eq)]
+pub enum Side {
+    Start,
+    End,
+}
+
+// The side of the paper's number; each number but 0 says the end.
+impl From<u32> for Side {
+    ghost use Rattle.std.specs.Prelude.{◌≡◌};
+    ghost use Rattle.narrowing.specs.Windows.{side_of};
+    ghost use Rattle.windows.specs.Sides.{side_is};
+
+    ghost from_gives = { λ k side. side_is side ≡ side_of k };
+
+    fn from(number: u32) -> Side {
+        if number == 0 { Side::Start } else { Side::End }
+    }
+}
+
+// And the number of a side.
+impl From<Side> for u32 {
+    ghost use Rattle.std.specs.Prelude.{◌≡◌};
+    ghost use Rattle.narrowing.specs.Windows.{number};
+    ghost use Rattle.windows.specs.Sides.{side_is};
+
+    ghost from_gives = { λ side k. k ≡ number (side_is side) };
+
+    fn from(side: Side) -> u32 {
+        match side {
+            Side::Start => 0,
+            Side::End => 1,
+        }
+    }
+}
 
 // Whether the job's window is too short for the job. It makes no sum, so no number is too large for it.
 pub fn closed(est: &[u32], lct: &[u32], dur: &[u32], job: usize) -> bool
@@ -17,40 +54,23 @@ pub fn closed(est: &[u32], lct: &[u32], dur: &[u32], job: usize) -> bool
 {
     let e = est[job];
     let l = lct[job];
-    let p = dur[job];
-    if e <= l {
-        return l - e < p;
-    }
-    true
+    l < e || l - e < dur[job]
 }
 
-// The lowest job whose window is too short for it, and the number of jobs where there is none.
-pub fn lowest_too_short(est: &[u32], lct: &[u32], dur: &[u32]) -> usize
+// The lowest job whose window is too short for it, if there is one.
+pub fn lowest_too_short(est: &[u32], lct: &[u32], dur: &[u32]) -> Option<usize>
     requires { (length lct.now ≡ length est.now) × (length dur.now ≡ length est.now) }
-    ensures { result ≡ found_or (length est.now) (lowest_too_short (length est.now) dur.now (win est.now lct.now)) }
+    ensures { result ≡ as_option (lowest_too_short (length est.now) dur.now (win est.now lct.now)) }
 {
-    let mut i = 0;
-    while i < est.len() {
-        if closed(est, lct, dur, i) {
-            return i;
-        }
-        i += 1;
-    }
-    i
+    (0..est.len()).find(|&i| closed(est, lct, dur, i))
 }
 
 // Copies `from` over the front of `to`, as far as both go.
 pub fn copy(from: &[u32], to: &mut [u32])
     ensures { to.new ≡ take (length to.old) from.now ++ drop (length from.now) to.old }
 {
-    let mut i = 0;
-    while i < from.len() {
-        if to.len() <= i {
-            return;
-        }
-        to[i] = from[i];
-        i += 1;
-    }
+    let n = from.len().min(to.len());
+    to[..n].copy_from_slice(&from[..n]);
 }
 
 // A copy of a list in a local array.
@@ -58,7 +78,7 @@ pub fn save(from: &[u32], to: &mut [u32; screen::MOST_JOBS])
     requires { (length from.now ≤ most_jobs) × (length to.old ≡ most_jobs) }
     ensures { (to.new ≡ from.now ++ drop (length from.now) to.old) × (length to.new ≡ most_jobs) }
 {
-    copy(from, to);
+    to[..from.len()].copy_from_slice(from);
 }
 
 // A list from the front of such an array.
@@ -66,24 +86,19 @@ pub fn restore(from: &[u32; screen::MOST_JOBS], to: &mut [u32])
     requires { (length to.old ≤ most_jobs) × (length from.now ≡ most_jobs) }
     ensures { to.new ≡ take (length to.old) from.now }
 {
-    copy(from, to);
+    to.copy_from_slice(&from[..to.len()]);
 }
 
-// The move of a rule at a time: on side 0 the earliest start becomes the time after it, on side 1 the latest end becomes the time. It
-// returns the bound that was there.
-pub fn shift(est: &mut [u32], lct: &mut [u32], job: usize, side: u32, time: u32) -> u32
+// The move of a rule at a time: the earliest start becomes the time after it, or the latest end becomes the time. It returns the bound
+// that was there.
+pub fn shift(est: &mut [u32], lct: &mut [u32], job: usize, side: Side, time: u32) -> u32
     requires { (job < length est.old) × (job < length lct.old) × (time ≤ most_time) }
-    ensures { (win est.new lct.new ≡ moved (win est.old lct.old) job (side_of side) (bound (side_of side) time)) × (result ≡ bound_at (win est.old lct.old) job (side_of side)) }
+    ensures { (win est.new lct.new ≡ moved (win est.old lct.old) job (side_is side) (bound (side_is side) time)) × (result ≡ bound_at (win est.old lct.old) job (side_is side)) }
 {
-    let after = time + 1;
-    if side == 0 {
-        let start = est[job];
-        est[job] = after;
-        return start;
+    match side {
+        Side::Start => std::mem::replace(&mut est[job], time + 1),
+        Side::End => std::mem::replace(&mut lct[job], time),
     }
-    let end = lct[job];
-    lct[job] = time;
-    end
 }
 
 // The lower limit t - p + 1 of a start. It may lie below zero; it is signed, and then no restriction.
@@ -115,8 +130,5 @@ pub fn sure(e: u32, l: u32, p: u32, t: u32) -> bool
     requires { (e ≤ most_time) × (p ≤ most_time) × (t ≤ most_time) }
     ensures { result ≡ both (leb l (t + p)) (ltb t (e + p)) }
 {
-    if !no_later(l, t, p) {
-        return false;
-    }
-    no_earlier(e, t, p)
+    no_later(l, t, p) && no_earlier(e, t, p)
 }
