@@ -1,6 +1,7 @@
--- What the writer's inner functions say: bytes put into the lent buffer from a place on, and the pairs passed over job by job. Each function can run
--- dry: it then writes nothing and only counts.
-use Rattle.std.specs.Prelude.{ℕ, suc, ◌+◌, ◌*◌, ◌≤◌, ◌<◌, ◌≡◌, Bool, false, cond, List, [], ◌∷◌, ◌++◌, map, ltb, length, take, drop}
+-- What the writer's inner functions say: bytes put into a sink from a place on, and the pairs passed over job by job. A sink can run dry: nothing is
+-- written then, and all is counted.
+use Rattle.std.specs.Prelude.{ℕ, suc, ◌+◌, ◌*◌, ◌≤◌, ◌<◌, ◌≡◌, Bool, false, cond, List, [], ◌∷◌, ◌++◌, map, ltb, length, take, drop, Option}
+use Rattle.std.specs.Borrow.{GName}
 use Rattle.std.proofs.Math.Seq.{slice}
 use Rattle.lists.specs.Lists.{◌!◌}
 use Rattle.joblist.specs.Limits.{most_jobs}
@@ -23,6 +24,21 @@ pub record Put (dry : Bool) (at : ℕ) (t buffer after : List ℕ) (r : ℕ) : T
 pub record RoomFor (dry : Bool) (at : ℕ) (t buffer : List ℕ) : Type 0 where
   pub few : at + length t ≤ most_bytes
   pub room : dry ≡ false → at + length t ≤ length buffer
+
+-- a sink: the place of the next byte, the bytes of its buffer, and which buffer that is, where there is one
+pub record Held : Type 0 where
+  pub place : ℕ
+  pub buffer : List ℕ
+  pub lent : Option GName
+
+-- the bytes t have room in a sink
+abbrev pub Takes : Bool → List ℕ → Held → Type 0
+Takes dry t s = RoomFor dry s.place t s.buffer
+
+-- the bytes t are put into a sink, which stays with its buffer
+pub record Sent (dry : Bool) (t : List ℕ) (s s' : Held) : Type 0 where
+  pub put : Put dry s.place t s.buffer s'.buffer s'.place
+  pub same : s'.lent ≡ s.lent
 
 -- from place i to place r there is job j alone, and at r it is not
 pub record RunEnds (js : List ℕ) (j i r : ℕ) : Type 0 where

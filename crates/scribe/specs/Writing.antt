@@ -1,12 +1,10 @@
 -- What the writer asks for and what it says (document 02, Item 13). A dry run leaves the buffer as it is and only counts, so that a caller sees whether
 -- there is room before a byte is written.
-use Rattle.std.specs.Prelude.{ℕ, ◌≤◌, ◌<◌, ◌≡◌, Bool, cond, List, ◌++◌, length, drop}
+use Rattle.std.specs.Prelude.{ℕ, ◌≤◌, ◌<◌, ◌≡◌, Bool, cond, List, ◌++◌, length, drop, Option, Some, None}
 use Rattle.joblist.specs.Limits.{most_jobs}
 use Rattle.chains.specs.Listed.{Rising}
 use Rattle.projects.specs.Projects.{Project}
 use Rattle.projects.specs.Form.{project_text}
-use Rattle.scribe.specs.declared.Outcome.{Outcome}
-use Rattle.scribe.specs.declared.Outcome.TheVariants.{Wrote, Short}
 
 -- what the lists are that a project is written from: their lengths, and the pairs in their order
 pub record Ready (durs dems js ss : List ℕ) : Type 0 where
@@ -21,6 +19,6 @@ pub record Ran (dry : Bool) (x : Project) (buffer after : List ℕ) (r : ℕ) : 
   pub bytes : after ≡ cond dry buffer (project_text x ++ drop (length (project_text x)) buffer)
 
 -- the text written where there is room for it; else the buffer is too short, and is as it was
-abbrev pub OutcomeSays : Project → List ℕ → List ℕ → Outcome → Type 0
-OutcomeSays x buffer after (Wrote n) = (length (project_text x) ≤ length buffer) × (n ≡ length (project_text x)) × (after ≡ project_text x ++ drop (length (project_text x)) buffer)
-OutcomeSays x buffer after Short = (length buffer < length (project_text x)) × (after ≡ buffer)
+abbrev pub OutcomeSays : Project → List ℕ → List ℕ → Option ℕ → Type 0
+OutcomeSays x buffer after (Some n) = (length (project_text x) ≤ length buffer) × (n ≡ length (project_text x)) × (after ≡ project_text x ++ drop (length (project_text x)) buffer)
+OutcomeSays x buffer after None = (length buffer < length (project_text x)) × (after ≡ buffer)

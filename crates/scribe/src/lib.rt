@@ -3,6 +3,7 @@
 
 mod jobs;
 mod marks;
+mod sinks;
 
 ghost use Rattle.std.specs.Prelude.{◌≡◌, false, ◌≤◌, length};
 ghost use Rattle.chains.specs.Listed.{paired};
@@ -12,15 +13,9 @@ ghost use Rattle.scribe.specs.Writing.{Ready, Ran, OutcomeSays};
 
 use jobs::put_jobs;
 use marks::put;
+use sinks::{Count, Pen, Sink};
 
-// The number of bytes written; or the buffer is too short for them.
-#[derive(Drop)]
-pub enum Outcome {
-    Wrote(usize),
-    Short,
-}
-
-// The project of one resource, at the front of the buffer where there is room for it.
+// The project of one resource, at the front of the buffer where there is room for it: the number of bytes written. They are counted first.
 pub fn write(
     cap: u32,
     dur: &[u32],
@@ -28,34 +23,38 @@ pub fn write(
     jobs: &[u32],
     successors: &[u32],
     buffer: &mut [u8],
-) -> Outcome
+) -> Option<usize>
     requires { Ready dur.now dem.now jobs.now successors.now }
     ensures { OutcomeSays (made cap dur.now dem.now (paired jobs.now successors.now)) buffer.old buffer.new result }
 {
-    let bytes = put_project(true, cap, dur, dem, jobs, successors, buffer);
+    let mut count = Count { at: 0 };
+    put_project(&mut count, cap, dur, dem, jobs, successors);
+    let bytes = count.at;
     if buffer.len() < bytes {
-        return Outcome::Short;
+        return None;
     }
-    let end = put_project(false, cap, dur, dem, jobs, successors, buffer);
-    Outcome::Wrote(end)
+    let mut pen = Pen { buffer, at: 0 };
+    put_project(&mut pen, cap, dur, dem, jobs, successors);
+    Some(pen.at)
 }
 
-// The project's bytes put at the front of the buffer, and their number. A dry run leaves the buffer as it is.
-fn put_project(
-    dry: bool,
+// The project's bytes put into a sink from its start.
+fn put_project<S: Sink>(
+    sink: &mut S,
     cap: u32,
     dur: &[u32],
     dem: &[u32],
     jobs: &[u32],
     successors: &[u32],
-    buffer: &mut [u8],
-) -> usize
+)
     requires ready { Ready dur.now dem.now jobs.now successors.now }
-    requires successors_in_bounds { dry ≡ false → length (project_text (made cap dur.now dem.now (paired jobs.now successors.now))) ≤ length buffer.old }
-    ensures { Ran dry (made cap dur.now dem.now (paired jobs.now successors.now)) buffer.old buffer.new result }
+    requires start { (S.held sink.old).place ≡ 0 }
+    requires successors_in_bounds { S.dry ≡ false → length (project_text (made cap dur.now dem.now (paired jobs.now successors.now))) ≤ length (S.held sink.old).buffer }
+    ensures ran { Ran S.dry (made cap dur.now dem.now (paired jobs.now successors.now)) (S.held sink.old).buffer (S.held sink.new).buffer (S.held sink.new).place }
+    ensures same { (S.held sink.new).lent ≡ (S.held sink.old).lent }
 {
-    let a = put(dry, dur.len() as u32, b' ', 0, buffer);
-    let b = put(dry, 1, b'\n', a, buffer);
-    let c = put(dry, cap, b'\n', b, buffer);
-    put_jobs(dry, dur, dem, jobs, successors, c, buffer)
+    put(sink, dur.len() as u32, b' ');
+    put(sink, 1, b'\n');
+    put(sink, cap, b'\n');
+    put_jobs(sink, dur, dem, jobs, successors);
 }

@@ -1,37 +1,28 @@
-// Bytes and numbers put into the buffer one after the other. A dry run writes none and counts them all.
+// Numbers put into a sink, digit by digit.
 ghost use Rattle.std.specs.Prelude.{[], ◌∷◌, ◌++◌};
 ghost use Rattle.projects.specs.Form.{decimal};
-ghost use Rattle.scribe.specs.Says.{RoomFor, Put};
+ghost use Rattle.scribe.specs.Says.{Takes, Sent};
 
-// One byte.
-fn store(dry: bool, b: u8, at: usize, buffer: &mut [u8]) -> usize
-    requires { RoomFor dry at (b ∷ []) buffer.old }
-    ensures { Put dry at (b ∷ []) buffer.old buffer.new result }
-{
-    if dry {
-        return at + 1;
-    }
-    buffer[at] = b;
-    at + 1
-}
+use crate::sinks::Sink;
 
 // The decimal digits of v: those of v / 10 first, and then the last one. Each call has one digit less.
-fn put_digits(dry: bool, v: u32, at: usize, buffer: &mut [u8]) -> usize
-    requires { RoomFor dry at (decimal v) buffer.old }
-    ensures { Put dry at (decimal v) buffer.old buffer.new result }
+fn put_digits<S: Sink>(sink: &mut S, v: u32)
+    requires { Takes S.dry (decimal v) (S.held sink.old) }
+    ensures { Sent S.dry (decimal v) (S.held sink.old) (S.held sink.new) }
 {
     if v < 10 {
-        return store(dry, b'0' + (v as u8), at, buffer);
+        sink.store(b'0' + (v as u8));
+    } else {
+        put_digits(sink, v / 10);
+        sink.store(b'0' + ((v % 10) as u8));
     }
-    let last = put_digits(dry, v / 10, at, buffer);
-    store(dry, b'0' + ((v % 10) as u8), last, buffer)
 }
 
 // A number, and one byte behind it.
-pub fn put(dry: bool, v: u32, end: u8, at: usize, buffer: &mut [u8]) -> usize
-    requires { RoomFor dry at (decimal v ++ end ∷ []) buffer.old }
-    ensures { Put dry at (decimal v ++ end ∷ []) buffer.old buffer.new result }
+pub fn put<S: Sink>(sink: &mut S, v: u32, end: u8)
+    requires { Takes S.dry (decimal v ++ end ∷ []) (S.held sink.old) }
+    ensures { Sent S.dry (decimal v ++ end ∷ []) (S.held sink.old) (S.held sink.new) }
 {
-    let behind = put_digits(dry, v, at, buffer);
-    store(dry, end, behind, buffer)
+    put_digits(sink, v);
+    sink.store(end);
 }
