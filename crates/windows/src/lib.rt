@@ -75,15 +75,15 @@ pub fn copy(from: &[u32], to: &mut [u32])
 
 // A copy of a list in a local array.
 pub fn save(from: &[u32], to: &mut [u32; screen::MOST_JOBS])
-    requires { (length from.now ≤ most_jobs) × (length to.old ≡ most_jobs) }
-    ensures { (to.new ≡ from.now ++ drop (length from.now) to.old) × (length to.new ≡ most_jobs) }
+    requires { length from.now ≤ most_jobs }
+    ensures { to.new ≡ from.now ++ drop (length from.now) to.old }
 {
     to[..from.len()].copy_from_slice(from);
 }
 
 // A list from the front of such an array.
 pub fn restore(from: &[u32; screen::MOST_JOBS], to: &mut [u32])
-    requires { (length to.old ≤ most_jobs) × (length from.now ≡ most_jobs) }
+    requires { length to.old ≤ most_jobs }
     ensures { to.new ≡ take (length to.old) from.now }
 {
     to.copy_from_slice(&from[..to.len()]);

@@ -11,10 +11,10 @@ same : (d : After-save-2) → length d.args.est.now ≡ length d.args.lct.now
 same d = sym (ends_sized d.requires)
 
 starts-front : (d : After-save-2) → take (length d.args.est.now) d.save.new.to ≡ d.args.est.now
-starts-front d = saved_back d.args.est.now _ d.save.new.to _ d.save.ensures.0 refl
+starts-front d = saved_back d.args.est.now _ d.save.new.to _ d.save.ensures refl
 
 ends-front : (d : After-save-2) → take (length d.args.est.now) d.save-2.new.to ≡ d.args.lct.now
-ends-front d = saved_back d.args.lct.now _ d.save-2.new.to _ d.save-2.ensures.0 (same d)
+ends-front d = saved_back d.args.lct.now _ d.save-2.new.to _ d.save-2.ensures (same d)
 
 pub slice_bounds-check_log-end : goal.slice_bounds-check_log-end
 slice_bounds-check_log-end c = ap length (sym (starts-front (goal.at.slice_bounds-check_log-end c).After-save-2))
