@@ -1,10 +1,8 @@
 // Code 25 (document 01, 'Log records'): what a record states of the starts, held against the windows reached so far.
 #![tactic(auto)]
 
-ghost use Rattle.std.specs.Prelude.{◌≡◌, true, [], ◌*◌, ◌≤◌, ◌<◌, length};
-ghost use Rattle.lists.specs.Tests.{where?};
+ghost use Rattle.std.specs.Prelude.{◌≡◌, [], ◌≤◌, ◌<◌, length};
 ghost use Rattle.narrowing.specs.Windows.{win, side_of};
-ghost use Rattle.members.specs.Members.{has};
 ghost use Rattle.joblist.specs.Limits.{most_time};
 ghost use Rattle.timetable.specs.Time.{sure};
 ghost use Rattle.codes.specs.Codes.{own_true, stated_true};
@@ -16,9 +14,10 @@ fn own_true(est: &[u32], lct: &[u32], dur: &[u32], job: usize, side: u32, t: u32
     ensures { result ≡ own_true dur.now (win est.now lct.now) job (side_of side) t }
 {
     if side == 0 {
-        return windows::no_earlier(est[job], t, dur[job]);
+        windows::no_earlier(est[job], t, dur[job])
+    } else {
+        windows::no_later(lct[job], t, dur[job])
     }
-    windows::no_later(lct[job], t, dur[job])
 }
 
 // Whether job k starts no earlier than t - p + 1 and no later than t: its sure part holds t.
@@ -29,34 +28,13 @@ fn sure(est: &[u32], lct: &[u32], dur: &[u32], k: usize, t: u32) -> bool
     windows::sure(est[k], lct[k], dur[k], t)
 }
 
-// Whether k, if it is a member, does so.
-fn member_true(est: &[u32], lct: &[u32], dur: &[u32], set: &[u32], k: usize, t: u32) -> bool
-    requires { Timed (win est.now lct.now) dur.now × (has set.now k ≡ true → k < length dur.now) × (t ≤ most_time) }
-    ensures { result ≡ where? (has set.now k) (sure dur.now (win est.now lct.now) k t) }
-{
-    if !bits::has(set, k) {
-        return true;
-    }
-    sure(est, lct, dur, k, t)
-}
-
-// 25: the stated facts are true of the windows. Every bit of the set is looked at.
+// 25: the stated facts are true of the windows.
 pub fn stated_true(est: &[u32], lct: &[u32], dur: &[u32], words: &[u32]) -> bool
     requires { Timed (win est.now lct.now) dur.now × LetThrough (length dur.now) words.now }
     ensures { result ≡ stated_true (jobs_in 0 dur.now [] 0) (win est.now lct.now) words.now }
 {
     let t = words[logs::TIME_WORD];
     let job = words[logs::JOB_WORD] as usize;
-    if !own_true(est, lct, dur, job, words[logs::SIDE_WORD], t) {
-        return false;
-    }
-    let set = logs::set_of(words);
-    let mut k = 0;
-    while k < bits::BITS * set.len() {
-        if !member_true(est, lct, dur, set, k, t) {
-            return false;
-        }
-        k += 1;
-    }
-    true
+    own_true(est, lct, dur, job, words[logs::SIDE_WORD], t)
+        && exam::every_member(logs::set_of(words), |k| sure(est, lct, dur, k, t))
 }
