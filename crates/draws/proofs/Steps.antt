@@ -1,18 +1,19 @@
--- The demands named as the code adds them up, job by job, and the test of code 27, bit by bit of the member set.
-use Prim.Native.Nat.{ℕ, ◌+◌, ◌*◌, ◌-◌, ◌≤◌, ◌<◌}
+-- The demands named as the code adds them up, job by job, and the test of code 27, member by member.
+use Prim.Native.Nat.{ℕ, zero, suc, ◌+◌, ◌*◌, ◌-◌, ◌≤◌, ◌<◌}
 use native.Mathlib.Omega.{arith}
 use native.Mathlib.Numerals.{add-one}
+use native.Mathlib.Decide.{dec_le}
 use mathlib.Core.Path.{◌≡◌, refl, ◌∙◌}
 use mathlib.Core.Bool.{Bool, true, false, not}
 use mathlib.Core.List.{List, []}
-use lib.Dec.{ltb}
+use lib.Dec.{leb, ltb}
 use lib.ListN.{length}
+use borrow.Author.Tests.{lt-ltb, le-ltb, lt-leb, le-leb}
 use Rattle.lists.specs.Lists.{◌!◌}
-use Rattle.lists.specs.Tests.{both, only, every}
+use Rattle.lists.specs.Tests.{both, where?, only, every}
 use Rattle.lists.specs.Sums.{total}
 use Rattle.lists.specs.Sets.{total_of}
 use Rattle.lists.specs.Spares.{without, amount, spare}
-use Rattle.lists.proofs.Tests.{every_fault}
 use Rattle.lists.proofs.Sums.{total_suc}
 use Rattle.lists.proofs.Sets.{total_of_limit}
 use Rattle.lists.proofs.Spares.{without_total}
@@ -46,32 +47,38 @@ draw_most r s k d = rw (draw_total r s k) (total_of_limit k r (has s) most_deman
 abbrev pub spare_at : List ℕ → ℕ → ℕ → List ℕ → ℕ → Bool
 spare_at r cap j s k = spare (length r) r (r ! j) cap (has s) k
 
-module _ (r : List ℕ) (cap : ℕ) (x s : List ℕ) (is : s ≡ set_of_record x) where
-  lean_is : lean (jobs_in (length r) [] r cap) x ≡ every (λ k. not (spare_at r cap (job_of x) s k)) (32 * length s)
+every_same : (f g : ℕ → Bool) (m : ℕ) → ((k : ℕ) → f k ≡ g k) → every f m ≡ every g m
+unfolding every
+every_same f g zero h = refl
+every_same f g (suc m) h = rw (h m, every_same f g m h)
+
+not_above : (c z : ℕ) → not (ltb c z) ≡ leb z c
+not_above c z = elim (dec_le z c) [ yes h ↦ rw (le-ltb c z h, le-leb z c h) | no h ↦ let b : c < z = omega arith in rw (lt-ltb c z b, lt-leb z c b) ]
+
+module _ (r : List ℕ) (cap : ℕ) (x s : List ℕ) (is : s ≡ set_of_record x) (inside : (k : ℕ) → is_member x k ≡ true → k < length r) (all : ℕ) (all-is : all ≡ named (jobs_in (length r) [] r 0) x) where
+  taken_away : (k : ℕ) → has s k ≡ true → all ≡ amount (length r) r (r ! job_of x) (without (has s) k) + r ! k
+  taken_away k h =
+      let a : all ≡ amount (length r) r (r ! job_of x) (has s) = rw is all-is in
+      omega (arith, a, without_total (length r) r (has s) k (inside k (rw is at h)) h)
+
+  -- a member is in the list, and its demand is among those named
+  pub member_named : (k : ℕ) → has s k ≡ true → (k < length r) × (r ! k ≤ all)
+  member_named k h = (inside k (rw is at h), omega (arith, taken_away k h))
+
+  -- its demand taken away, those without it are left
+  lean_at : (k : ℕ) → not (spare_at r cap (job_of x) s k) ≡ where? (has s k) (leb (all - r ! k) cap)
+  unfolding spare
+  lean_at k = go (has s k) refl
+    where
+      go : (b : Bool) → has s k ≡ b → not (both b (ltb cap (amount (length r) r (r ! job_of x) (without (has s) k)))) ≡ where? b (leb (all - r ! k) cap)
+      go true e =
+          let z : all - r ! k ≡ amount (length r) r (r ! job_of x) (without (has s) k) = omega (arith, taken_away k e) in
+          rw z (not_above cap (amount (length r) r (r ! job_of x) (without (has s) k)))
+      go false e = refl
+
+  lean_bits : lean (jobs_in (length r) [] r cap) x ≡ every (λ k. not (spare_at r cap (job_of x) s k)) (32 * length s)
   unfolding lean
-  lean_is = rw is
+  lean_bits = rw is
 
-  pub lean_fault : (k : ℕ) → k < 32 * length s → spare_at r cap (job_of x) s k ≡ true → lean (jobs_in (length r) [] r cap) x ≡ false
-  lean_fault k b h = lean_is ∙ every_fault (λ i. not (spare_at r cap (job_of x) s i)) (32 * length s) k b (rw h)
-
-  pub lean_all : every (λ k. not (spare_at r cap (job_of x) s k)) (32 * length s) ≡ true → lean (jobs_in (length r) [] r cap) x ≡ true
-  lean_all h = lean_is ∙ h
-
-  module _ (k : ℕ) (inside : is_member x k ≡ true → k < length r) (all : ℕ) (all-is : all ≡ named (jobs_in (length r) [] r 0) x) where
-    taken_away : has s k ≡ true → all ≡ amount (length r) r (r ! job_of x) (without (has s) k) + r ! k
-    taken_away h =
-        let a : all ≡ amount (length r) r (r ! job_of x) (has s) = rw is all-is in
-        omega (arith, a, without_total (length r) r (has s) k (inside (rw is at h)) h)
-
-    -- a member is in the list, and its demand is among those named
-    pub member_named : has s k ≡ true → (k < length r) × (r ! k ≤ all)
-    member_named h = (inside (rw is at h), omega (arith, taken_away h))
-
-    -- its demand taken away, those without it are left
-    pub spare_is : both (has s k) (ltb cap (all - r ! k)) ≡ spare_at r cap (job_of x) s k
-    unfolding spare
-    spare_is = go (has s k) refl
-      where
-        go : (b : Bool) → has s k ≡ b → both (has s k) (ltb cap (all - r ! k)) ≡ both (has s k) (ltb cap (amount (length r) r (r ! job_of x) (without (has s) k)))
-        go true e = let z : all - r ! k ≡ amount (length r) r (r ! job_of x) (without (has s) k) = omega (arith, taken_away e) in rw z
-        go false e = rw e
+  pub lean_is : lean (jobs_in (length r) [] r cap) x ≡ every (λ k. where? (has s k) (leb (all - r ! k) cap)) (32 * length s)
+  lean_is = lean_bits ∙ every_same (λ k. not (spare_at r cap (job_of x) s k)) (λ k. where? (has s k) (leb (all - r ! k) cap)) (32 * length s) lean_at

@@ -8,11 +8,7 @@ use Rattle.draws.proofs.named.Goals as goal
 
 pub overflow_add-result : goal.overflow_add-result
 overflow_add-result c =
-    let s = c in
-    let d = s.requires.0 in
-    let r = s.args.dem.now in
-    let x = s.args.words.now in
-    omega (arith, c.members_draw-sum.ensures, total_of_limit (length r) r (is_member x) most_demand d.within.0, d.few, d.within.0 (job_of x))
-
-pub returns : goal.returns
-returns c = rw c.members_draw-sum.ensures
+    let d = c.requires.0 in
+    let r = c.args.dem.now in
+    let x = c.args.words.now in
+    omega (arith, c.members_draw.ensures, total_of_limit (length r) r (is_member x) most_demand d.within.0, d.few, d.within.0 (job_of x))
