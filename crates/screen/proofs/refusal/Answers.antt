@@ -1,41 +1,22 @@
--- `screen::refusal` meets its contract: each return is one law on the four lists, from the outcomes of the tests before it.
-use mathlib.Core.Path.{◌≡◌, sym, ◌∙◌}
-use borrow.Author.Tests.{not-true, not-false}
-use lib.Dec.{leb}
-use lib.ListN.{length}
-use Rattle.lists.specs.Tests.{both, unless}
+-- `screen::refusal` meets its contract: the demands' length, then the three lists, then the demands and the capacity.
+use mathlib.Core.Path.{sym, ap, ◌∙◌}
+use Rattle.std.proofs.lemmas.Result.{err_from_is_err_and}
 use Rattle.narrowing.specs.Windows.{win}
-use Rattle.joblist.specs.GoodList.{at_most, refusal}
-use Rattle.joblist.specs.Limits.{most_demand, four_lists, supply}
-use Rattle.screen.proofs.Tests.{four_unequal, four_three, four-rest}
+use Rattle.answers.specs.Said.{refusal_number}
+use Rattle.screen.proofs.Tests.{failed, passed, exit_number, last_number, number_not_0, stays, by_three}
 use Rattle.screen.proofs.refusal.Goals as goal
-use Rattle.screen.proofs.refusal.Goals.{After-overdrawn}
 
-pub returns-then-dem-est : goal.returns-then-dem-est
-returns-then-dem-est c =
-    let a = c.args in
-    sym (four_unequal (win a.est.now a.lct.now) a.dur.now a.dem.now a.cap c.if-dem-est.true)
+pub returns-in_err-sized : goal.returns-in_err-sized
+returns-in_err-sized c =
+    let p = err_from_is_err_and _ c.from_residual.ensures.1 in
+    exit_number _ _ _ _ _ p.1 p.2 c.in_err-sized.ensures ∙ rw (by_three (win c.args.est.now c.args.lct.now) c.args.dur.now c.args.dem.now c.args.cap, failed _ _ _ c.in_err-sized.ensures)
 
-pub returns-then-number-ne0 : goal.returns-then-number-ne0
-returns-then-number-ne0 c =
-    let a = c.args in
-    let e = c.refusal_of_three-number.ensures in
-    e ∙ sym (four_three (win a.est.now a.lct.now) a.dur.now a.dem.now a.cap c.if-dem-est.false (λ h. c.if-number-ne0.true (e ∙ h)))
-
-rest : (d : After-overdrawn) → let a = d.args in
-    refusal (length a.est.now) (four_lists (win a.est.now a.lct.now) a.dur.now a.dem.now) (supply a.cap)
-    ≡ unless (both (at_most most_demand a.dem.now) (leb a.cap most_demand)) 3 0
-rest d =
-    let a = d.args in
-    four-rest (win a.est.now a.lct.now) a.dur.now a.dem.now a.cap d.if-dem-est.false
-    (sym d.refusal_of_three-number.ensures ∙ d.if-number-ne0.false)
-
-pub returns-then-overdrawn : goal.returns-then-overdrawn
-returns-then-overdrawn c =
-    let a = c.args in
-    sym (rest (goal.at.returns-then-overdrawn c).After-overdrawn ∙ rw (not-true (both (at_most most_demand a.dem.now) (leb a.cap most_demand)) (sym c.overdrawn.ensures ∙ c.if-overdrawn.true)))
+pub returns-in_err-refusal_of_three : goal.returns-in_err-refusal_of_three
+returns-in_err-refusal_of_three c =
+    let p = err_from_is_err_and c.from_residual-in_err-refusal_of_three.result c.from_residual-in_err-refusal_of_three.ensures.1 in
+    rw (p.1, p.2, by_three (win c.args.est.now c.args.lct.now) c.args.dur.now c.args.dem.now c.args.cap, passed _ _ _ c.in_ok-sized.ensures, ← c.in_err-refusal_of_three.ensures) (sym (stays _ _ (number_not_0 _)))
 
 pub returns : goal.returns
 returns c =
-    let a = c.args in
-    sym (rest (goal.at.returns c).After-overdrawn ∙ rw (not-false (both (at_most most_demand a.dem.now) (leb a.cap most_demand)) (sym c.overdrawn.ensures ∙ c.if-overdrawn.false)))
+    ap refusal_number c.supplied.ensures ∙ last_number _ _
+    ∙ rw (by_three (win c.args.est.now c.args.lct.now) c.args.dur.now c.args.dem.now c.args.cap, passed _ _ _ c.in_ok-sized.ensures, ← c.in_ok-refusal_of_three.ensures)

@@ -1,53 +1,35 @@
 -- `screen::refusal_of_three` meets its contract: the earliest starts are as long as themselves, so two comparisons are test 1.
-use native.Mathlib.Omega.{arith}
-use mathlib.Core.Path.{◌≡◌, sym, ◌∙◌}
-use mathlib.Core.List.{[]}
-use lib.ListN.{length}
-use lib.Dec.{leb}
-use borrow.Author.Tests.{eq-eqb, ne_eqb, le-leb, lt-leb, not-true, not-false}
-use Rattle.lists.specs.Tests.{unless}
+use mathlib.Core.Path.{ap, ◌∙◌}
+use Rattle.std.proofs.lemmas.Result.{err_from_is_err_and}
 use Rattle.narrowing.specs.Windows.{win}
-use Rattle.joblist.specs.GoodList.{within, refusal}
-use Rattle.joblist.specs.Limits.{most_jobs, three_lists}
-use Rattle.screen.proofs.Tests.{of_three}
+use Rattle.answers.specs.Said.{refusal_number}
+use Rattle.screen.proofs.Tests.{failed, passed, exit_number, last_number, of_three}
 use Rattle.screen.proofs.refusal_of_three.Goals as goal
-use Rattle.screen.proofs.refusal_of_three.Goals.{Else-dur-est}
 
-pub returns-then-lct-est : goal.returns-then-lct-est
-returns-then-lct-est c =
-    let a = c.args in
-    rw (of_three (win a.est.now a.lct.now) a.dur.now, ne_eqb (length a.lct.now) (length a.est.now) c.if-lct-est.true)
+pub returns-in_err-sized : goal.returns-in_err-sized
+returns-in_err-sized c =
+    let p = err_from_is_err_and _ c.from_residual.ensures.1 in
+    exit_number _ _ _ _ _ p.1 p.2 c.in_err-sized.ensures ∙ rw (of_three (win c.args.est.now c.args.lct.now) c.args.dur.now, failed _ _ _ c.in_err-sized.ensures)
 
-pub returns-then-dur-est : goal.returns-then-dur-est
-returns-then-dur-est c =
-    let a = c.args in
-    let n = length a.est.now in
-    rw (of_three (win a.est.now a.lct.now) a.dur.now, eq-eqb (length a.lct.now) n c.if-lct-est.false, ne_eqb (length a.dur.now) n c.if-dur-est.true)
+pub returns-in_err-sized-2 : goal.returns-in_err-sized-2
+returns-in_err-sized-2 c =
+    let p = err_from_is_err_and _ c.from_residual-in_err-sized-2.ensures.1 in
+    exit_number _ _ _ _ _ p.1 p.2 c.in_err-sized-2.ensures ∙ rw (of_three (win c.args.est.now c.args.lct.now) c.args.dur.now, passed _ _ _ c.in_ok-sized.ensures, failed _ _ _ c.in_err-sized-2.ensures)
 
--- past test 1
-sized : (a : Else-dur-est) → let s = a.args in
-    refusal (length s.est.now) (three_lists (win s.est.now s.lct.now) s.dur.now) []
-    ≡ unless (leb (length s.est.now) most_jobs) 2 (unless (within (three_lists (win s.est.now s.lct.now) s.dur.now)) 3 0)
-sized d =
-    let a = d.args in
-    let n = length a.est.now in
-    rw (
-      of_three (win a.est.now a.lct.now) a.dur.now,
-      eq-eqb (length a.lct.now) n d.if-lct-est.false,
-      eq-eqb (length a.dur.now) n d.if-dur-est.false,
-    )
+pub returns-in_err-few : goal.returns-in_err-few
+returns-in_err-few c =
+    let p = err_from_is_err_and _ c.from_residual-in_err-few.ensures.1 in
+    exit_number _ _ _ _ _ p.1 p.2 c.in_err-few.ensures ∙ rw (of_three (win c.args.est.now c.args.lct.now) c.args.dur.now, passed _ _ _ c.in_ok-sized.ensures, passed _ _ _ c.in_ok-sized-2.ensures, failed _ _ _ c.in_err-few.ensures)
 
-pub returns-then-est-gt-MOST_JOBS : goal.returns-then-est-gt-MOST_JOBS
-returns-then-est-gt-MOST_JOBS c = rw (sized (goal.at.returns-then-est-gt-MOST_JOBS c).Else-dur-est, lt-leb (length c.args.est.now) most_jobs (omega arith))
+pub returns-in_err-within : goal.returns-in_err-within
+returns-in_err-within c =
+    let p = err_from_is_err_and _ c.from_residual-in_err-within.ensures.1 in
+    exit_number _ _ _ _ _ p.1 p.2 c.in_err-within.ensures ∙ rw (of_three (win c.args.est.now c.args.lct.now) c.args.dur.now, passed _ _ _ c.in_ok-sized.ensures, passed _ _ _ c.in_ok-sized-2.ensures, passed _ _ _ c.in_ok-few.ensures, failed _ _ _ c.in_err-within.ensures)
 
-pub returns-then-too_late : goal.returns-then-too_late
-returns-then-too_late c =
-    let a = c.args in
-    let late = not-true (within (three_lists (win a.est.now a.lct.now) a.dur.now)) (sym c.too_late.ensures ∙ c.if-too_late.true) in
-    rw (sized (goal.at.returns-then-too_late c).Else-dur-est, le-leb (length a.est.now) most_jobs (omega arith), late)
+pub returns-in_err-within-2 : goal.returns-in_err-within-2
+returns-in_err-within-2 c =
+    let p = err_from_is_err_and _ c.from_residual-in_err-within-2.ensures.1 in
+    exit_number _ _ _ _ _ p.1 p.2 c.in_err-within-2.ensures ∙ rw (of_three (win c.args.est.now c.args.lct.now) c.args.dur.now, passed _ _ _ c.in_ok-sized.ensures, passed _ _ _ c.in_ok-sized-2.ensures, passed _ _ _ c.in_ok-few.ensures, passed _ _ _ c.in_ok-within.ensures, failed _ _ _ c.in_err-within-2.ensures)
 
 pub returns : goal.returns
-returns c =
-    let a = c.args in
-    let early = not-false (within (three_lists (win a.est.now a.lct.now) a.dur.now)) (sym c.too_late.ensures ∙ c.if-too_late.false) in
-    rw (sized (goal.at.returns c).Else-dur-est, le-leb (length a.est.now) most_jobs (omega arith), early)
+returns c = ap refusal_number c.within-3.ensures ∙ last_number _ _ ∙ rw (of_three (win c.args.est.now c.args.lct.now) c.args.dur.now, passed _ _ _ c.in_ok-sized.ensures, passed _ _ _ c.in_ok-sized-2.ensures, passed _ _ _ c.in_ok-few.ensures, passed _ _ _ c.in_ok-within.ensures, passed _ _ _ c.in_ok-within-2.ensures)
