@@ -29,10 +29,7 @@ fn mask(k: usize) -> u32
 pub fn has(set: &[u32], k: usize) -> bool
     ensures { result ≡ has set.now k }
 {
-    if set.len() <= k / BITS {
-        return false;
-    }
-    set[k / BITS] & mask(k) != 0
+    k / BITS < set.len() && set[k / BITS] & mask(k) != 0
 }
 
 // k becomes a member.
@@ -40,23 +37,17 @@ pub fn put(set: &mut [u32], k: usize)
     ensures { set.new ≡ inserted set.old k }
 {
     let at = k / BITS;
-    if set.len() <= at {
-        return;
+    if at < set.len() {
+        set[at] |= mask(k);
     }
-    set[at] |= mask(k);
 }
 
 // The members of `more` become members, as far as the words go.
 pub fn join(set: &mut [u32], more: &[u32])
     ensures { set.new ≡ joined set.old more.now }
 {
-    let mut i = 0;
-    while i < set.len() {
-        if more.len() <= i {
-            return;
-        }
+    for i in 0..set.len().min(more.len()) {
         set[i] |= more[i];
-        i += 1;
     }
 }
 
@@ -66,10 +57,8 @@ pub fn count(set: &[u32]) -> u32
     ensures { result ≡ ones_of set.now }
 {
     let mut n: u32 = 0;
-    let mut i = 0;
-    while i < set.len() {
-        n += u32::count_ones(set[i]);
-        i += 1;
+    for word in set {
+        n += word.count_ones();
     }
     n
 }

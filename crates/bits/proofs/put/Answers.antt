@@ -5,9 +5,9 @@ use Rattle.members.specs.Members.{inserted}
 use Rattle.members.proofs.Inserted.{inserted_past}
 use Rattle.bits.proofs.put.Goals as goal
 
-pub returns-then-set-at : goal.returns-then-set-at
-returns-then-set-at c = sym (inserted_past _ _ (omega arith))
-
-pub returns : goal.returns
+pub returns-then-at-set : goal.returns-then-at-set
 unfolding inserted
-returns c = rw c.mask.ensures
+returns-then-at-set c = rw c.mask.ensures
+
+pub returns-else-at-set : goal.returns-else-at-set
+returns-else-at-set c = sym (inserted_past _ _ (omega arith))
