@@ -11,6 +11,8 @@ ghost use Rattle.codes.specs.Facts.{side};
 ghost use Rattle.codes.specs.Codes.{in_range, takes_part, partners, tightens};
 ghost use Rattle.exam.specs.Lent.{jobs_in};
 
+use windows::Side;
+
 // 21: the job is in a list of n jobs, the side is 0 or 1, and the time is within its limit.
 #[tactic(auto, unfolding(codes::specs::Codes::in_range))]
 pub fn in_range(n: usize, words: &[u32]) -> bool
@@ -70,9 +72,8 @@ pub fn tightens(est: &[u32], lct: &[u32], words: &[u32]) -> bool
 {
     let job = words[logs::JOB_WORD] as usize;
     let time = words[logs::TIME_WORD];
-    if words[logs::SIDE_WORD] == 0 {
-        est[job] <= time
-    } else {
-        time < lct[job]
+    match Side::from(words[logs::SIDE_WORD]) {
+        Side::Start => est[job] <= time,
+        Side::End => time < lct[job],
     }
 }

@@ -3,36 +3,39 @@
 
 ghost use Rattle.std.specs.Prelude.{◌≡◌, [], length};
 ghost use Rattle.narrowing.specs.Windows.{win};
+ghost use Rattle.answers.specs.Said.{coded};
 ghost use Rattle.journal.specs.Journal.{record_words};
 ghost use Rattle.timetable.specs.Table.{call, Good};
 ghost use Rattle.codes.specs.Codes.{code};
 ghost use Rattle.exam.specs.Lent.{jobs_in};
 
-// The code of the first test that a record fails on the windows reached, and 0 where it is good.
-pub fn code_of(est: &[u32], lct: &[u32], dur: &[u32], dem: &[u32], cap: u32, words: &[u32]) -> u32
+use answers::Code;
+
+// Whether a record is good on the windows reached; else the code of the first test that it fails.
+pub fn code_of(est: &[u32], lct: &[u32], dur: &[u32], dem: &[u32], cap: u32, words: &[u32]) -> Result<(), Code>
     requires { Good (call (win est.now lct.now) dur.now dem.now cap []) × (length words.now ≡ record_words) }
-    ensures { result ≡ code (jobs_in (length dur.now) dur.now dem.now cap) (win est.now lct.now) words.now }
+    ensures { coded result ≡ code (jobs_in (length dur.now) dur.now dem.now cap) (win est.now lct.now) words.now }
 {
     if !exam::in_range(dur.len(), words) {
-        return 21;
+        return Err(Code::Range);
     }
     if !exam::partners(dur, dem, words) {
-        return 22;
+        return Err(Code::Partners);
     }
     if !exam::counted(words) {
-        return 23;
+        return Err(Code::Counted);
     }
     if !draws::exceeds(dem, cap, words) {
-        return 24;
+        return Err(Code::Exceeds);
     }
     if !stated::stated_true(est, lct, dur, words) {
-        return 25;
+        return Err(Code::Stated);
     }
     if !exam::tightens(est, lct, words) {
-        return 26;
+        return Err(Code::Tightens);
     }
     if !draws::lean(dem, cap, words) {
-        return 27;
+        return Err(Code::Lean);
     }
-    0
+    Ok(())
 }

@@ -2,21 +2,23 @@
 #![tactic(auto)]
 
 ghost use Rattle.std.specs.Prelude.{◌≡◌, [], ◌≤◌, ◌<◌, length};
-ghost use Rattle.narrowing.specs.Windows.{win, side_of};
+ghost use Rattle.narrowing.specs.Windows.{win};
 ghost use Rattle.joblist.specs.Limits.{most_time};
 ghost use Rattle.timetable.specs.Time.{sure};
 ghost use Rattle.codes.specs.Codes.{own_true, stated_true};
 ghost use Rattle.exam.specs.Lent.{jobs_in, Timed, LetThrough};
+ghost use Rattle.windows.specs.Sides.{side_is};
+
+use windows::Side;
 
 // The moved job's own fact: on side 0 it starts no earlier than t - p + 1, on side 1 no later than t.
-fn own_true(est: &[u32], lct: &[u32], dur: &[u32], job: usize, side: u32, t: u32) -> bool
+fn own_true(est: &[u32], lct: &[u32], dur: &[u32], job: usize, side: Side, t: u32) -> bool
     requires { Timed (win est.now lct.now) dur.now × (job < length dur.now) × (t ≤ most_time) }
-    ensures { result ≡ own_true dur.now (win est.now lct.now) job (side_of side) t }
+    ensures { result ≡ own_true dur.now (win est.now lct.now) job (side_is side) t }
 {
-    if side == 0 {
-        windows::no_earlier(est[job], t, dur[job])
-    } else {
-        windows::no_later(lct[job], t, dur[job])
+    match side {
+        Side::Start => windows::no_earlier(est[job], t, dur[job]),
+        Side::End => windows::no_later(lct[job], t, dur[job]),
     }
 }
 
@@ -35,6 +37,6 @@ pub fn stated_true(est: &[u32], lct: &[u32], dur: &[u32], words: &[u32]) -> bool
 {
     let t = words[logs::TIME_WORD];
     let job = words[logs::JOB_WORD] as usize;
-    own_true(est, lct, dur, job, words[logs::SIDE_WORD], t)
+    own_true(est, lct, dur, job, Side::from(words[logs::SIDE_WORD]), t)
         && exam::every_member(logs::set_of(words), |k| sure(est, lct, dur, k, t))
 }
