@@ -3,12 +3,14 @@ use Prim.Native.Nat.{ℕ, zero, suc, ◌+◌, ◌-◌, ◌≤◌, ◌<◌}
 use native.Mathlib.Omega.{arith}
 use native.Mathlib.Nat.{sub-zero}
 use native.Mathlib.Numerals.{add-one}
-use mathlib.Core.Path.{◌≡◌, refl, sym, ◌∙◌}
+use mathlib.Core.Path.{◌≡◌, refl, sym, ap, ◌∙◌}
 use mathlib.Core.Bool.{true, false}
 use mathlib.Core.List.{List, []}
 use lib.ListN.{length}
 use lib.Seq.{get_or-set_same}
 use borrow.Author.Tests.{ltb-false}
+use Rattle.std.specs.Prelude.{Result, Ok, Err}
+use Rattle.std.specs.Result.{is_ok}
 use Rattle.lists.specs.Lists.{◌!◌}
 use Rattle.narrowing.specs.Windows.{Win, Side, early, late, moved, closes}
 use Rattle.joblist.specs.Limits.{most_time}
@@ -19,6 +21,9 @@ use Rattle.timetable.proofs.Good.{durations_sized, end_most}
 use Rattle.timetable.proofs.Moves.{moved_good}
 use Rattle.codes.specs.Facts.{side, InRange}
 use Rattle.codes.specs.Codes.{code}
+use Rattle.answers.specs.declared.reasons.Code.{Code}
+use Rattle.answers.specs.Said.{coded, code_number}
+use Rattle.replay.specs.declared.Bad.{Bad}
 use Rattle.checks.specs.Replay.{changed, Verdict, holds, clashes, rejected, closing, or_bad, or_closed, replay}
 use Rattle.exam.specs.Lent.{jobs_in}
 use Rattle.codes.proofs.Codes.{good_record}
@@ -50,6 +55,27 @@ module _ (p r : List ℕ) (cap : ℕ) (W : Win) (x : List ℕ) (taken : code (jo
   good_changed g h =
       moved_good W p r cap [] g (job_of x) (side x) (bound (side x) (time_of x))
       (bound_small W p r cap g (job_of x) (side x) (time_of x) taken_range.job taken_range.time h) []
+
+-- ---- what the judge says of a record
+
+pub coded_ok : (r : Result Unit Code) → true ≡ is_ok r → coded r ≡ 0
+coded_ok (Ok u) h = refl
+coded_ok (Err c) h = cc
+
+pub coded_bad : (i : ℕ) (bad : Bad) (r : Result Unit Code) (P : Code → Type 0) → false ≡ is_ok r → ((c : Code) → r ≡ Err c → P c)
+    → ((c : Code) → P c → (bad.place ≡ i) × (bad.code ≡ c)) → (bad.place ≡ i) × (coded r ≡ code_number bad.code)
+coded_bad i bad (Ok u) P e m f = absurd (cc)
+coded_bad i bad (Err c) P e m f = let q = f c (m c refl) in (q.0, sym (ap code_number q.1))
+
+pub some_code : (c : Code) → code_number c ≡ 0 → ⊥
+some_code Code.Closed h = omega arith
+some_code Code.Range h = omega arith
+some_code Code.Partners h = omega arith
+some_code Code.Counted h = omega arith
+some_code Code.Exceeds h = omega arith
+some_code Code.Stated h = omega arith
+some_code Code.Tightens h = omega arith
+some_code Code.Lean h = omega arith
 
 -- ---- one record more
 

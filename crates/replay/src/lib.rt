@@ -9,18 +9,18 @@ ghost use Rattle.checks.specs.Replay.{replay};
 ghost use Rattle.exam.specs.Lent.{jobs_in};
 ghost use Rattle.replay.specs.Ended.{verdict};
 
-// The code of a record where a window was closed before it.
-pub const CLOSED: u32 = 20;
+use answers::Code;
+use windows::Side;
 
-// How a replay ends: all records are taken; the last one closed the window of a job; the place and code of the first bad one.
-#[derive(Drop)]
-pub enum Ended {
-    Holds,
-    Clashes(usize),
-    Rejected(usize, u32),
+// The first bad record of a log: its place and its code.
+#[derive(Clone, Copy, Debug, PartialEq, Eq)]
+pub struct Bad {
+    pub place: usize,
+    pub code: Code,
 }
 
-// Takes the records in turn, each on the windows that those before it have left. It ends since each turn takes one of the claimed records.
+// Takes the records in turn, each on the windows that those before it have left. Where all are good, it returns the job whose window the last one closed, if
+// it closed one.
 pub fn replayed(
     est: &mut [u32],
     lct: &mut [u32],
@@ -29,32 +29,27 @@ pub fn replayed(
     cap: u32,
     log: &[u32],
     count: usize,
-) -> Ended
+) -> Result<Option<usize>, Bad>
     requires { Good (call (win est.old lct.old) dur.now dem.now cap []) × (count ≤ room_of log.now) }
     ensures { verdict result (win est.new lct.new) ≡ replay (jobs_in (length dur.now) dur.now dem.now cap) (win est.old lct.old) 0 (records log.now 0 count) }
 {
-    let mut i = 0;
-    while i < count {
+    for i in 0..count {
         let words = logs::show_record(log, i);
-        let code = judge::code_of(est, lct, dur, dem, cap, words);
-        if code != 0 {
-            return Ended::Rejected(i, code);
-        }
+        judge::code_of(est, lct, dur, dem, cap, words).map_err(|code| Bad { place: i, code })?;
         let job = words[logs::JOB_WORD] as usize;
-        windows::shift(
-            est,
-            lct,
-            job,
-            words[logs::SIDE_WORD],
-            words[logs::TIME_WORD],
-        );
-        i += 1;
+        let side = Side::from(words[logs::SIDE_WORD]);
+        windows::shift(est, lct, job, side, words[logs::TIME_WORD]);
         if windows::closed(est, lct, dur, job) {
-            if i < count {
-                return Ended::Rejected(i, CLOSED);
-            }
-            return Ended::Clashes(job);
+            let next = i + 1;
+            return if next < count {
+                Err(Bad {
+                    place: next,
+                    code: Code::Closed,
+                })
+            } else {
+                Ok(Some(job))
+            };
         }
     }
-    Ended::Holds
+    Ok(None)
 }
