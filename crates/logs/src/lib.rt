@@ -2,8 +2,7 @@
 // and the call that shows one record.
 #![tactic(auto)]
 
-ghost use Rattle.std.specs.Prelude.{◌≡◌, not, ◌+◌, ◌≤◌, length};
-ghost use Rattle.std.proofs.Math.Seq.{paste};
+ghost use Rattle.std.specs.Prelude.{◌≡◌, not, length};
 ghost use Rattle.journal.specs.Journal.{record_words, in_words, set_of_record, room_of, is_whole, record_at, rewritten, cleared};
 
 // The places of the words before the member set: job, side, time, number of members.
@@ -42,10 +41,10 @@ pub fn show_record(log: &[u32], k: usize) -> &[u32]
 {
     if k < room(log) {
         let from = RECORD * k;
-        let to = from + RECORD;
-        return &log[from..to];
+        &log[from..from + RECORD]
+    } else {
+        &log[..0]
     }
-    &log[..0]
 }
 
 // The member set of a record.
@@ -56,38 +55,23 @@ pub fn set_of(words: &[u32]) -> &[u32]
     &words[HEAD..]
 }
 
-// Words over the log's from `at` on.
-fn lay(log: &mut [u32], at: usize, words: &[u32])
-    requires { at + length words.now ≤ length log.old }
-    ensures { log.new ≡ paste log.old at words.now (length words.now) }
-{
-    let mut i = 0;
-    while i < words.len() {
-        log[at + i] = words[i];
-        i += 1;
-    }
-}
-
-// Record k written anew, the rest as before; nothing is written where the log ends before it.
+// Record k written anew, the rest as before; nothing is written where the log ends before it. The layout is of words: a side is its number
+// here, as (01, 'Log records') has it; what a side is, `windows` knows, above this crate.
 pub fn write(log: &mut [u32], k: usize, job: u32, side: u32, time: u32, set: [u32; bits::WORDS])
     ensures { log.new ≡ rewritten log.old k (in_words job side time set) }
 {
     if room(log) <= k {
         return;
     }
-    let head = [job, side, time, bits::count(&set)];
     let at = RECORD * k;
-    lay(log, at, &head);
-    lay(log, at + HEAD, &set);
+    let to = at + HEAD;
+    log[at..to].copy_from_slice(&[job, side, time, bits::count(&set)]);
+    log[to..to + bits::WORDS].copy_from_slice(&set);
 }
 
 // Every word 0.
 pub fn clear(log: &mut [u32])
     ensures { log.new ≡ cleared log.old }
 {
-    let mut done = 0;
-    while done < log.len() {
-        log[done] = 0;
-        done += 1;
-    }
+    log.fill(0);
 }

@@ -9,8 +9,8 @@ overflow_mul-from c =
     let a = c.args in
     omega (arith, room_words a.log.now a.k (omega (arith, c.room.ensures, c.if-k-room.true)))
 
-pub overflow_add-to : goal.overflow_add-to
-overflow_add-to c =
+pub overflow_add-result : goal.overflow_add-result
+overflow_add-result c =
     let a = c.args in
     omega (arith, room_words a.log.now a.k (omega (arith, c.room.ensures, c.if-k-room.true)))
 
@@ -29,7 +29,7 @@ returns-then-k-room c =
     let a = c.args in
     record_part a.log.now a.k (omega (arith, c.room.ensures, c.if-k-room.true))
 
-pub returns : goal.returns
-returns c =
+pub returns-else-k-room : goal.returns-else-k-room
+returns-else-k-room c =
     let a = c.args in
     sym (record_out a.log.now a.k (omega (arith, c.room.ensures, c.if-k-room.false)))
