@@ -7,7 +7,7 @@ ghost use Rattle.joblist.specs.Limits.{most_jobs};
 ghost use Rattle.journal.specs.Journal.{room_of};
 ghost use Rattle.conflicts.specs.Table.{blame, marks_of, marking};
 
-use answers::{Conflict, ConflictAnswer};
+use answers::Conflict;
 
 // The marks of the walk back over so many records, from the last one to the first: the job of the clash, and the members of each record whose moved job is
 // marked when the walk comes to it.
@@ -17,10 +17,8 @@ fn walk_back(log: &[u32], count: usize, job: usize) -> [u32; bits::WORDS]
 {
     let mut set = bits::empty();
     bits::put(&mut set, job);
-    let mut left = count;
-    while 0 < left {
-        left -= 1;
-        let words = logs::show_record(log, left);
+    for k in (0..count).rev() {
+        let words = logs::show_record(log, k);
         if bits::has(&set, words[logs::JOB_WORD] as usize) {
             bits::join(&mut set, logs::set_of(words));
         }
@@ -34,9 +32,8 @@ pub fn marks(log: &[u32], count: usize, job: usize) -> Conflict
     ensures { blame (says_conflict result.answer) result.set ≡ marking log.now count job }
 {
     let set = walk_back(log, count, job);
-    let ones = bits::count(&set);
     Conflict {
-        answer: ConflictAnswer::Marked(ones),
+        answer: Ok(bits::count(&set)),
         set,
     }
 }

@@ -10,5 +10,5 @@ use Rattle.marker.proofs.marks.Goals as goal
 pub returns : goal.returns
 unfolding marking
 returns c =
-    ap (λ (n : ℕ). blame (said Word.marked (n ∷ [])) c.walk_back-set.result) c.count-ones.ensures
+    ap (λ (n : ℕ). blame (said Word.marked (n ∷ [])) c.walk_back-set.result) c.count.ensures
     ∙ ap (λ (s : List ℕ). blame (said Word.marked (ones_of s ∷ [])) s) c.walk_back-set.ensures
