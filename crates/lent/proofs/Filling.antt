@@ -7,16 +7,12 @@ use mathlib.Core.Path.{◌≡◌, refl, sym, ap, ◌∙◌}
 use mathlib.Core.List.{List, [], ◌∷◌, ◌++◌, map, append_assoc, append-nil}
 use lib.ListN.{length, drop, set, length-append, length-set, length-map}
 use lib.Seq.{drop-cons, set_at, get_or-set_same, get_or-set_other}
+use Rattle.std.specs.Prelude.{Some, None}
 use Rattle.lists.specs.Lists.{◌!◌}
 use Rattle.chains.specs.Paths.{Pair, pair}
 use Rattle.texts.specs.Tokens.{Token}
 use Rattle.texts.specs.Readings.{Read, good}
-use Rattle.rowheads.specs.declared.Table.{Table}
-use Rattle.walking.specs.declared.Walk.{Walk}
-use Rattle.walking.specs.Walk.{Fit}
-use Rattle.walking.specs.Comes.{comes, rows_at}
-use Rattle.precedence.specs.Pairs.{PullSays}
-use Rattle.precedence.specs.declared.Pull.TheVariants.{Next, NoMore}
+use Rattle.passes.specs.Rounds.{Drawn}
 use Rattle.lent.specs.Parts.{Wrote}
 
 map_snoc : (f : Pair → ℕ) (done : List Pair) (p : Pair) (l : List ℕ) → map f (done ++ p ∷ []) ++ l ≡ map f done ++ f p ∷ l
@@ -40,23 +36,22 @@ pub record Midway (js₀ ss₀ js ss : List ℕ) (now : Read (List Pair)) (i : �
   pub js_are : js ≡ map (λ (p : Pair). p.job) done ++ drop i js₀
   pub ss_are : ss ≡ map (λ (p : Pair). p.successor) done ++ drop i ss₀
 
-pub record Writing (n : ℕ) (table : Table) (s : List ℕ) (at : ℕ) (js₀ ss₀ js ss : List ℕ) (w : Walk) (i : ℕ) : Type 0 where
-  pub fit : Fit n w
+-- r is the reading of all pairs, `now` that of the pairs still to come
+pub record Writing (r now : Read (List Pair)) (js₀ ss₀ js ss : List ℕ) (i : ℕ) : Type 0 where
   pub long_js : length js ≡ length js₀
   pub long_ss : length ss ≡ length ss₀
-  pub mid : (ps : List Pair) (end : List Token) → comes n table s (rows_at at) ≡ good ps end → Midway js₀ ss₀ js ss (comes n table s w) i ps end
+  pub mid : (ps : List Pair) (end : List Token) → r ≡ good ps end → Midway js₀ ss₀ js ss now i ps end
 
-module _ (n : ℕ) (table : Table) (s : List ℕ) (at : ℕ) (js₀ ss₀ : List ℕ) where
-  pub writing_start : Writing n table s at js₀ ss₀ js₀ ss₀ (rows_at at) 0
+module _ (r : Read (List Pair)) (js₀ ss₀ : List ℕ) where
+  pub writing_start : Writing r r js₀ ss₀ js₀ ss₀ 0
   writing_start = record {
-    fit = record { begun = omega arith; owned = omega arith };
     long_js = refl;
     long_ss = refl;
     mid = λ ps end e. record { done = []; rest = ps; all = refl; long = refl; ahead = e; js_are = refl; ss_are = refl };
   }
 
-  module _ (js ss : List ℕ) (w : Walk) (i : ℕ) (g : Writing n table s at js₀ ss₀ js ss w i) where
-    pub writing_end : PullSays n table s w NoMore → Wrote (comes n table s (rows_at at)) js₀ ss₀ js ss
+  module _ (now later : Read (List Pair)) (js ss : List ℕ) (i : ℕ) (g : Writing r now js₀ ss₀ js ss i) where
+    pub writing_end : Drawn now None later → Wrote r js₀ ss₀ js ss
     writing_end t = record {
       are = λ ps end e.
           let m = g.mid ps end e in
@@ -65,10 +60,9 @@ module _ (n : ℕ) (table : Table) (s : List ℕ) (at : ℕ) (js₀ ss₀ : List
           rw (y, z) (m.js_are, m.ss_are);
     }
 
-    module _ (a b : ℕ) (u : Walk) (t : PullSays n table s w (Next a b u)) where
-      pub writing_step : i < length js → i < length ss → Writing n table s at js₀ ss₀ (set js i a) (set ss i b) u (i + 1)
+    module _ (a b : ℕ) (t : Drawn now (Some (a, b)) later) where
+      pub writing_step : i < length js → i < length ss → Writing r later js₀ ss₀ (set js i a) (set ss i b) (i + 1)
       writing_step h₁ h₂ = record {
-        fit = t.1;
         long_js = length-set js i a ∙ g.long_js;
         long_ss = length-set ss i b ∙ g.long_ss;
         mid = λ ps end e.
@@ -86,7 +80,7 @@ module _ (n : ℕ) (table : Table) (s : List ℕ) (at : ℕ) (js₀ ss₀ : List
       }
 
       -- there are more pairs than have been written
-      pub more_left : (ps : List Pair) (end : List Token) → comes n table s (rows_at at) ≡ good ps end → i < length ps
+      pub more_left : (ps : List Pair) (end : List Token) → r ≡ good ps end → i < length ps
       more_left ps end e =
           let m = g.mid ps end e in
           let d = t.0 m.rest end m.ahead in

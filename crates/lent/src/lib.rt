@@ -4,15 +4,13 @@
 ghost use Rattle.std.specs.Prelude.{◌≡◌, ℕ, ◌≤◌, length};
 ghost use Rattle.lists.specs.Lists.{◌!◌};
 ghost use Rattle.joblist.specs.Limits.{most_jobs};
-ghost use Rattle.walking.specs.Comes.{comes, rows_at};
+ghost use Rattle.precedence.specs.Pairs.{Pullable, coming};
 ghost use Rattle.lent.specs.Parts.{RoomSays, Lessened, Drafted, FilledFrom, Roomy, Wrote};
 
-use precedence::Pull;
-use rowheads::Table;
-use walking::Walk;
+use precedence::TextPairs;
 
 // The lengths of the six lists.
-#[derive(Drop)]
+#[derive(Clone, Copy, Debug, PartialEq, Eq)]
 pub struct Sizes {
     pub est: usize,
     pub lct: usize,
@@ -23,7 +21,7 @@ pub struct Sizes {
 }
 
 // What the four lists of the jobs are filled from: the longest chains before and after each job, the durations and the demands.
-#[derive(Drop)]
+#[derive(Clone, Copy)]
 pub struct Draft {
     pub heads: [u32; screen::MOST_JOBS],
     pub tails: [u32; screen::MOST_JOBS],
@@ -31,30 +29,19 @@ pub struct Draft {
     pub dem: [u32; screen::MOST_JOBS],
 }
 
-// Whether the lengths are those wanted for n jobs and m pairs.
-pub fn roomy(sizes: Sizes, n: u32, m: usize) -> bool
-    ensures { RoomSays sizes n m result }
-{
-    let jobs = n as usize;
-    if sizes.est != jobs {
-        return false;
+impl Sizes {
+    // Whether the lengths are those wanted for n jobs and m pairs.
+    pub fn roomy(self, n: u32, m: usize) -> bool
+        ensures { RoomSays self n m result }
+    {
+        let jobs = n as usize;
+        self.est == jobs
+            && self.lct == jobs
+            && self.dur == jobs
+            && self.dem == jobs
+            && m <= self.jobs
+            && m <= self.successors
     }
-    if sizes.lct != jobs {
-        return false;
-    }
-    if sizes.dur != jobs {
-        return false;
-    }
-    if sizes.dem != jobs {
-        return false;
-    }
-    if sizes.jobs < m {
-        return false;
-    }
-    if sizes.successors < m {
-        return false;
-    }
-    true
 }
 
 // The horizon less each chain.
@@ -62,10 +49,8 @@ fn latest(tails: &[u32; screen::MOST_JOBS], h: u32, to: &mut [u32])
     requires { (length tails.now ≡ most_jobs) × (length to.old ≤ most_jobs) × ((j : ℕ) → tails.now ! j ≤ h) }
     ensures { Lessened tails.now h to.old to.new }
 {
-    let mut i: usize = 0;
-    while i < to.len() {
-        to[i] = h - tails[i];
-        i += 1;
+    for (i, x) in to.iter_mut().enumerate() {
+        *x = h - tails[i];
     }
 }
 
@@ -83,38 +68,21 @@ pub fn fill(
     ensures { FilledFrom draft h est.old lct.old dur.old dem.old
         est.new lct.new dur.new dem.new }
 {
-    let heads = draft.heads;
-    let tails = draft.tails;
-    let d = draft.dur;
-    let q = draft.dem;
-    windows::restore(&heads, est);
-    latest(&tails, h, lct);
-    windows::restore(&d, dur);
-    windows::restore(&q, dem);
+    windows::restore(&draft.heads, est);
+    latest(&draft.tails, h, lct);
+    windows::restore(&draft.dur, dur);
+    windows::restore(&draft.dem, dem);
 }
 
-// The pairs of the text, in its order, where there is room for them. Each turn takes a token.
-pub fn write_pairs(text: &[u8], n: u32, table: Table, at: usize, js: &mut [u32], ss: &mut [u32])
-    requires { (n ≤ most_jobs) × Roomy (comes n table text.now (rows_at at)) js.old ss.old }
-    ensures { Wrote (comes n table text.now (rows_at at)) js.old ss.old js.new ss.new }
+// The pairs of the text, in its order, where there is room for them.
+pub fn write_pairs(pairs: TextPairs<'_>, js: &mut [u32], ss: &mut [u32])
+    requires { Pullable pairs × Roomy (coming pairs) js.old ss.old }
+    ensures { Wrote (coming pairs.entry) js.old ss.old js.new ss.new }
 {
-    let mut w = Walk {
-        next: 0,
-        left: 0,
-        at,
-    };
-    let mut i: usize = 0;
-    loop {
-        match precedence::next_pair(text, n, table, w) {
-            Pull::NoMore => {
-                return;
-            }
-            Pull::Next(a, b, u) => {
-                js[i] = a;
-                ss[i] = b;
-                i += 1;
-                w = u;
-            }
-        }
+    let mut i = 0;
+    for (a, b) in pairs {
+        js[i] = a;
+        ss[i] = b;
+        i += 1;
     }
 }

@@ -1,10 +1,10 @@
 -- Rounds over pairs, wherever they are read from: r is the reading of them. Each job has a value, a chain's length; a round raises each successor's
 -- value to its job's value plus duration, up to a limit. With `back` the pairs are taken the other way round, for chains after a job.
-use Rattle.std.specs.Prelude.{ℕ, ◌+◌, ◌≤◌, ◌<◌, ◌≡◌, Bool, List, set}
+use Rattle.std.specs.Prelude.{ℕ, ◌+◌, ◌≤◌, ◌<◌, ◌≡◌, Bool, true, false, List, [], ◌∷◌, set, Option, Some, None}
 use Rattle.lists.specs.Lists.{◌!◌}
 use Rattle.lists.specs.Sums as sums
 use Rattle.joblist.specs.Limits.{most_jobs}
-use Rattle.chains.specs.Paths.{Pair, Precedes, flipped, Below, weight, Chain}
+use Rattle.chains.specs.Paths.{Pair, pair, Precedes, flipped, Below, weight, Chain}
 use Rattle.chains.specs.Passes.{Chained, NoneRaises, pass}
 use Rattle.texts.specs.Tokens.{Token}
 use Rattle.texts.specs.Readings.{Read, good}
@@ -12,6 +12,12 @@ use Rattle.passes.specs.declared.Rise.{Rise}
 use Rattle.passes.specs.declared.Rise.TheVariants.{Kept, Rose, High}
 use Rattle.passes.specs.declared.Round.{Round}
 use Rattle.passes.specs.declared.Round.TheVariants.{Same, Changed, Over}
+
+-- what is drawn from a reading of pairs: the next one, a job and its successor, with the reading behind it; or there are no more
+abbrev pub Drawn : Read (List Pair) → Option (ℕ × ℕ) → Read (List Pair) → Type 0
+Drawn now (Some p) later =
+    ((ps : List Pair) (end : List Token) → now ≡ good ps end → (rest : List Pair) × (ps ≡ pair p.0 p.1 ∷ rest) × (later ≡ good rest end)) × (p.0 < most_jobs) × (p.1 < most_jobs)
+Drawn now None later = (ps : List Pair) (end : List Token) → now ≡ good ps end → ps ≡ []
 
 -- b's value in v raised to a's plus x, unless that is above `top`
 abbrev pub RiseSays : List ℕ → List ℕ → ℕ → ℕ → ℕ → ℕ → Rise → Type 0
@@ -46,3 +52,8 @@ pub record AtRest (r : Read (List Pair)) (n : ℕ) (p : List ℕ) (back : Bool) 
 -- or until some chain is longer than top
 pub record Overrun (r : Read (List Pair)) (p : List ℕ) (back : Bool) (top : ℕ) : Type 0 where
   pub long : (ps : List Pair) (end : List Token) → r ≡ good ps end → ChainOver (flipped back ps) p top
+
+-- by the answer of rounds: at rest, or overrun
+abbrev pub SettleSays : Read (List Pair) → ℕ → List ℕ → Bool → ℕ → List ℕ → Bool → Type 0
+SettleSays r n p back top v true = AtRest r n p back top v
+SettleSays r n p back top v false = Overrun r p back top

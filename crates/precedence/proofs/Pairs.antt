@@ -3,18 +3,18 @@ use Prim.Native.Nat.{ℕ, ◌-◌, ◌≤◌}
 use native.Mathlib.Omega.{arith}
 use mathlib.Core.Path.{◌≡◌, refl, sym, ap, ◌∙◌}
 use mathlib.Core.List.{List, [], ◌∷◌}
-use lib.ListN.{length, drop}
+use lib.ListN.{drop}
+use Rattle.std.specs.Prelude.{Option, Some, None}
 use Rattle.chains.specs.Paths.{Pair, pair}
 use Rattle.texts.specs.Tokens.{Token, tokens}
 use Rattle.texts.specs.Readings.{Read, bad, good}
 use Rattle.texts.proofs.Readings.{bad_not_good}
-use Rattle.rowheads.specs.declared.Table.{Table}
 use Rattle.walking.specs.declared.Walk.{Walk}
 use Rattle.walking.specs.declared.Step.TheVariants as steps
-use Rattle.walking.specs.Walk.{Seen, see, Fit, add_pair, add_row, StepSays}
-use Rattle.precedence.specs.declared.Pull.TheVariants.{Next, NoMore}
-use Rattle.walking.specs.Comes.{only_pairs, comes}
-use Rattle.precedence.specs.Pairs.{PullSays}
+use Rattle.walking.specs.Walk.{Seen, see, add_pair, add_row, StepSays}
+use Rattle.walking.specs.Comes.{only_pairs}
+use Rattle.precedence.specs.declared.text_pairs.TextPairs.{TextPairs}
+use Rattle.precedence.specs.Pairs.{PullSays, Pulled, Pullable, coming, left}
 
 only_row : (d q : ℕ) (r : Read Seen) → only_pairs (add_row d q r) ≡ only_pairs r
 only_row d q (bad c) = refl
@@ -25,31 +25,46 @@ only_pair : (p : Pair) (r : Read Seen) (ps : List Pair) (end : List Token) → o
 only_pair p (bad c) ps end e = bad_not_good (bad c) c ps end refl e
 only_pair p (good x ts) ps end e = let u : ts ≡ end = cc in (x.pairs, cc, rw u)
 
--- from w₀ to w there were heads of rows alone
-pub record Pulling (n : ℕ) (table : Table) (s : List ℕ) (w₀ w : Walk) : Type 0 where
-  pub fit : Fit n w
-  pub same : comes n table s w₀ ≡ comes n table s w
-  pub later : length (tokens (drop w.at s)) ≤ length (tokens (drop w₀.at s))
+-- from s₀ to s there were heads of rows alone
+pub record Pulling (s₀ s : TextPairs) : Type 0 where
+  pub jobs : s.n ≡ s₀.n
+  pub table : s.table ≡ s₀.table
+  pub text : s.text.now ≡ s₀.text.now
+  pub can : Pullable s
+  pub same : coming s₀ ≡ coming s
+  pub later : left s ≤ left s₀
 
-module _ (n : ℕ) (table : Table) (s : List ℕ) (w₀ w : Walk) (g : Pulling n table s w₀ w) where
-  pub pulling_row : (d q : ℕ) (u : Walk) → StepSays n table 0 s w (steps.Begun d q u) → Pulling n table s w₀ u
+pub pulling_start : (s : TextPairs) → Pullable s → Pulling s s
+pulling_start s h = record { jobs = refl; table = refl; text = refl; can = h; same = refl; later = omega arith }
+
+module _ (s₀ s : TextPairs) (g : Pulling s₀ s) where
+  pub pulling_row : (d q : ℕ) (u : Walk) → StepSays s.n s.table 0 s.text.now s.walk (steps.Begun d q u) → Pulling s₀ (record s { walk = u })
   pulling_row d q u t = record {
-    fit = t.1;
-    same = g.same ∙ ap only_pairs t.0 ∙ only_row d q (see n table 0 s u);
+    jobs = g.jobs;
+    table = g.table;
+    text = g.text;
+    can = (t.1, g.can.1);
+    same = g.same ∙ ap only_pairs t.0 ∙ only_row d q (see s.n s.table 0 s.text.now u);
     later = omega (arith, t.2, g.later);
   }
 
-  pub pulling_pair : (v : ℕ) (u : Walk) → StepSays n table 0 s w (steps.Successor v u) → PullSays n table s w₀ (Next (w.next - 1) v u)
-  pulling_pair v u t = (
-    (λ ps end e. only_pair (pair (w.next - 1) v) (see n table 0 s u) ps end (sym (ap only_pairs t.0) ∙ sym g.same ∙ e)),
-    t.1,
-    omega (arith, t.2, g.later),
-    omega (arith, g.fit.begun, g.fit.owned, t.5),
-    t.3,
-  )
+  -- what is said of the walk from s on is said from s₀ on
+  pulled : (r : Option (ℕ × ℕ)) (u : Walk) → PullSays s₀.n s₀.table s₀.text.now s₀.walk r u → Pulled s₀ r (record s { walk = u })
+  pulled r u h = record { says = h; jobs = g.jobs; table = g.table; text = g.text; few = rw g.jobs at g.can.1 }
 
-  pub pulling_done : StepSays n table 0 s w steps.Done → PullSays n table s w₀ NoMore
-  pulling_done t ps end e = let q : good [] (tokens (drop w.at s)) ≡ good ps end = sym (ap only_pairs t.0) ∙ sym g.same ∙ e in cc
+  pub pulling_pair : (v : ℕ) (u : Walk) → StepSays s.n s.table 0 s.text.now s.walk (steps.Successor v u) → Pulled s₀ (Some (s.walk.next - 1, v)) (record s { walk = u })
+  pulling_pair v u t =
+      pulled (Some (s.walk.next - 1, v)) u
+      (rw (← g.jobs, ← g.table, ← g.text) (
+        (λ ps end e. only_pair (pair (s.walk.next - 1) v) (see s.n s.table 0 s.text.now u) ps end (sym (ap only_pairs t.0) ∙ sym g.same ∙ rw (g.jobs, g.table, g.text) at e)),
+        t.1,
+        (let k = rw (← g.text) at g.later in omega (arith, t.2, k)),
+        omega (arith, g.can.0.begun, g.can.0.owned, t.5),
+        t.3,
+      ))
 
-  pub pulling_stop : (c : ℕ) → StepSays n table 0 s w (steps.Refused c) → PullSays n table s w₀ NoMore
-  pulling_stop c t ps end e = bad_not_good (bad c) c ps end refl (sym (ap only_pairs t) ∙ sym g.same ∙ e)
+  pub pulling_done : StepSays s.n s.table 0 s.text.now s.walk steps.Done → Pulled s₀ None s
+  pulling_done t = pulled None s.walk (λ ps end e. let q : good [] (tokens (drop s.walk.at s.text.now)) ≡ good ps end = sym (ap only_pairs t.0) ∙ sym g.same ∙ e in cc)
+
+  pub pulling_stop : (c : ℕ) → StepSays s.n s.table 0 s.text.now s.walk (steps.Refused c) → Pulled s₀ None s
+  pulling_stop c t = pulled None s.walk (λ ps end e. bad_not_good (bad c) c ps end refl (sym (ap only_pairs t) ∙ sym g.same ∙ e))

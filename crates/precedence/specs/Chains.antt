@@ -1,15 +1,8 @@
--- What the rounds over a text's pairs say; and refusals 33 and 34 of document 02, Item 1, with the longest chains where neither is given: number 0
--- stands for none.
-use Rattle.std.specs.Prelude.{ℕ, zero, suc, ◌+◌, ◌≤◌, ◌<◌, ◌≡◌, Bool, true, false, List, ◌⊎◌}
+-- Refusals 33 and 34 of document 02, Item 1, and the longest chains where neither is given.
+use Rattle.std.specs.Prelude.{ℕ, ◌+◌, ◌≤◌, ◌<◌, ◌≡◌, Bool, true, false, List, ◌⊎◌, Result, Ok, Err}
 use Rattle.lists.specs.Lists.{◌!◌}
 use Rattle.chains.specs.Paths.{Pair, Precedes, weight, Cycle, Longest, Longer, Back}
-use Rattle.texts.specs.Readings.{Read}
-use Rattle.passes.specs.Rounds.{AtRest, Overrun}
-
--- by the answer of rounds: at rest, or overrun
-abbrev pub SettleSays : Read (List Pair) → ℕ → List ℕ → Bool → ℕ → List ℕ → Bool → Type 0
-SettleSays r n p back top v true = AtRest r n p back top v
-SettleSays r n p back top v false = Overrun r p back top
+use Rattle.answers.specs.declared.reasons.Refusal.{Refusal}
 
 -- whether a value plus its job's duration is above h
 abbrev pub ExceedsSays : List ℕ → List ℕ → ℕ → ℕ → Bool → Type 0
@@ -24,8 +17,8 @@ pub record ChainsFound (ps : List Pair) (n : ℕ) (p : List ℕ) (h : ℕ) (head
   pub after : (j : ℕ) → Longest (Back (Precedes ps)) (weight p) j (tails ! j)
   pub low : (j : ℕ) → (heads ! j ≤ h) × (tails ! j ≤ h)
 
--- by the number
-abbrev pub OrderSays : List Pair → ℕ → List ℕ → ℕ → List ℕ → List ℕ → ℕ → Type 0
-OrderSays ps n p h heads tails zero = ChainsFound ps n p h heads tails
-OrderSays ps n p h heads tails (suc c) =
-    ((suc c ≡ 33) × Cycle (Precedes ps)) ⊎ ((suc c ≡ 34) × (Cycle (Precedes ps) → ⊥) × Longer (Precedes ps) n (weight p) h)
+-- by the result
+abbrev pub OrderSays : List Pair → ℕ → List ℕ → ℕ → List ℕ → List ℕ → Result Unit Refusal → Type 0
+OrderSays ps n p h heads tails (Ok u) = ChainsFound ps n p h heads tails
+OrderSays ps n p h heads tails (Err c) =
+    ((c ≡ Refusal.Cycle) × Cycle (Precedes ps)) ⊎ ((c ≡ Refusal.Horizon) × (Cycle (Precedes ps) → ⊥) × Longer (Precedes ps) n (weight p) h)

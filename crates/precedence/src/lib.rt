@@ -2,7 +2,7 @@
 // reads the text again.
 #![tactic(auto)]
 
-mod rounds;
+mod text_pairs;
 
 ghost use Rattle.std.specs.Prelude.{◌≡◌, List, ℕ, ◌≤◌, length, replicate};
 ghost use Rattle.lists.specs.Lists.{◌!◌};
@@ -10,78 +10,56 @@ ghost use Rattle.joblist.specs.Limits.{most_time, most_jobs};
 ghost use Rattle.chains.specs.Paths.{Pair, Precedes, Below};
 ghost use Rattle.texts.specs.Tokens.{Token};
 ghost use Rattle.texts.specs.Readings.{good};
-ghost use Rattle.walking.specs.Walk.{Fit};
-ghost use Rattle.walking.specs.Comes.{comes, rows_at};
-ghost use Rattle.precedence.specs.Pairs.{PullSays};
-ghost use Rattle.precedence.specs.Chains.{OrderSays};
+ghost use Rattle.precedence.specs.Pairs.{Pullable, coming};
+ghost use Rattle.precedence.specs.Chains.{ExceedsSays, OrderSays};
 
-use rounds::{exceeds, settle};
-use rowheads::Table;
-use walking::{Step, Walk};
+use answers::Refusal;
+use passes::settle;
+pub use text_pairs::TextPairs;
 
-// A job, one of its successors, and the walk behind them; or no more pairs.
-#[derive(Drop)]
-pub enum Pull {
-    Next(u32, u32, Walk),
-    NoMore,
-}
-
-// The next pair of the text. Each turn takes a token.
-pub fn next_pair(text: &[u8], n: u32, table: Table, start: Walk) -> Pull
-    requires { Fit n start × (n ≤ most_jobs) }
-    ensures { PullSays n table text.now start result }
+// Whether some value plus its job's duration is above h.
+fn exceeds(v: &[u32; screen::MOST_JOBS], p: &[u32; screen::MOST_JOBS], n: u32, h: u32) -> bool
+    requires n_le_most_jobs { (n ≤ most_jobs) × (length v.now ≡ most_jobs) × (length p.now ≡ most_jobs) }
+    requires by_index { ((j : ℕ) → v.now ! j ≤ most_time) × ((j : ℕ) → p.now ! j ≤ most_time) }
+    ensures { ExceedsSays v.now p.now n h result }
 {
-    let mut w = start;
-    loop {
-        match walking::advance(text, n, table, 0, w) {
-            Step::Successor(v, u) => {
-                let next = w.next;
-                return Pull::Next(next - 1, v, u);
-            }
-            Step::Begun(_, _, u) => {
-                w = u;
-            }
-            Step::Done => {
-                return Pull::NoMore;
-            }
-            Step::Refused(_) => {
-                return Pull::NoMore;
-            }
+    for j in 0..n as usize {
+        if h < v[j] + p[j] {
+            return true;
         }
     }
+    false
 }
 
-// 33 for a cycle, 34 for a chain longer than h, else 0 and the longest chains before and after each job. A cycle is found by steps counted in
-// place of durations: without one, no chain has as many steps as there are jobs.
+// The longest chains before and after each job; or there is a cycle, or a chain longer than h. A cycle is found by steps counted in place of durations:
+// without one, no chain has as many steps as there are jobs.
 pub fn longest_chains(
-    text: &[u8],
-    n: u32,
-    table: Table,
-    at: usize,
+    pairs: TextPairs<'_>,
     dur: &[u32; screen::MOST_JOBS],
     h: u32,
     heads: &mut [u32; screen::MOST_JOBS],
     tails: &mut [u32; screen::MOST_JOBS],
-) -> u32
-    requires n_le_most_jobs { (n ≤ most_jobs) × (length dur.now ≡ most_jobs) × (heads.old ≡ replicate most_jobs 0) × (tails.old ≡ replicate most_jobs 0) × (h ≤ most_time) }
+) -> Result<(), Refusal>
+    requires n_le_most_jobs { Pullable pairs × (length dur.now ≡ most_jobs) × (heads.old ≡ replicate most_jobs 0) × (tails.old ≡ replicate most_jobs 0) × (h ≤ most_time) }
     requires by_index { (j : ℕ) → dur.now ! j ≤ most_time }
-    ensures { ((ps : List Pair) (end : List Token) → comes n table text.now (rows_at at) ≡ good ps end → Below n (Precedes ps)
-        → OrderSays ps n dur.now h heads.new tails.new result)
+    ensures { ((ps : List Pair) (end : List Token) → coming pairs.entry ≡ good ps end → Below pairs.entry.n (Precedes ps)
+        → OrderSays ps pairs.entry.n dur.now h heads.new tails.new result)
         × (length heads.new ≡ most_jobs) × (length tails.new ≡ most_jobs) }
 {
-    let ones = [1u32; screen::MOST_JOBS];
+    let n = pairs.n;
+    let steps = [1u32; screen::MOST_JOBS];
     let mut levels = [0u32; screen::MOST_JOBS];
-    if !settle(text, n, table, at, &ones, false, n, &mut levels) {
-        return 33;
+    if !settle(pairs, &steps, false, n, &mut levels) {
+        return Err(Refusal::Cycle);
     }
-    if !settle(text, n, table, at, dur, false, h, heads) {
-        return 34;
+    if !settle(pairs, dur, false, h, heads) {
+        return Err(Refusal::Horizon);
     }
-    if !settle(text, n, table, at, dur, true, h, tails) {
-        return 34;
+    if !settle(pairs, dur, true, h, tails) {
+        return Err(Refusal::Horizon);
     }
     if exceeds(heads, dur, n, h) {
-        return 34;
+        return Err(Refusal::Horizon);
     }
-    0
+    Ok(())
 }

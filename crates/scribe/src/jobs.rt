@@ -51,13 +51,7 @@ fn put_job<S: Sink>(sink: &mut S, d: u32, q: u32, successors: &[u32], from: usiz
 }
 
 // A line for each job.
-pub fn put_jobs<S: Sink>(
-    sink: &mut S,
-    dur: &[u32],
-    dem: &[u32],
-    jobs: &[u32],
-    successors: &[u32],
-)
+pub fn put_jobs<S: Sink>(sink: &mut S, dur: &[u32], dem: &[u32], jobs: &[u32], successors: &[u32])
     requires { Ready dur.now dem.now jobs.now successors.now × Takes S.dry (job_lines (rows_from 0 dur.now dem.now (paired jobs.now successors.now))) (S.held sink.old) }
     ensures { Sent S.dry (job_lines (rows_from 0 dur.now dem.now (paired jobs.now successors.now))) (S.held sink.old) (S.held sink.new) }
 {

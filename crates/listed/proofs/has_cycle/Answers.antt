@@ -1,46 +1,28 @@
-use mathlib.Core.Path.{refl}
-use Rattle.chains.specs.Paths.{Precedes, Below}
-use Rattle.chains.specs.Listed.{paired}
+-- `listed::has_cycle` meets its contract: rounds of steps come to rest where there is no cycle, and else some chain has more steps than there are jobs.
+use Prim.Native.Nat.{ℕ, ◌≤◌, ◌<◌}
+use native.Mathlib.Omega.{arith}
+use mathlib.Core.Path.{◌≡◌, refl}
+use mathlib.Core.Bool.{Bool, true, false, not}
+use mathlib.Core.List.{List}
+use lib.ListN.{length, replicate}
+use Rattle.lists.proofs.Lists.{replicate_low}
+use Rattle.joblist.specs.Limits.{most_jobs}
+use Rattle.chains.specs.Listed.{PairInRange}
 use Rattle.chains.proofs.Listed.{paired_below}
-use Rattle.passes.proofs.Settling.{settling_start, settling_again, settling_less, settling_true, settling_false}
+use Rattle.passes.specs.Rounds.{SettleSays}
 use Rattle.passes.proofs.Steps.{says_33, no_33}
+use Rattle.listed.specs.Listed.{read_pairs, CycleSays}
 use Rattle.listed.proofs.has_cycle.Goals as goal
-use Rattle.listed.proofs.has_cycle.Goals.{After-round_listed}
 
-pub loop-init : goal.loop-init
-loop-init c = settling_start _ _ _ _ _ refl
+module _ (n : ℕ) (js ss v : List ℕ) (few : n ≤ most_jobs) (e : length ss ≡ length js) (f : (i : ℕ) → i < length js → PairInRange n js ss i) where
+  settled : (r : Bool) → SettleSays (read_pairs js ss) n (replicate most_jobs 1) false n v r → CycleSays js ss (not r)
+  settled true t = no_33 _ n few _ _ refl (paired_below n js ss e f) v t
+  settled false t = says_33 _ n few _ _ refl (paired_below n js ss e f) t
 
-pub round_listed-requires : goal.round_listed-requires
-round_listed-requires c =
-    let q = c.requires in
-    let g = c.loop.invariant in
-    record { n_le_most_jobs = (q.n_le_most_jobs.0, q.n_le_most_jobs.1, g.long); by_index = (q.by_index, g.low) }
+pub settle-requires-clause-by_index : goal.settle-requires-clause-by_index
+settle-requires-clause-by_index c = λ j. replicate_low most_jobs _ _ j (omega arith)
 
--- ---- behind a round: the start of the call, the loop, and that the pairs are of the jobs
-
-abbrev Rounded : Type 0
-Rounded = After-round_listed
-
-below : (e : Rounded) → let a = e.args in Below a.n (Precedes (paired a.jobs.now a.successors.now))
-below e = let s = e in paired_below _ s.args.jobs.now s.args.successors.now s.requires.n_le_most_jobs.1 s.requires.by_index
-
-pub returns-in-Same : goal.returns-in-Same
-returns-in-Same c =
-    let few = c.requires.n_le_most_jobs.0 in
-    let t = rw c.in-Same.is at c.round_listed.ensures.0 in
-    no_33 _ _ few _ _ refl (below (goal.at.returns-in-Same c).After-round_listed) _ (settling_true _ _ _ _ _ _ c.loop.invariant _ few t)
-
-pub returns-in-Over : goal.returns-in-Over
-returns-in-Over c =
-    let t = rw c.in-Over.is at c.round_listed.ensures.0 in
-    says_33 _ _ c.requires.n_le_most_jobs.0 _ _ refl (below (goal.at.returns-in-Over c).After-round_listed) (settling_false _ _ _ _ _ c.loop.levels c.loop.invariant t)
-
-pub loop-smaller : goal.loop-smaller
-loop-smaller c =
-    let t = rw c.in-Changed.is at c.round_listed.ensures.0 in
-    settling_less _ _ _ _ _ _ c.loop.invariant t
-
-pub loop-preserved : goal.loop-preserved
-loop-preserved c =
-    let t = rw c.in-Changed.is at c.round_listed.ensures.0 in
-    settling_again _ _ _ _ _ _ c.loop.invariant c.round_listed.ensures.1 t
+pub returns : goal.returns
+returns c =
+    let q = c.requires.n_le_most_jobs in
+    settled c.args.n c.args.jobs.now c.args.successors.now _ q.0 q.1 c.requires.by_index _ (c.settle.ensures.0 c.args.n q.0)
