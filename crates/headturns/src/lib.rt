@@ -3,11 +3,12 @@
 #![tactic(auto)]
 
 ghost use Rattle.std.specs.Prelude.{◌<◌, length};
-ghost use Rattle.narrowing.specs.Windows.{side_of};
+ghost use Rattle.windows.specs.Sides.{side_is};
 ghost use Rattle.ahead.specs.Ready.{Ready};
 ghost use Rattle.headturns.specs.Turns.{head_lists, Both, TurnOn, TurnSays};
 
 use screen::{MOST_JOBS, MOST_TIME};
+use windows::Side;
 
 // What a turn comes to: the side rests, it moved, or its move would close the window.
 #[derive(Drop)]
@@ -47,13 +48,13 @@ pub fn take_turn(
     fore: &mut [usize; MOST_JOBS],
     rear: &mut [usize; MOST_JOBS],
     job: usize,
-    side: u32,
+    side: Side,
 ) -> Turn
     requires { Both (length starts.old) dur.now (head_lists starts.old ends.old fore.old rear.old) × (job < length starts.old) }
-    ensures { TurnSays (length starts.old) dur.now (head_lists starts.old ends.old fore.old rear.old) job (side_of side) (head_lists starts.new ends.new fore.new rear.new) result }
+    ensures { TurnSays (length starts.old) dur.now (head_lists starts.old ends.old fore.old rear.old) job (side_is side) (head_lists starts.new ends.new fore.new rear.new) result }
 {
-    if side == 0 {
-        return turn_on(starts, ends, dur, fore, job);
+    match side {
+        Side::Start => turn_on(starts, ends, dur, fore, job),
+        Side::End => turn_on(ends, starts, dur, rear, job),
     }
-    turn_on(ends, starts, dur, rear, job)
 }

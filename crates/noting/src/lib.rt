@@ -6,22 +6,18 @@ ghost use Rattle.lists.specs.Tests.{both};
 ghost use Rattle.joblist.specs.Limits.{most_time};
 ghost use Rattle.journal.specs.Journal.{rewritten};
 ghost use Rattle.timetable.specs.Table.{Good};
-ghost use Rattle.narrowing.specs.Windows.{side_of};
+ghost use Rattle.windows.specs.Sides.{side_is};
 ghost use Rattle.crowding.specs.Asked.{asked};
 ghost use Rattle.noting.specs.Record.{members_of, record_of};
+
+use windows::Side;
 
 // Whether job k is one of 01's members of a record of job j at time t: another job with a demand whose sure part holds t.
 fn is_member(k: usize, j: usize, e: u32, l: u32, p: u32, r: u32, t: u32) -> bool
     requires { (e ≤ most_time) × (p ≤ most_time) × (t ≤ most_time) }
     ensures { result ≡ both (not (eqb k j)) (both (leb 1 r) (both (leb l (t + p)) (ltb t (e + p)))) }
 {
-    if k == j {
-        return false;
-    }
-    if r == 0 {
-        return false;
-    }
-    windows::sure(e, l, p, t)
+    k != j && r != 0 && windows::sure(e, l, p, t)
 }
 
 // The set of the jobs that a record of the job at time t names: 01's members, gone through by rising number, less each one without whom the demands still
@@ -40,8 +36,7 @@ fn gather(
 {
     let mut set = bits::empty();
     let mut left = crowding::load_at(est, lct, dur, dem, job, t) + dem[job];
-    let mut k = 0;
-    while k < est.len() {
+    for k in 0..est.len() {
         if is_member(k, job, est[k], lct[k], dur[k], dem[k], t) {
             let rest = left - dem[k];
             if cap < rest {
@@ -50,7 +45,6 @@ fn gather(
                 bits::put(&mut set, k);
             }
         }
-        k += 1;
     }
     set
 }
@@ -63,14 +57,14 @@ pub fn note(
     dem: &[u32],
     cap: u32,
     job: usize,
-    side: u32,
+    side: Side,
     t: u32,
     log: &mut [u32],
     k: usize,
 )
-    requires { Good (asked est.now lct.now dur.now dem.now cap) × (job < length est.now) × (side ≤ 1) × (t ≤ most_time) }
-    ensures { log.new ≡ rewritten log.old k (record_of (asked est.now lct.now dur.now dem.now cap) job (side_of side) t) }
+    requires { Good (asked est.now lct.now dur.now dem.now cap) × (job < length est.now) × (t ≤ most_time) }
+    ensures { log.new ≡ rewritten log.old k (record_of (asked est.now lct.now dur.now dem.now cap) job (side_is side) t) }
 {
     let set = gather(est, lct, dur, dem, cap, job, t);
-    logs::write(log, k, job as u32, side, t, set);
+    logs::write(log, k, job as u32, u32::from(side), t, set);
 }

@@ -8,13 +8,14 @@ use mathlib.Core.Bool.{true, false}
 use mathlib.Core.List.{List, [], ◌∷◌, ◌++◌}
 use mathlib.Core.Option.{none, some}
 use lib.ListN.{length, length-append, length-set}
-use Rattle.narrowing.specs.Windows.{Win, Side, early, late, Long, moved, closes, side_of, slack}
+use Rattle.narrowing.specs.Windows.{Win, Side, early, late, Long, moved, closes, slack}
 use Rattle.narrowing.specs.Rules.{Family, Lawful}
 use Rattle.narrowing.specs.Search.{Search, Searches, Move, move, after}
 use Rattle.narrowing.specs.Run.{settled, clash, short, run}
 use Rattle.narrowing.specs.Led.{SameLengths}
 use Rattle.narrowing.proofs.Moves.{long_after, Whole}
 use Rattle.narrowing.proofs.Runs.{never_short}
+use Rattle.windows.specs.Sides.{side_is}
 use Rattle.places.specs.declared.Place.{Place}
 use Rattle.places.specs.Places.{place, first_place, onward_of}
 use Rattle.places.proofs.Going.{Going, going_start, going_rest, going_end, going_short, going_closed, going_on}
@@ -40,10 +41,10 @@ module _ (R : Search) (room : ℕ) (W₀ : Win) where
 
     module _ (b : at.job < R.n) where
       -- the place rests
-      pub under_rest : R.best W at.job (side_of at.side) ≡ none → Under R room W₀ W (onward_of at R.n) ms count
+      pub under_rest : R.best W at.job (side_is at.side) ≡ none → Under R room W₀ W (onward_of at R.n) ms count
       under_rest h = record { long = S.long; lengths = S.lengths; counted = S.counted; going = going_rest R room W₀ W ms at S.going b h }
 
-      module _ (t : ℕ) (h : R.best W at.job (side_of at.side) ≡ some t) where
+      module _ (t : ℕ) (h : R.best W at.job (side_is at.side) ≡ some t) where
         -- a move is left, and no room
         pub under_short : room ≤ count → run R room W₀ ≡ short
         under_short r = going_short R room W₀ W ms at S.going t b h (omega (arith, S.counted))
@@ -53,12 +54,12 @@ module _ (R : Search) (room : ℕ) (W₀ : Win) where
         under_room G f law w d = elim (dec_lt count room) [ yes r ↦ r | no r ↦ absurd (never_short R G f law room W₀ w d (under_short (omega arith))) ]
 
         abbrev one : Move
-        one = move W at.job (side_of at.side) t
+        one = move W at.job (side_is at.side) t
 
         pub under_more : length (ms ++ one ∷ []) ≡ count + 1
         under_more = length-append ms (one ∷ []) ∙ omega (arith, S.counted)
 
-        module _ (r : count < room) (W' : Win) (e : W' ≡ after R W at.job (side_of at.side) t) where
+        module _ (r : count < room) (W' : Win) (e : W' ≡ after R W at.job (side_is at.side) t) where
           left : length ms < room
           left = omega (arith, S.counted)
 
@@ -69,11 +70,11 @@ module _ (R : Search) (room : ℕ) (W₀ : Win) where
           -- it does not
           pub under_on : closes R.p W' at.job ≡ false → Under R room W₀ W' (place at.job at.side true) (ms ++ one ∷ []) (count + 1)
           under_on z =
-              let q : closes R.p (after R W at.job (side_of at.side) t) at.job ≡ false = rw e at z in
+              let q : closes R.p (after R W at.job (side_is at.side) t) at.job ≡ false = rw e at z in
               subst (λ (U : Win). Under R room W₀ U (place at.job at.side true) (ms ++ one ∷ []) (count + 1)) (sym e)
               record {
-                long = long_after R.n R.p W at.job (side_of at.side) (R.bound (side_of at.side) t) S.long q;
-                lengths = moved_lengths W₀ W at.job (side_of at.side) (R.bound (side_of at.side) t) S.lengths;
+                long = long_after R.n R.p W at.job (side_is at.side) (R.bound (side_is at.side) t) S.long q;
+                lengths = moved_lengths W₀ W at.job (side_is at.side) (R.bound (side_is at.side) t) S.lengths;
                 counted = under_more;
                 going = going_on R room W₀ W ms at S.going t b h left q;
               }

@@ -4,11 +4,13 @@
 ghost use Rattle.std.specs.Prelude.{◌≡◌, ◌<◌};
 ghost use Rattle.places.specs.Places.{first_place, onward_of};
 
+use windows::Side;
+
 // A place of a round: a job, its side, and whether the round has moved a bound so far.
 #[derive(Clone, Copy)]
 pub struct Place {
     pub job: usize,
-    pub side: u32,
+    pub side: Side,
     pub changed: bool,
 }
 
@@ -19,7 +21,7 @@ impl Place {
     {
         Place {
             job: 0,
-            side: 0,
+            side: Side::Start,
             changed: false,
         }
     }
@@ -30,12 +32,15 @@ impl Place {
         requires { self.job < n }
         ensures { result ≡ onward_of self n }
     {
-        if self.side == 0 {
-            Place { side: 1, ..self }
+        if self.side == Side::Start {
+            Place {
+                side: Side::End,
+                ..self
+            }
         } else if self.job + 1 < n {
             Place {
                 job: self.job + 1,
-                side: 0,
+                side: Side::Start,
                 ..self
             }
         } else if self.changed {
@@ -43,7 +48,7 @@ impl Place {
         } else {
             Place {
                 job: n,
-                side: 0,
+                side: Side::Start,
                 ..self
             }
         }

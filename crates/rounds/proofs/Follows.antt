@@ -6,7 +6,7 @@ use mathlib.Core.List.{List}
 use lib.ListN.{length}
 use lib.Seq.{set-set, set-get_or, get_or-set_same}
 use Rattle.lists.specs.Lists.{◌!◌}
-use Rattle.narrowing.specs.Windows.{Win, win, Side, early, late, moved, side_of, Respects}
+use Rattle.narrowing.specs.Windows.{Win, win, Side, early, late, moved, Respects}
 use Rattle.joblist.specs.Limits.{jobs, most_time}
 use Rattle.timetable.specs.Time.{Applies, bound}
 use Rattle.timetable.specs.Table.{Call, call, jobs_of, Workable}
@@ -17,7 +17,8 @@ use Rattle.timetable.proofs.Moves.{best_applies}
 use Rattle.crowding.proofs.Steps.{good_cap}
 use Rattle.profile.specs.declared.kept.Outline.{Outline}
 use Rattle.loads.specs.Loads.{Loaded}
-use Rattle.turns.specs.declared.Place.{Place}
+use Rattle.windows.specs.Sides.{side_is}
+use Rattle.places.specs.declared.Place.{Place}
 use Rattle.turns.specs.declared.Turn.{Turn}
 use Rattle.turns.specs.Moves.{Moves, TurnSays}
 
@@ -42,28 +43,28 @@ bound_most W p r cap log w j late = end_most w.good j
 
 module _ (c : Call) (at : Place) (count t : ℕ) (W' : Win) (log' : List ℕ) (m : Moves c at count t W' log') (w : Workable c) (b : at.job < jobs c.win) where
   abbrev was : ℕ
-  was = bound_at c.win at.job (side_of at.side)
+  was = bound_at c.win at.job (side_is at.side)
 
-  kept_tight : Respects W' at.job (side_of at.side) was
+  kept_tight : Respects W' at.job (side_is at.side) was
   kept_tight =
-      subst (λ (U : Win). Respects U at.job (side_of at.side) was) (sym m.windows)
-      (tightens c.win c.p c.r c.cap c.log w at.job (side_of at.side) t b (best_applies c w at.job (side_of at.side) b t m.found))
+      subst (λ (U : Win). Respects U at.job (side_is at.side) was) (sym m.windows)
+      (tightens c.win c.p c.r c.cap c.log w at.job (side_is at.side) t b (best_applies c w at.job (side_is at.side) b t m.found))
 
   kept_small : was ≤ most_time
-  kept_small = bound_most c.win c.p c.r c.cap c.log w at.job (side_of at.side)
+  kept_small = bound_most c.win c.p c.r c.cap c.log w at.job (side_is at.side)
 
   kept_before : {ts ld : List ℕ} {k : Outline} → Loaded c.win c.p c.r ts ld k
-      → Loaded (moved W' at.job (side_of at.side) was) c.p c.r ts ld k
+      → Loaded (moved W' at.job (side_is at.side) was) c.p c.r ts ld k
   kept_before {ts} {ld} {k} L =
       subst (λ (U : Win). Loaded U c.p c.r ts ld k)
-      (sym (ap (λ (U : Win). moved U at.job (side_of at.side) was) m.windows ∙ put_back c.win at.job (side_of at.side) (bound (side_of at.side) t))) L
+      (sym (ap (λ (U : Win). moved U at.job (side_is at.side) was) m.windows ∙ put_back c.win at.job (side_is at.side) (bound (side_is at.side) t))) L
 
 -- what following it asks
 pub follow_ready : (c : Call) (at : Place) (count old : ℕ) (W' : Win) (log' : List ℕ) → TurnSays c at count W' log' (Turn.Moved old) → Workable c
     → at.job < jobs c.win → Workable (call W' c.p c.r c.cap log')
     → {ts ld : List ℕ} {k : Outline} → Loaded c.win c.p c.r ts ld k
-    → Workable (asked W'.e W'.l c.p c.r 0) × (at.job < length c.p) × Respects W' at.job (side_of at.side) old × (old ≤ most_time)
-    × Loaded (moved W' at.job (side_of at.side) old) c.p c.r ts ld k
+    → Workable (asked W'.e W'.l c.p c.r 0) × (at.job < length c.p) × Respects W' at.job (side_is at.side) old × (old ≤ most_time)
+    × Loaded (moved W' at.job (side_is at.side) old) c.p c.r ts ld k
 follow_ready c at count old W' log' h w b v L = (
   workable_free v,
   omega (arith, durations_sized w.good),

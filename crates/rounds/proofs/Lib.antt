@@ -1,4 +1,3 @@
-pub mod Going
 pub mod Written
 pub mod Reached
 pub mod Follows

@@ -6,7 +6,7 @@ use mathlib.Core.Bool.{Bool, true, false}
 use mathlib.Core.List.{List, [], ◌∷◌, ◌++◌, map}
 use mathlib.Core.Option.{Option, none, some}
 use lib.ListN.{length, length-append}
-use Rattle.narrowing.specs.Windows.{Win, moved, closes, side_of}
+use Rattle.narrowing.specs.Windows.{Win, moved, closes}
 use Rattle.narrowing.specs.Search.{Move, move}
 use Rattle.narrowing.specs.Run.{Out, settled, clash, short}
 use Rattle.answers.specs.declared.Answer.{Answer}
@@ -18,12 +18,13 @@ use Rattle.timetable.specs.Search.{best, search, lean_member, entry}
 use Rattle.timetable.specs.Table.{Call, call, jobs_of, Good, Workable}
 use Rattle.timetable.proofs.Good.{ends_sized}
 use Rattle.timetable.proofs.Moves.{moved_size, best_applies, workable_after}
-use Rattle.turns.specs.declared.Place.{Place}
+use Rattle.windows.specs.Sides.{side_is}
+use Rattle.places.specs.declared.Place.{Place}
 use Rattle.turns.specs.declared.Turn.{Turn}
-use Rattle.turns.specs.Places.{place, first_place, onward_of}
+use Rattle.places.specs.Places.{place, first_place, onward_of}
 use Rattle.turns.specs.Moves.{Moves, TurnSays}
 use Rattle.rounds.specs.Work.{EndsAs, outcome, Works}
-use Rattle.rounds.proofs.Going.{Going, going_start, going_rest, going_end, going_short, going_closed, going_on}
+use Rattle.places.proofs.Going.{Going, going_start, going_rest, going_end, going_short, going_closed, going_on}
 use Rattle.timetable.proofs.Entries.{entry_length}
 use Rattle.rounds.proofs.Written.{entry_more}
 
@@ -66,8 +67,8 @@ module _ (c : Call) (W : Win) (log : List ℕ) (at : Place) (count : ℕ) (S : R
   same_room : room_of log ≡ room_of c.log
   same_room = room_length c.log log S.log_size
 
-  best_same : (x : Option ℕ) → best (jobs_of (on c W log)) W at.job (side_of at.side) ≡ x → best (jobs_of c) W at.job (side_of at.side) ≡ x
-  best_same x h = subst (λ (J : Jobs). best J W at.job (side_of at.side) ≡ x) same_jobs h
+  best_same : (x : Option ℕ) → best (jobs_of (on c W log)) W at.job (side_is at.side) ≡ x → best (jobs_of c) W at.job (side_is at.side) ≡ x
+  best_same x h = subst (λ (J : Jobs). best J W at.job (side_is at.side) ≡ x) same_jobs h
 
   -- no job is left
   pub reached_end : jobs c.win ≤ at.job → Works c (Answer.Settled count) W log
@@ -101,7 +102,7 @@ module _ (c : Call) (W : Win) (log : List ℕ) (at : Place) (count : ℕ) (S : R
 
     module _ (t : ℕ) (m : Moves (on c W log) at count t W' log') where
       abbrev one : Move
-      one = move W at.job (side_of at.side) t
+      one = move W at.job (side_is at.side) t
 
       pub moves_room : count < room_of c.log
       moves_room = omega (arith, same_room, m.room)
@@ -120,10 +121,10 @@ module _ (c : Call) (W : Win) (log : List ℕ) (at : Place) (count : ℕ) (S : R
       counted_more : length (S.ms ++ one ∷ []) ≡ count + 1
       counted_more = length-append S.ms (one ∷ []) ∙ omega (arith, S.counted)
 
-      found_same : best (jobs_of c) W at.job (side_of at.side) ≡ some t
+      found_same : best (jobs_of c) W at.job (side_is at.side) ≡ some t
       found_same = best_same (some t) m.found
 
-      closes_same : (z : Bool) → closes c.p W' at.job ≡ z → closes c.p (moved W at.job (side_of at.side) (bound (side_of at.side) t)) at.job ≡ z
+      closes_same : (z : Bool) → closes c.p W' at.job ≡ z → closes c.p (moved W at.job (side_is at.side) (bound (side_is at.side) t)) at.job ≡ z
       closes_same z e = subst (λ (U : Win). closes c.p U at.job ≡ z) m.windows e
 
       -- the move closes the window
@@ -137,11 +138,11 @@ module _ (c : Call) (W : Win) (log : List ℕ) (at : Place) (count : ℕ) (S : R
       -- it does not
       moved_at : closes c.p W' at.job ≡ false → Reached c W' log' (place at.job at.side true) (count + 1)
       moved_at e =
-          let a = best_applies (on c W log) S.workable at.job (side_of at.side) (omega (arith, S.size)) t m.found in
+          let a = best_applies (on c W log) S.workable at.job (side_is at.side) (omega (arith, S.size)) t m.found in
           record {
             workable = subst (λ (U : Win). Workable (on c U log')) (sym m.windows)
-                (workable_after W c.p c.r c.cap log S.workable at.job (side_of at.side) t (omega (arith, S.size)) a (closes_same false e) log');
-            size = ap (λ (U : Win). jobs U) m.windows ∙ moved_size W at.job (side_of at.side) (bound (side_of at.side) t) ∙ S.size;
+                (workable_after W c.p c.r c.cap log S.workable at.job (side_is at.side) t (omega (arith, S.size)) a (closes_same false e) log');
+            size = ap (λ (U : Win). jobs U) m.windows ∙ moved_size W at.job (side_is at.side) (bound (side_is at.side) t) ∙ S.size;
             log_size = ap length m.record_is ∙ rewritten_length log count (entry (jobs_of (on c W log)) one) m.room (entry_length lean_member (jobs_of (on c W log)) one) ∙ S.log_size;
             ms = S.ms ++ one ∷ [];
             counted = counted_more;

@@ -5,11 +5,9 @@ ghost use Rattle.narrowing.specs.Windows.{win};
 ghost use Rattle.timetable.specs.Table.{call, Workable};
 ghost use Rattle.rounds.specs.Work.{Works};
 
-use answers::Answer;
-use turns::{Place, Turn};
-
-// The refusal where the work needs more records than the log has room for.
-const SHORT: u32 = 5;
+use answers::{Answer, Refusal};
+use places::Place;
+use turns::Turn;
 
 // The points that the kept load has room for: about twice as many as the windows of any list need. A move adds two at most, and none is taken away until
 // the load is built anew.
@@ -32,26 +30,22 @@ pub fn work(
     let mut ts = [0u32; POINTS];
     let mut ld = [0u32; POINTS];
     let mut kept = loads::build(est, lct, dur, dem, &mut ts, &mut ld);
-    let mut at = Place {
-        job: 0,
-        side: 0,
-        changed: false,
-    };
+    let mut at = Place::first();
     let mut count = 0;
     while at.job < n {
         let turn = turns::take_turn(est, lct, dur, dem, cap, log, at, count, &ts, &ld, kept);
         match turn {
             Turn::Rests => {
-                at = turns::onward(at, n);
+                at = at.onward(n);
             }
             Turn::Moved(old) => {
-                let job = at.job;
-                let side = at.side;
-                kept = loads::follow(est, lct, dur, dem, job, side, old, &mut ts, &mut ld, kept);
+                let side = u32::from(at.side);
+                kept = loads::follow(
+                    est, lct, dur, dem, at.job, side, old, &mut ts, &mut ld, kept,
+                );
                 at = Place {
-                    job: job,
-                    side: side,
                     changed: true,
+                    ..at
                 };
                 count += 1;
             }
@@ -59,7 +53,7 @@ pub fn work(
                 return Answer::Clash(count + 1, at.job);
             }
             Turn::Full => {
-                return Answer::Refused(SHORT);
+                return Answer::Refused(u32::from(Refusal::Room));
             }
         }
     }

@@ -1,18 +1,18 @@
--- What the search answers, by the number of the side: crowded is busy by the load of all jobs, and there is one greatest and one least crowded time.
+-- What the search answers, by the side: crowded is busy by the load of all jobs, and there is one greatest and one least crowded time.
 use Prim.Native.Nat.{ℕ, ◌+◌, ◌-◌, ◌≤◌, ◌<◌}
 use native.Mathlib.Omega.{arith}
 use mathlib.Core.Path.{◌≡◌, refl, ap}
 use mathlib.Core.Bool.{Bool, true, false, not}
 use mathlib.Core.List.{List}
 use mathlib.Core.Option.{Option, none, some}
+use Rattle.std.specs.Prelude.{Some, None}
 use lib.ListN.{length}
 use Rattle.lists.specs.Lists.{◌!◌}
 use Rattle.lists.specs.Tests.{between, only}
 use Rattle.lists.specs.Extremes.{LastWith, FirstWith, Greatest, Least}
 use Rattle.lists.proofs.Tests.{between_yes}
 use Rattle.lists.proofs.Extremes.{greatest-one, least-one, last_as, first_as, last_none, last_some, first-none, first_some}
-use Rattle.narrowing.specs.Windows.{win, Side, early, late, side_of}
-use Rattle.narrowing.proofs.Moves.{side_early, side_late}
+use Rattle.narrowing.specs.Windows.{win, Side, early, late}
 use Rattle.timetable.specs.Time.{Jobs, load, Crowded}
 use Rattle.timetable.specs.Search.{best}
 use Rattle.timetable.specs.Table.{jobs_of, Workable}
@@ -22,16 +22,16 @@ use Rattle.timetable.proofs.Good.{durations_sized, window_long}
 use Rattle.profile.specs.declared.kept.Outline.{Outline}
 use Rattle.loads.specs.Loads.{full_load, Loaded}
 use Rattle.loads.proofs.Full.{load_full}
-use Rattle.searches.specs.declared.Found.{Found}
-use Rattle.searches.specs.Found.{as_found, next_time}
+use Rattle.windows.specs.Found.{as_option}
+use Rattle.searches.specs.Found.{next_time}
 use Rattle.searches.specs.Busy.{Busy, DemandIn, LastBusy, FirstBusy}
 
 -- an answer, taken back
-pub found_some : (x : Option ℕ) (t : ℕ) → as_found x ≡ Found.At t → x ≡ some t
+pub found_some : (x : Option ℕ) (t : ℕ) → as_option x ≡ Some t → x ≡ some t
 found_some none t h = cc
 found_some (some u) t h = cc
 
-pub found_none : (x : Option ℕ) → as_found x ≡ Found.Nothing → x ≡ none
+pub found_none : (x : Option ℕ) → as_option x ≡ None → x ≡ none
 found_none none h = refl
 found_none (some u) h = cc
 
@@ -50,17 +50,14 @@ module _ (e l p r : List ℕ) (cap j : ℕ) where
   Is late x = Least (Crowded J (win e l) j) s (p ! j) x
 
   -- what has been found is what the definition finds
-  answers : (side : ℕ) (v : Side) → side_of side ≡ v → (x : Option ℕ) → Is v x → as_found x ≡ as_found (next_time (asked e l p r cap) j (side_of side))
-  answers side early q x h = rw q (ap as_found (greatest-one (Crowded J (win e l) j) (e ! j) (p ! j) x (best J (win e l) j early) h (greatest_crowded J (win e l) j)))
-  answers side late q x h = rw q (ap as_found (least-one (Crowded J (win e l) j) s (p ! j) x (best J (win e l) j late) h (least_crowded J (win e l) j)))
+  answers : (v : Side) (x : Option ℕ) → Is v x → as_option x ≡ as_option (next_time (asked e l p r cap) j v)
+  answers early x h = ap as_option (greatest-one (Crowded J (win e l) j) (e ! j) (p ! j) x (best J (win e l) j early) h (greatest_crowded J (win e l) j))
+  answers late x h = ap as_option (least-one (Crowded J (win e l) j) s (p ! j) x (best J (win e l) j late) h (least_crowded J (win e l) j))
 
   -- nothing is crowded for the job
-  pub rests : (side : ℕ) → ((t : ℕ) → Crowded J (win e l) j t → ⊥) → Found.Nothing ≡ as_found (next_time (asked e l p r cap) j (side_of side))
-  rests side h = go (side_of side) refl
-    where
-      go : (v : Side) → side_of side ≡ v → Found.Nothing ≡ as_found (next_time (asked e l p r cap) j (side_of side))
-      go early q = answers side early q none (λ t i. h t i.has)
-      go late q = answers side late q none (λ t i. h t i.has)
+  pub rests : (v : Side) → ((t : ℕ) → Crowded J (win e l) j t → ⊥) → None ≡ as_option (next_time (asked e l p r cap) j v)
+  rests early h = answers early none (λ t i. h t i.has)
+  rests late h = answers late none (λ t i. h t i.has)
 
   module _ (w : Workable (asked e l p r cap)) (d : j < length p) where
     listed : j < length e
@@ -87,26 +84,26 @@ module _ (e l p r : List ℕ) (cap j : ℕ) where
       busies : (t : ℕ) → Crowded J (win e l) j t → Busy (full_load p r (win e l)) cap (r ! j) s f t
       busies t c = omega (arith, c.over, same t)
 
-      module _ (side : ℕ) {ts ld : List ℕ} {k : Outline} (L : Loaded (win e l) p r ts ld k) (x : ℕ) where
-        module _ (q : side ≡ 0) (b : LastBusy ts ld k cap (r ! j) s f (e ! j) f x) where
+      module _ {ts ld : List ℕ} {k : Outline} (L : Loaded (win e l) p r ts ld k) (x : ℕ) where
+        module _ (b : LastBusy ts ld k cap (r ! j) s f (e ! j) f x) where
           last : LastWith (Crowded J (win e l) j) (e ! j) f x
           last = last_as crowds busies (b (full_load p r (win e l)) L.keeps demand_in)
 
-          pub early_rests : x ≤ e ! j → Found.Nothing ≡ as_found (next_time (asked e l p r cap) j (side_of side))
-          early_rests h = answers side early (side_early side q) none (last_none last h)
+          pub early_rests : x ≤ e ! j → None ≡ as_option (next_time (asked e l p r cap) j early)
+          early_rests h = answers early none (last_none last h)
 
-          pub early_moves : e ! j < x → Found.At (x - 1) ≡ as_found (next_time (asked e l p r cap) j (side_of side))
-          early_moves h = answers side early (side_early side q) (some (x - 1)) (last_some last (x - 1) (omega arith) (omega arith))
+          pub early_moves : e ! j < x → Some (x - 1) ≡ as_option (next_time (asked e l p r cap) j early)
+          early_moves h = answers early (some (x - 1)) (last_some last (x - 1) (omega arith) (omega arith))
 
-        module _ (q : side ≡ 0 → ⊥) (b : FirstBusy ts ld k cap (r ! j) s f s (l ! j) x) where
+        module _ (b : FirstBusy ts ld k cap (r ! j) s f s (l ! j) x) where
           stretch : s + p ! j ≡ l ! j
           stretch = omega (arith, window_long w j d)
 
           first : FirstWith (Crowded J (win e l) j) s (s + p ! j) x
           first = rw stretch (first_as crowds busies (b (full_load p r (win e l)) L.keeps demand_in))
 
-          pub late_rests : l ! j ≤ x → Found.Nothing ≡ as_found (next_time (asked e l p r cap) j (side_of side))
-          late_rests h = answers side late (side_late side q) none (first-none first (omega (arith, stretch)))
+          pub late_rests : l ! j ≤ x → None ≡ as_option (next_time (asked e l p r cap) j late)
+          late_rests h = answers late none (first-none first (omega (arith, stretch)))
 
-          pub late_moves : x < l ! j → Found.At x ≡ as_found (next_time (asked e l p r cap) j (side_of side))
-          late_moves h = answers side late (side_late side q) (some x) (first_some first (omega (arith, stretch)))
+          pub late_moves : x < l ! j → Some x ≡ as_option (next_time (asked e l p r cap) j late)
+          late_moves h = answers late (some x) (first_some first (omega (arith, stretch)))

@@ -7,7 +7,7 @@ use mathlib.Core.Bool.{true, false}
 use mathlib.Core.List.{List}
 use Rattle.lists.specs.Tests.{between}
 use Rattle.lists.proofs.Tests.{between_yes, between_before, between_behind}
-use Rattle.minmax.specs.MinMax.{IsLesser, IsGreater}
+use Rattle.std.specs.Prelude.{min, max}
 use Rattle.profile.specs.declared.kept.Outline.{Outline}
 use Rattle.peaks.specs.Peaks.{LastOver, FirstOver}
 use Rattle.searches.specs.Busy.{Busy, DemandIn, LastBusy, FirstBusy}
@@ -38,12 +38,6 @@ module _ (g : ℕ → ℕ) (cap r s f : ℕ) where
             ]
       ]
 
-pub mid_from : (e s f mid : ℕ) → e ≤ s → e ≤ f → IsLesser s f mid → e ≤ mid
-mid_from e s f mid es ef m = elim (dec_lt s f) [ yes d ↦ omega (arith, m.2 d) | no d ↦ omega (arith, m.3 (omega arith)) ]
-
-pub mid_to : (s f l mid : ℕ) → s ≤ l → f ≤ l → IsGreater s f mid → mid ≤ l
-mid_to s f l mid sl fl m = elim (dec_lt s f) [ yes d ↦ omega (arith, m.2 d) | no d ↦ omega (arith, m.3 (omega arith)) ]
-
 module _ (ts ld : List ℕ) (k : Outline) (cap r s f : ℕ) where
   -- ---- side 0: beside up to mid, in from there up to f
 
@@ -51,15 +45,15 @@ module _ (ts ld : List ℕ) (k : Outline) (cap r s f : ℕ) where
   last_all e h i g K C =
       record { from = i; to = omega arith; has = λ t q a. busy_always g cap r s f C h t; none_behind = λ t a b. absurd (omega arith) }
 
-  module _ (e mid : ℕ) (es : e ≤ s) (ef : e ≤ f) (m : IsLesser s f mid) where
+  module _ (e mid : ℕ) (es : e ≤ s) (ef : e ≤ f) (m : mid ≡ min s f) where
     in_from : (t : ℕ) → mid ≤ t → t < f → between s f t ≡ true
-    in_from t a b = elim (dec_lt s f) [ yes d ↦ between_yes s f t (omega (arith, m.2 d)) b | no d ↦ absurd (omega (arith, m.3 (omega arith))) ]
+    in_from t a b = between_yes s f t (omega arith) b
 
     pub last_own : (x : ℕ) → LastOver ts ld k cap mid f x → mid < x → LastBusy ts ld k cap r s f e f x
     last_own x L h g K C =
         let S = L g K in
         record {
-          from = omega (arith, mid_from e s f mid es ef m);
+          from = omega arith;
           to = S.to;
           has = λ t q a. busy_in g cap r s f t (in_from t (omega arith) (omega (arith, S.to))) (S.has t q (omega arith));
           none_behind = λ t a b o. S.none_behind t a b (in_busy g cap r s f t (in_from t (omega arith) b) o);
@@ -86,16 +80,16 @@ module _ (ts ld : List ℕ) (k : Outline) (cap r s f : ℕ) where
   first_all l h i g K C =
       record { from = omega arith; to = i; has = λ d. busy_always g cap r s f C h s; none_before = λ t a b. absurd (omega arith) }
 
-  module _ (l mid : ℕ) (sl : s ≤ l) (fl : f ≤ l) (m : IsGreater s f mid) where
+  module _ (l mid : ℕ) (sl : s ≤ l) (fl : f ≤ l) (m : mid ≡ max s f) where
     in_to : (t : ℕ) → s ≤ t → t < mid → between s f t ≡ true
-    in_to t a b = elim (dec_lt s f) [ yes d ↦ between_yes s f t a (omega (arith, m.2 d)) | no d ↦ absurd (omega (arith, m.3 (omega arith))) ]
+    in_to t a b = between_yes s f t a (omega arith)
 
     pub first_own : (x : ℕ) → FirstOver ts ld k cap s mid x → x < mid → FirstBusy ts ld k cap r s f s l x
     first_own x L h g K C =
         let S = L g K in
         record {
           from = S.from;
-          to = omega (arith, mid_to s f l mid sl fl m);
+          to = omega arith;
           has = λ d. busy_in g cap r s f x (in_to x S.from h) (S.has h);
           none_before = λ t a b o. S.none_before t a b (in_busy g cap r s f t (in_to t a (omega arith)) o);
         }

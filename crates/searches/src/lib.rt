@@ -2,22 +2,18 @@
 #![tactic(auto)]
 
 ghost use Rattle.std.specs.Prelude.{◌≡◌, ◌<◌, ◌≤◌, length};
-ghost use Rattle.narrowing.specs.Windows.{win, side_of};
+ghost use Rattle.narrowing.specs.Windows.{win};
 ghost use Rattle.profile.specs.Steps.{behind_all, Points};
 ghost use Rattle.crowding.specs.Asked.{asked};
 ghost use Rattle.timetable.specs.Table.{Workable};
 ghost use Rattle.loads.specs.Loads.{Loaded};
-ghost use Rattle.searches.specs.Found.{as_found, next_time};
+ghost use Rattle.windows.specs.Sides.{side_is};
+ghost use Rattle.windows.specs.Found.{as_option};
+ghost use Rattle.searches.specs.Found.{next_time};
 ghost use Rattle.searches.specs.Busy.{LastBusy, FirstBusy};
 
 use profile::Outline;
-
-// The time found, if any.
-#[derive(Drop)]
-pub enum Found {
-    At(u32),
-    Nothing,
-}
+use windows::Side;
 
 // Side 0: one more than the last time from e up to f that is crowded for a job of demand r, and e where there is none. Its sure part is from s up to f; there
 // the load has its demand in it already.
@@ -29,12 +25,13 @@ fn early(ts: &[u32], ld: &[u32], kept: Outline, cap: u32, r: u32, e: u32, s: u32
         return f;
     }
     let rest = cap - r;
-    let mid = minmax::lesser(s, f);
+    let mid = s.min(f);
     let x = peaks::last_over(ts, ld, kept, mid, f, cap);
     if mid < x {
-        return x;
+        x
+    } else {
+        peaks::last_over(ts, ld, kept, e, mid, rest)
     }
-    peaks::last_over(ts, ld, kept, e, mid, rest)
 }
 
 // Side 1: the first time from s up to l that is crowded for a job of demand r, and l where there is none. Its sure part is from s up to f.
@@ -46,12 +43,13 @@ fn late(ts: &[u32], ld: &[u32], kept: Outline, cap: u32, r: u32, s: u32, f: u32,
         return s;
     }
     let rest = cap - r;
-    let mid = minmax::greater(s, f);
+    let mid = s.max(f);
     let x = peaks::first_over(ts, ld, kept, s, mid, cap);
     if x < mid {
-        return x;
+        x
+    } else {
+        peaks::first_over(ts, ld, kept, mid, l, rest)
     }
-    peaks::first_over(ts, ld, kept, mid, l, rest)
 }
 
 // The time at which a rule moves the job's side next: on side 0 the greatest crowded time of e .. e + p - 1, on side 1 the least of l - p .. l - 1.
@@ -62,35 +60,30 @@ pub fn next_time(
     dem: &[u32],
     cap: u32,
     job: usize,
-    side: u32,
+    side: Side,
     ts: &[u32],
     ld: &[u32],
     kept: Outline,
-) -> Found
+) -> Option<u32>
     requires { Workable (asked est.now lct.now dur.now dem.now cap) × (job < length dur.now) × Loaded (win est.now lct.now) dur.now dem.now ts.now ld.now kept }
-    ensures { result ≡ as_found (next_time (asked est.now lct.now dur.now dem.now cap) job (side_of side)) }
+    ensures { result ≡ as_option (next_time (asked est.now lct.now dur.now dem.now cap) job (side_is side)) }
 {
     let r = dem[job];
     let p = dur[job];
     // for such a job no time is crowded
-    if r == 0 {
-        return Found::Nothing;
-    }
-    if p == 0 {
-        return Found::Nothing;
+    if r == 0 || p == 0 {
+        return None;
     }
     let e = est[job];
     let l = lct[job];
-    if side == 0 {
-        let x = early(ts, ld, kept, cap, r, e, l - p, e + p);
-        if e < x {
-            return Found::At(x - 1);
+    match side {
+        Side::Start => {
+            let x = early(ts, ld, kept, cap, r, e, l - p, e + p);
+            if e < x { Some(x - 1) } else { None }
         }
-        return Found::Nothing;
+        Side::End => {
+            let y = late(ts, ld, kept, cap, r, l - p, e + p, l);
+            if y < l { Some(y) } else { None }
+        }
     }
-    let y = late(ts, ld, kept, cap, r, l - p, e + p, l);
-    if y < l {
-        return Found::At(y);
-    }
-    Found::Nothing
 }

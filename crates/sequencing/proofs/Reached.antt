@@ -7,7 +7,7 @@ use mathlib.Core.Bool.{true}
 use mathlib.Core.List.{List, [], ◌∷◌, ◌++◌}
 use mathlib.Core.Option.{some}
 use Rattle.lists.specs.Lists.{◌!◌}
-use Rattle.narrowing.specs.Windows.{Win, Long, side_of, slack}
+use Rattle.narrowing.specs.Windows.{Win, Long, slack}
 use Rattle.narrowing.specs.Search.{Search, Move, move}
 use Rattle.narrowing.specs.Run.{Out, settled, clash}
 use Rattle.narrowing.proofs.Moves.{Whole}
@@ -19,6 +19,7 @@ use Rattle.heads.specs.Search.{detect, search}
 use Rattle.heads.specs.Promise.{head_ask}
 use Rattle.heads.proofs.Law.{detect_lawful}
 use Rattle.heads.proofs.Search.{detect_searches}
+use Rattle.windows.specs.Sides.{side_is}
 use Rattle.places.specs.declared.Place.{Place}
 use Rattle.places.specs.Places.{place, first_place, onward_of}
 use Rattle.places.proofs.Under.{Under, under_start, under_end, under_rest, under_room, under_more, under_closed, under_on}
@@ -71,12 +72,12 @@ module _ (W₀ : Win) (p : List ℕ) (A : HeadLists) (at : Place) (count : ℕ) 
 
   module _ (b : at.job < jobs W₀) (B : HeadLists) where
     -- the place rests
-    pub reached_rest : TurnSays (jobs W₀) p A at.job (side_of at.side) B Turn.Rests → Reached W₀ p B (onward_of at (jobs W₀)) count
+    pub reached_rest : TurnSays (jobs W₀) p A at.job (side_is at.side) B Turn.Rests → Reached W₀ p B (onward_of at (jobs W₀)) count
     reached_rest h =
         rw h.1
         record { whole = S.whole; both = S.both; ms = S.ms; under = under_rest R (quota W₀ p) W₀ (windows A) at S.ms count S.under b h.0 }
 
-    module _ (c : ℕ) (d : detect (jobs W₀) p (windows A) at.job (side_of at.side) ≡ some c) where
+    module _ (c : ℕ) (d : detect (jobs W₀) p (windows A) at.job (side_is at.side) ≡ some c) where
       -- a move may still come
       pub move_left : count < quota W₀ p
       move_left =
@@ -84,18 +85,18 @@ module _ (W₀ : Win) (p : List ℕ) (A : HeadLists) (at : Place) (count : ℕ) 
           S.whole (omega arith)
 
     -- the move closes the window
-    pub reached_closed : (X : Win) → TurnSays (jobs W₀) p A at.job (side_of at.side) B Turn.Closed → Works W₀ p (Answer.Clash (count + 1) at.job) X
+    pub reached_closed : (X : Win) → TurnSays (jobs W₀) p A at.job (side_is at.side) B Turn.Closed → Works W₀ p (Answer.Clash (count + 1) at.job) X
     reached_closed X (c, d, z, e) =
-        ends_so W₀ p (clash at.job (S.ms ++ move (windows A) at.job (side_of at.side) c ∷ [])) (Answer.Clash (count + 1) at.job) X
-        (under_closed R (quota W₀ p) W₀ (windows A) at S.ms count S.under b c d (move_left c d) (then (jobs W₀) p A at.job (side_of at.side) c) refl z)
+        ends_so W₀ p (clash at.job (S.ms ++ move (windows A) at.job (side_is at.side) c ∷ [])) (Answer.Clash (count + 1) at.job) X
+        (under_closed R (quota W₀ p) W₀ (windows A) at S.ms count S.under b c d (move_left c d) (then (jobs W₀) p A at.job (side_is at.side) c) refl z)
         (ap (λ (k : ℕ). Answer.Clash k at.job) (sym (under_more R (quota W₀ p) W₀ (windows A) at S.ms count S.under b c d)))
 
     -- it does not
-    pub reached_moved : TurnSays (jobs W₀) p A at.job (side_of at.side) B Turn.Moved → Reached W₀ p B (place at.job at.side true) (count + 1)
+    pub reached_moved : TurnSays (jobs W₀) p A at.job (side_is at.side) B Turn.Moved → Reached W₀ p B (place at.job at.side true) (count + 1)
     reached_moved (c, d, w, z, x) =
         record {
           whole = S.whole;
           both = x;
-          ms = S.ms ++ move (windows A) at.job (side_of at.side) c ∷ [];
+          ms = S.ms ++ move (windows A) at.job (side_is at.side) c ∷ [];
           under = under_on R (quota W₀ p) W₀ (windows A) at S.ms count S.under b c d (move_left c d) (windows B) w z;
         }

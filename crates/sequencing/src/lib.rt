@@ -28,30 +28,23 @@ fn take_turns(
     ensures both { Both (length starts.old) dur.now (head_lists starts.new ends.new fore.new rear.new) }
 {
     let n = starts.len();
-    let mut at = Place {
-        job: 0,
-        side: 0,
-        changed: false,
-    };
+    let mut at = Place::first();
     let mut count = 0;
     while at.job < n {
-        let job = at.job;
-        let side = at.side;
-        let turn = headturns::take_turn(starts, ends, dur, fore, rear, job, side);
+        let turn = headturns::take_turn(starts, ends, dur, fore, rear, at.job, at.side);
         match turn {
             Turn::Rests => {
                 at = at.onward(n);
             }
             Turn::Moved => {
                 at = Place {
-                    job: job,
-                    side: side,
                     changed: true,
+                    ..at
                 };
                 count += 1;
             }
             Turn::Closed => {
-                return Answer::Clash(count + 1, job);
+                return Answer::Clash(count + 1, at.job);
             }
         }
     }

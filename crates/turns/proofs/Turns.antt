@@ -4,36 +4,38 @@ use native.Mathlib.Omega.{arith}
 use mathlib.Core.Path.{◌≡◌, sym, ◌∙◌}
 use mathlib.Core.List.{List}
 use mathlib.Core.Option.{some}
-use Rattle.narrowing.specs.Windows.{Win, win, moved, side_of}
+use Rattle.std.specs.Prelude.{Option, Some}
+use Rattle.narrowing.specs.Windows.{Win, win, moved}
 use Rattle.joblist.specs.Limits.{most_time, jobs}
 use Rattle.journal.specs.Journal.{room_of, rewritten}
 use Rattle.timetable.specs.Time.{bound}
 use Rattle.timetable.specs.Table.{Call, call, Workable}
-use Rattle.searches.specs.declared.Found.{Found}
-use Rattle.searches.specs.Found.{as_found, next_time}
+use Rattle.windows.specs.Sides.{side_is}
+use Rattle.windows.specs.Found.{as_option}
+use Rattle.searches.specs.Found.{next_time}
 use Rattle.crowding.specs.Asked.{asked}
 use Rattle.timetable.proofs.Moves.{best_applies, time_small}
 use Rattle.searches.proofs.Answers.{found_some}
 use Rattle.noting.specs.Record.{record_of}
-use Rattle.turns.specs.declared.Place.{Place}
+use Rattle.places.specs.declared.Place.{Place}
 use Rattle.turns.specs.Moves.{Moves}
 
-module _ (e l p r : List ℕ) (cap : ℕ) (log : List ℕ) (at : Place) (t : ℕ) (x : Found) where
+module _ (e l p r : List ℕ) (cap : ℕ) (log : List ℕ) (at : Place) (t : ℕ) (x : Option ℕ) where
   abbrev here : Call
   here = call (win e l) p r cap log
 
-  module _ (h : x ≡ as_found (next_time here at.job (side_of at.side))) (f : x ≡ Found.At t) where
-    found_time : next_time here at.job (side_of at.side) ≡ some t
-    found_time = found_some (next_time here at.job (side_of at.side)) t (sym h ∙ f)
+  module _ (h : x ≡ as_option (next_time here at.job (side_is at.side))) (f : x ≡ Some t) where
+    found_time : next_time here at.job (side_is at.side) ≡ some t
+    found_time = found_some (next_time here at.job (side_is at.side)) t (sym h ∙ f)
 
     pub turn_time : Workable here → at.job < jobs here.win → t ≤ most_time
     turn_time w b =
-        let a = best_applies here w at.job (side_of at.side) b t found_time in
-        omega (arith, time_small (win e l) p r cap log w at.job (side_of at.side) t b a)
+        let a = best_applies here w at.job (side_is at.side) b t found_time in
+        omega (arith, time_small (win e l) p r cap log w at.job (side_is at.side) t b a)
 
     pub turn_moves : (count : ℕ) (W : Win) (after : List ℕ) → count < room_of log
-        → W ≡ moved (win e l) at.job (side_of at.side) (bound (side_of at.side) t)
-        → after ≡ rewritten log count (record_of (asked e l p r cap) at.job (side_of at.side) t)
+        → W ≡ moved (win e l) at.job (side_is at.side) (bound (side_is at.side) t)
+        → after ≡ rewritten log count (record_of (asked e l p r cap) at.job (side_is at.side) t)
         → Moves here at count t W after
     turn_moves count W after b w d =
         record {

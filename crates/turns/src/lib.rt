@@ -1,23 +1,15 @@
 // One turn of the work (document 01, 'Order of work'): at a place of a round, a job and its side, the move with its record, if a rule applies and there is
-// room; and the place after one that rests.
+// room.
 #![tactic(auto)]
 
 ghost use Rattle.std.specs.Prelude.{◌≡◌, ◌<◌, ◌≤◌, length};
 ghost use Rattle.narrowing.specs.Windows.{win};
 ghost use Rattle.timetable.specs.Table.{call, Workable};
 ghost use Rattle.loads.specs.Loads.{Loaded};
-ghost use Rattle.turns.specs.Places.{onward_of};
 ghost use Rattle.turns.specs.Moves.{TurnSays};
 
+use places::Place;
 use profile::Outline;
-
-// A place of a round: a job, its side, and whether the round has moved a bound so far.
-#[derive(Clone, Copy)]
-pub struct Place {
-    pub job: usize,
-    pub side: u32,
-    pub changed: bool,
-}
 
 // What a turn at a place comes to: its side rests, it moved from a bound, the move closed the window, or there is no room for its record.
 #[derive(Drop)]
@@ -26,41 +18,6 @@ pub enum Turn {
     Moved(u32),
     Closed,
     Full,
-}
-
-// The place after one that rests: side 1 after side 0, the next job's side 0 after side 1. After the last one comes a new round, or the
-// place past all jobs where the round has changed nothing.
-pub fn onward(at: Place, n: usize) -> Place
-    requires { at.job < n }
-    ensures { result ≡ onward_of at n }
-{
-    if at.side == 0 {
-        return Place {
-            job: at.job,
-            side: 1,
-            changed: at.changed,
-        };
-    }
-    let next = at.job + 1;
-    if next < n {
-        return Place {
-            job: next,
-            side: 0,
-            changed: at.changed,
-        };
-    }
-    if at.changed {
-        return Place {
-            job: 0,
-            side: 0,
-            changed: false,
-        };
-    }
-    Place {
-        job: n,
-        side: 0,
-        changed: false,
-    }
 }
 
 // One turn at a place, with so many records behind it: the side's move with its record, if a rule applies and there is room.
@@ -77,24 +34,23 @@ pub fn take_turn(
     ld: &[u32],
     kept: Outline,
 ) -> Turn
-    requires { Workable (call (win est.old lct.old) dur.now dem.now cap log.old) × (at.job < length est.old) × (at.side ≤ 1) × Loaded (win est.old lct.old) dur.now dem.now ts.now ld.now kept }
+    requires { Workable (call (win est.old lct.old) dur.now dem.now cap log.old) × (at.job < length est.old) × Loaded (win est.old lct.old) dur.now dem.now ts.now ld.now kept }
     ensures { TurnSays (call (win est.old lct.old) dur.now dem.now cap log.old) at count (win est.new lct.new) log.new result }
 {
     let job = at.job;
     let side = at.side;
     let found = searches::next_time(est, lct, dur, dem, cap, job, side, ts, ld, kept);
-    match found {
-        searches::Found::Nothing => Turn::Rests,
-        searches::Found::At(t) => {
-            if logs::room(log) <= count {
-                return Turn::Full;
-            }
-            noting::note(est, lct, dur, dem, cap, job, side, t, log, count);
-            let old = windows::shift(est, lct, job, side, t);
-            if windows::closed(est, lct, dur, job) {
-                return Turn::Closed;
-            }
-            Turn::Moved(old)
-        }
+    let Some(t) = found else {
+        return Turn::Rests;
+    };
+    if logs::room(log) <= count {
+        return Turn::Full;
+    }
+    noting::note(est, lct, dur, dem, cap, job, side, t, log, count);
+    let old = windows::shift(est, lct, job, side, t);
+    if windows::closed(est, lct, dur, job) {
+        Turn::Closed
+    } else {
+        Turn::Moved(old)
     }
 }

@@ -37,7 +37,6 @@ overflow_add-left c =
 pub loop-k-init : goal.loop-k-init
 loop-k-init c =
     let a = c.args in (
-      omega arith,
       c.empty-set.ensures ∙ sym (below_none set_words _),
       ap (λ (x : ℕ). x + a.dem.now ! a.job) c.load_at.ensures
           ∙ still_first a.est.now a.lct.now a.dur.now a.dem.now a.cap a.job a.t,
@@ -54,11 +53,11 @@ overflow_sub-rest c =
     let s = (goal.at.overflow_sub-rest c).Start in
     let l = c.loop-k in
     let m = member_at (theJobs s) (theWindows s) c.args.job c.args.t l.k (omega arith) ∙ sym c.is_member.ensures in
-    omega (arith, l.invariant.2, named_yet (theJobs s) (theWindows s) c.args.job c.args.t (omega (arith, c.requires.0.few)) l.k (omega arith) (m ∙ c.if-is_member.true))
+    omega (arith, l.invariant.1, named_yet (theJobs s) (theWindows s) c.args.job c.args.t (omega (arith, c.requires.0.few)) l.k (omega arith) (m ∙ c.if-is_member.true))
 
 pub slice_bounds-put-end : goal.slice_bounds-put-end
 slice_bounds-put-end c =
-    sym (ap length c.loop-k.invariant.1 ∙ set_of_length _ _)
+    sym (ap length c.loop-k.invariant.0 ∙ set_of_length _ _)
 
 pub loop-k-preserved : goal.loop-k-preserved
 loop-k-preserved c =
@@ -73,17 +72,17 @@ loop-k-preserved c =
     let m = member_at J W j t l.k b ∙ sym c.is_member.ensures in
     elim c.if-is_member.branch [
       | then-is_member+then-cap-rest w ↦
-          let d = gathered_drop J W j t few l.k b (m ∙ w.if-is_member.true) (omega (arith, l.invariant.2, w.if-cap-rest.true)) in
-          (omega arith, w.set-is ∙ l.invariant.1 ∙ d.0, omega (arith, w.left-is, l.invariant.2, d.1))
+          let d = gathered_drop J W j t few l.k b (m ∙ w.if-is_member.true) (omega (arith, l.invariant.1, w.if-cap-rest.true)) in
+          (w.set-is ∙ l.invariant.0 ∙ d.0, omega (arith, w.left-is, l.invariant.1, d.1))
       | then-is_member+else-cap-rest w ↦
-          let d = gathered_put J W j t few l.k b (m ∙ w.if-is_member.true) (omega (arith, l.invariant.2, w.if-cap-rest.false)) in
-          (omega arith, w.set-is ∙ w.put.ensures ∙ ap (λ (x : List ℕ). inserted x l.k) l.invariant.1 ∙ d.0, omega (arith, w.left-is, l.invariant.2, d.1))
+          let d = gathered_put J W j t few l.k b (m ∙ w.if-is_member.true) (omega (arith, l.invariant.1, w.if-cap-rest.false)) in
+          (w.set-is ∙ w.put.ensures ∙ ap (λ (x : List ℕ). inserted x l.k) l.invariant.0 ∙ d.0, omega (arith, w.left-is, l.invariant.1, d.1))
       | else-is_member w ↦
           let d = gathered_skip J W j t few l.k b (m ∙ w.if-is_member.false) in
-          (omega arith, w.set-is ∙ l.invariant.1 ∙ d.0, omega (arith, w.left-is, l.invariant.2, d.1))
+          (w.set-is ∙ l.invariant.0 ∙ d.0, omega (arith, w.left-is, l.invariant.1, d.1))
     ]
 
 pub returns : goal.returns
 returns c =
     let l = c.loop-k in
-    l.invariant.1 ∙ gathered_all _ _ _ _ l.k (omega arith)
+    l.invariant.0 ∙ gathered_all _ _ _ _ l.k (omega arith)

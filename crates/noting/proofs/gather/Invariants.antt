@@ -1,8 +1,6 @@
 -- `noting::gather` meets its contract. The loop's invariant: the set is that of the members named below k, and `left` are the demands still named once the
--- members below k have been gone through. The measure is what is left of the list.
-use Prim.Native.Nat.{◌≤◌, ◌-◌}
+-- members below k have been gone through.
 use mathlib.Core.Path.{◌≡◌}
-use lib.ListN.{length}
 use Rattle.narrowing.specs.Windows.{win}
 use Rattle.timetable.specs.Table.{jobs_of}
 use Rattle.crowding.specs.Asked.{asked}
@@ -11,9 +9,5 @@ use Rattle.noting.proofs.gather.Given as goal
 
 abbrev pub invariant-loop-k : goal.invariant-loop-k
 invariant-loop-k l =
-    (l.k ≤ length l.est)
-    × (l.set ≡ gathered (jobs_of (asked l.est l.lct l.dur l.dem l.cap)) (win l.est l.lct) l.job l.t l.k)
+    (l.set ≡ gathered (jobs_of (asked l.est l.lct l.dur l.dem l.cap)) (win l.est l.lct) l.job l.t l.k)
     × (l.left ≡ still (jobs_of (asked l.est l.lct l.dur l.dem l.cap)) (win l.est l.lct) l.job l.t l.k)
-
-abbrev pub decreases-loop-k : goal.decreases-loop-k
-decreases-loop-k l = length l.est - l.k

@@ -1,10 +1,8 @@
 -- `noting::note` meets its contract: the set gathered and the numbers given are the record of the move.
 use mathlib.Core.Path.{◌∙◌}
 use Rattle.timetable.specs.Search.{naming}
-use Rattle.timetable.proofs.Moves.{number_of_side}
 use Rattle.noting.proofs.note.Goals as goal
 
 pub returns : goal.returns
 unfolding naming
-returns c =
-    c.write.ensures ∙ rw (c.gather-set.ensures, number_of_side _ c.requires.2)
+returns c = c.write.ensures ∙ rw (c.gather-set.ensures, c.from.ensures)

@@ -5,18 +5,21 @@ use mathlib.Core.Bool.{true}
 use mathlib.Core.List.{List}
 use borrow.Author.Rules.{rules}
 use lib.ListN.{length}
-use Rattle.narrowing.specs.Windows.{Win, win}
+use Rattle.narrowing.specs.Windows.{Win, win, number, side_of}
+use Rattle.windows.specs.Sides.{side_is}
+use Rattle.windows.specs.declared.Side.{Side}
+use Rattle.windows.specs.declared.Side.TheVariants.{Start, End}
 use Rattle.journal.specs.Journal.{room_of}
 use Rattle.timetable.specs.Table.{Call, call}
-use Rattle.turns.specs.declared.Place.{Place}
+use Rattle.places.specs.declared.Place.{Place}
 use Rattle.turns.specs.declared.Turn.{Turn}
-use Rattle.turns.specs.Places.{place}
+use Rattle.places.specs.Places.{place}
 use Rattle.turns.specs.Moves.{TurnSays}
-use Rattle.rounds.proofs.Going.{weight, weight_move, weight_rest}
+use Rattle.places.proofs.Going.{weight, weight_move, weight_rest}
 use Rattle.rounds.proofs.Reached.{on, Reached, moves_room, moves_few, reached_start, reached_end, reached_rest, reached_full, reached_closed, reached_moved}
 use Rattle.rounds.proofs.Follows.{workable_free, follow_ready}
 use Rattle.rounds.proofs.work.Goals as goal
-use Rattle.rounds.proofs.work.Goals.{After-take_turn-turn, Start}
+use Rattle.rounds.proofs.work.Goals.{After-take_turn-turn}
 
 -- ---- after a turn: where it began a job is left; the call, and what the turn leaves of its windows and its log
 
@@ -47,18 +50,23 @@ moved_on : (d : Turned) (old : ℕ) → d.take_turn-turn.result ≡ Turn.Moved o
     → let q = d.loop-at in Reached (asks d) (winThen d) (logThen d) (place q.at.job q.at.side true) (q.count + 1)
 moved_on d old e = reached_moved _ _ _ _ _ d.loop-at.invariant.1 (job-left d) _ _ old (says d (Turn.Moved old) e)
 
+-- a side is that of its number
+side_number : (s : Side) (k : ℕ) → k ≡ number (side_is s) → side_of k ≡ side_is s
+side_number Start k h = rw h
+side_number End k h = rw h
+
 -- ---- the goals
 
 pub build-kept-requires : goal.build-kept-requires
 build-kept-requires c = (workable_free c.requires, search rules, search rules)
 
 pub loop-at-init : goal.loop-at-init
-loop-at-init c = (refl, reached_start _ c.requires, c.build-kept.ensures.loaded, refl)
+loop-at-init c = (refl, rw c.first-at.ensures (reached_start _ c.requires), c.build-kept.ensures.loaded, refl)
 
 pub take_turn-turn-requires : goal.take_turn-turn-requires
 take_turn-turn-requires c =
     let i = c.loop-at.invariant in
-    (i.1.workable, omega (arith, i.1.size), i.1.going.one_side, i.2)
+    (i.1.workable, omega (arith, i.1.size), i.2)
 
 pub onward-at-requires : goal.onward-at-requires
 onward-at-requires c = omega arith
@@ -68,7 +76,7 @@ loop-at-smaller-in-Rests c =
     let q = c.loop-at in
     let n = length c.args.est.now in
     let left = room_of c.args.log.now - q.count in
-    subst (λ (x : Place). weight n x left < weight n q.at left) (sym c.onward-at.ensures) (weight_rest n q.at left (job-left (goal.at.loop-at-smaller-in-Rests c).After-take_turn-turn) q.invariant.1.going.one_side)
+    subst (λ (x : Place). weight n x left < weight n q.at left) (sym c.onward-at.ensures) (weight_rest n q.at left (job-left (goal.at.loop-at-smaller-in-Rests c).After-take_turn-turn))
 
 pub loop-at-preserved-in-Rests : goal.loop-at-preserved-in-Rests
 loop-at-preserved-in-Rests c =
@@ -81,8 +89,9 @@ pub follow-kept-requires : goal.follow-kept-requires
 follow-kept-requires c =
     let d = (goal.at.follow-kept-requires c).After-take_turn-turn in
     let q = c.loop-at in
-    follow_ready (here d) q.at q.count _ (winThen d) (logThen d) (says d _ c.in-Moved.is) q.invariant.1.workable (omega (arith, q.invariant.1.size, job-left d))
-    (moved_on d _ c.in-Moved.is).workable q.invariant.2
+    rw (side_number q.at.side _ c.from-side.ensures)
+    (follow_ready (here d) q.at q.count _ (winThen d) (logThen d) (says d _ c.in-Moved.is) q.invariant.1.workable (omega (arith, q.invariant.1.size, job-left d))
+    (moved_on d _ c.in-Moved.is).workable q.invariant.2)
 
 pub overflow_add-count : goal.overflow_add-count
 overflow_add-count c =
@@ -117,7 +126,7 @@ returns-in-Closed c =
 pub returns-in-Full : goal.returns-in-Full
 returns-in-Full c =
     let d = (goal.at.returns-in-Full c).After-take_turn-turn in
-    reached_full _ _ _ _ _ c.loop-at.invariant.1 (job-left d) _ _ (says d Turn.Full c.in-Full.is)
+    rw c.from.ensures (reached_full _ _ _ _ _ c.loop-at.invariant.1 (job-left d) _ _ (says d Turn.Full c.in-Full.is))
 
 pub returns : goal.returns
 returns c = reached_end _ _ _ _ _ c.loop-at.invariant.1 (omega arith)

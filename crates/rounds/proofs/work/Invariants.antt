@@ -8,7 +8,7 @@ use Rattle.narrowing.specs.Windows.{win}
 use Rattle.journal.specs.Journal.{room_of}
 use Rattle.timetable.specs.Table.{call}
 use Rattle.loads.specs.Loads.{Loaded}
-use Rattle.rounds.proofs.Going.{weight}
+use Rattle.places.proofs.Going.{weight}
 use Rattle.rounds.proofs.Reached.{Reached}
 use Rattle.rounds.proofs.work.Given as goal
 

@@ -3,7 +3,7 @@ use native.Mathlib.Omega.{arith}
 use mathlib.Core.Path.{◌≡◌, refl, sym, subst}
 use mathlib.Core.Bool.{true}
 use lib.ListN.{length}
-use Rattle.narrowing.specs.Windows.{side_of}
+use Rattle.windows.specs.Sides.{side_is}
 use Rattle.joblist.specs.Limits.{most_jobs, most_time}
 use Rattle.mirrors.specs.Back.{told}
 use Rattle.mirrors.proofs.Back.{back_length, back_most}
@@ -34,11 +34,11 @@ then d = head_lists d.take_turn-turn.new.starts d.take_turn-turn.new.ends d.take
 says : (d : Turned) (x : Turn) → d.take_turn-turn.result ≡ x
     → let q = d.loop-at in
     let s = d in
-    TurnSays (length s.args.starts.now) s.args.dur.now (head_lists q.starts q.ends q.fore q.rear) q.at.job (side_of q.at.side) (then d) x
+    TurnSays (length s.args.starts.now) s.args.dur.now (head_lists q.starts q.ends q.fore q.rear) q.at.job (side_is q.at.side) (then d) x
 says d x e =
     let q = d.loop-at in
     let s = d in
-    subst (λ (n : ℕ). TurnSays n s.args.dur.now (head_lists q.starts q.ends q.fore q.rear) q.at.job (side_of q.at.side) (then d) x)
+    subst (λ (n : ℕ). TurnSays n s.args.dur.now (head_lists q.starts q.ends q.fore q.rear) q.at.job (side_is q.at.side) (then d) x)
     q.invariant.1.both.ahead.lent.starts_long (rw e at d.take_turn-turn.ensures)
 
 moved_on : (d : Turned) → d.take_turn-turn.result ≡ Turn.Moved
@@ -59,8 +59,8 @@ loop-at-init c =
     let s = c in
     let l = s.requires.0.ahead.lent in (
       refl,
-      reached_start (length s.args.starts.now) s.args.dur.now (head_lists s.args.starts.now s.args.ends.now s.args.fore.now s.args.rear.now) refl
-          (record { early = omega arith; late = omega (arith, back_length s.args.ends.now, l.ends_long) }) s.requires.0 s.requires.1,
+      rw c.first-at.ensures (reached_start (length s.args.starts.now) s.args.dur.now (head_lists s.args.starts.now s.args.ends.now s.args.fore.now s.args.rear.now) refl
+          (record { early = omega arith; late = omega (arith, back_length s.args.ends.now, l.ends_long) }) s.requires.0 s.requires.1),
     )
 
 pub take_turn-turn-requires : goal.take_turn-turn-requires
@@ -76,7 +76,7 @@ loop-at-smaller-in-Rests c =
     let s = d in
     let n = length s.args.starts.now in
     let left = quota (told s.args.starts.now s.args.ends.now) s.args.dur.now - q.count in
-    subst (λ (x : Place). weight n x left < weight n q.at left) (sym c.onward-at.ensures) (weight_rest n q.at left (job-left (goal.at.loop-at-smaller-in-Rests c).After-take_turn-turn) q.invariant.1.under.going.one_side)
+    subst (λ (x : Place). weight n x left < weight n q.at left) (sym c.onward-at.ensures) (weight_rest n q.at left (job-left (goal.at.loop-at-smaller-in-Rests c).After-take_turn-turn))
 
 pub loop-at-preserved-in-Rests : goal.loop-at-preserved-in-Rests
 loop-at-preserved-in-Rests c =

@@ -12,26 +12,26 @@ use Rattle.turns.proofs.take_turn.Goals as goal
 use Rattle.turns.proofs.take_turn.Goals.{After-shift-old, Else-room-count}
 
 -- a time is found and there is room for its record: the time is within the limit
-in-time : (d : Else-room-count) → d.in-At.t ≤ most_time
-in-time d = turn_time _ _ _ _ _ d.args.log.now d.args.at _ _ d.next_time-found.ensures d.in-At.is d.requires.0 d.requires.1
+in-time : (d : Else-room-count) → d.in-Some.t ≤ most_time
+in-time d = turn_time _ _ _ _ _ d.args.log.now d.args.at _ _ d.next_time-found.ensures d.in-Some.is d.requires.0 d.requires.1
 
 -- its record is noted and the bound moved
 moves : (d : After-shift-old)
     → let a = d.args in
-    Moves (call (win a.est.now a.lct.now) a.dur.now a.dem.now a.cap a.log.now) a.at a.count d.in-At.t (win d.shift-old.new.est d.shift-old.new.lct) d.note.new.log
+    Moves (call (win a.est.now a.lct.now) a.dur.now a.dem.now a.cap a.log.now) a.at a.count d.in-Some.t (win d.shift-old.new.est d.shift-old.new.lct) d.note.new.log
 moves d =
-    turn_moves _ _ _ _ _ _ _ _ _ d.next_time-found.ensures d.in-At.is _ _ _
+    turn_moves _ _ _ _ _ _ _ _ _ d.next_time-found.ensures d.in-Some.is _ _ _
     (omega (arith, d.room.ensures, d.if-room-count.false)) d.shift-old.ensures.0 d.note.ensures
 
 pub returns-then-room-count : goal.returns-then-room-count
 returns-then-room-count c =
-    let t = c.in-At.t in
-    (t, found_some _ t (sym c.next_time-found.ensures ∙ c.in-At.is), omega (arith, c.room.ensures), refl, refl)
+    let t = c.in-Some.t in
+    (t, found_some _ t (sym c.next_time-found.ensures ∙ c.in-Some.is), omega (arith, c.room.ensures), refl, refl)
 
 pub note-requires : goal.note-requires
 note-requires c =
     let p = c.requires in
-    (p.0.good, p.1, p.2, in-time (goal.at.note-requires c).Else-room-count)
+    (p.0.good, p.1, in-time (goal.at.note-requires c).Else-room-count)
 
 pub shift-old-requires : goal.shift-old-requires
 shift-old-requires c =
@@ -45,10 +45,10 @@ closed-requires c =
     (omega (arith, p.1, k), omega (arith, p.1, p.0.good.sized.1.0, k), omega (arith, p.1, p.0.good.sized.1.1.0))
 
 pub returns-then-closed : goal.returns-then-closed
-returns-then-closed c = (c.in-At.t, moves (goal.at.returns-then-closed c).After-shift-old, sym c.closed.ensures ∙ c.if-closed.true)
+returns-then-closed c = (c.in-Some.t, moves (goal.at.returns-then-closed c).After-shift-old, sym c.closed.ensures ∙ c.if-closed.true)
 
-pub returns-in-Nothing : goal.returns-in-Nothing
-returns-in-Nothing c = (found_none _ (sym c.next_time-found.ensures ∙ c.in-Nothing.is), refl, refl)
+pub returns-in_default : goal.returns-in_default
+returns-in_default c = (found_none _ (sym c.next_time-found.ensures ∙ c.in_default.is), refl, refl)
 
 pub returns-else-closed : goal.returns-else-closed
-returns-else-closed c = (c.in-At.t, moves (goal.at.returns-else-closed c).After-shift-old, sym c.closed.ensures ∙ c.if-closed.false, c.shift-old.ensures.1)
+returns-else-closed c = (c.in-Some.t, moves (goal.at.returns-else-closed c).After-shift-old, sym c.closed.ensures ∙ c.if-closed.false, c.shift-old.ensures.1)
