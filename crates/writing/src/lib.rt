@@ -4,8 +4,7 @@
 ghost use Rattle.answers.specs.Said.{says_write};
 ghost use Rattle.exchange.specs.Write.{Writes};
 
-use answers::WriteAnswer;
-use scribe::Outcome;
+use answers::Refusal;
 
 // Writes a project of one resource into the buffer, in our form of the Patterson layout.
 pub fn write_patterson(
@@ -15,27 +14,21 @@ pub fn write_patterson(
     jobs: &[u32],
     successors: &[u32],
     buffer: &mut [u8],
-) -> WriteAnswer
+) -> Result<usize, Refusal>
     ensures { Writes
         (record { cap = cap; dur = dur.now; dem = dem.now; jobs = jobs.now; successors = successors.now; buffer = buffer.old })
         (record { says = says_write result; buffer = buffer.new }) }
 {
-    let number = screen::refusal_of_two(dur, dem, cap);
-    if number != 0 {
-        return WriteAnswer::Refused(number);
-    }
+    screen::refusal_of_two(dur, dem, cap)?;
     if successors.len() != jobs.len() {
-        return WriteAnswer::Refused(1);
+        return Err(Refusal::Lengths);
     }
     let n = dur.len() as u32;
     if !listed::rising(jobs, successors, n) {
-        return WriteAnswer::Refused(32);
+        return Err(Refusal::Pairs);
     }
     if listed::has_cycle(jobs, successors, n) {
-        return WriteAnswer::Refused(33);
+        return Err(Refusal::Cycle);
     }
-    match scribe::write(cap, dur, dem, jobs, successors, buffer) {
-        Outcome::Wrote(bytes) => WriteAnswer::Written(bytes),
-        Outcome::Short => WriteAnswer::Refused(36),
-    }
+    scribe::write(cap, dur, dem, jobs, successors, buffer).ok_or(Refusal::Buffer)
 }
