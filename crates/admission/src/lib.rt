@@ -3,18 +3,26 @@
 
 ghost use Rattle.std.specs.Prelude.{◌≡◌};
 ghost use Rattle.narrowing.specs.Windows.{win};
+ghost use Rattle.answers.specs.Said.{refusal_number};
 ghost use Rattle.timetable.specs.Table.{call, refusal_of};
 
-// The number of the first test that fails, and 0 where the call is admitted.
-pub fn refusal(est: &[u32], lct: &[u32], dur: &[u32], dem: &[u32], cap: u32, log: &[u32]) -> u32
-    ensures { result ≡ refusal_of (call (win est.now lct.now) dur.now dem.now cap log.now) }
+use answers::Refusal;
+
+// The first test that fails.
+pub fn refusal(
+    est: &[u32],
+    lct: &[u32],
+    dur: &[u32],
+    dem: &[u32],
+    cap: u32,
+    log: &[u32],
+) -> Result<(), Refusal>
+    ensures { refusal_number result ≡ refusal_of (call (win est.now lct.now) dur.now dem.now cap log.now) }
 {
-    let number = screen::refusal(est, lct, dur, dem, cap);
-    if number != 0 {
-        return number;
-    }
+    screen::refusal(est, lct, dur, dem, cap)?;
     if logs::ragged(log) {
-        return 7;
+        Err(Refusal::Ragged)
+    } else {
+        Ok(())
     }
-    0
 }

@@ -1,29 +1,24 @@
--- `admission::refusal` meets its contract: a number of the lists stands, and where it is 0 the log decides.
-use mathlib.Core.Path.{◌≡◌, sym, ◌∙◌}
+-- `admission::refusal` meets its contract: a refusal of the lists stands, and where there is none the log decides.
+use mathlib.Core.Path.{sym, ◌∙◌}
+use Rattle.std.proofs.lemmas.Result.{err_from_is_err_and}
 use borrow.Author.Tests.{not-true, not-false}
-use lib.ListN.{length}
 use Rattle.lists.proofs.Tests.{or_first}
-use Rattle.narrowing.specs.Windows.{win}
-use Rattle.joblist.specs.Limits.{four_lists, supply}
-use Rattle.joblist.specs.GoodList.{refusal}
 use Rattle.journal.specs.Journal.{is_whole}
 use Rattle.promises.specs.Ask as ask
 use Rattle.timetable.specs.Table.{refusal_of}
+use Rattle.screen.proofs.Tests.{number_not_0}
 use Rattle.admission.proofs.refusal.Goals as goal
-use Rattle.admission.proofs.refusal.Goals.{After-ragged}
 
-pub returns-then-number-ne0 : goal.returns-then-number-ne0
+pub returns-in_err-refusal : goal.returns-in_err-refusal
 unfolding refusal_of ask.refusal_of
-returns-then-number-ne0 c = let e = c.refusal-number.ensures in rw (← e) (sym (or_first _ _ c.if-number-ne0.true))
-
-listed : (d : After-ragged) → let a = d.args in
-    refusal (length a.est.now) (four_lists (win a.est.now a.lct.now) a.dur.now a.dem.now) (supply a.cap) ≡ 0
-listed d = sym d.refusal-number.ensures ∙ d.if-number-ne0.false
+returns-in_err-refusal c =
+    let p = err_from_is_err_and c.from_residual.result c.from_residual.ensures.1 in
+    rw (p.1, p.2, ← c.in_err-refusal.ensures) (sym (or_first _ _ (number_not_0 _)))
 
 pub returns-then-ragged : goal.returns-then-ragged
 unfolding refusal_of ask.refusal_of
-returns-then-ragged c = rw (listed (goal.at.returns-then-ragged c).After-ragged, not-true (is_whole c.args.log.now) (sym c.ragged.ensures ∙ c.if-ragged.true))
+returns-then-ragged c = rw (← c.in_ok-refusal.ensures, not-true (is_whole c.args.log.now) (sym c.ragged.ensures ∙ c.if-ragged.true))
 
-pub returns : goal.returns
+pub returns-else-ragged : goal.returns-else-ragged
 unfolding refusal_of ask.refusal_of
-returns c = rw (listed (goal.at.returns c).After-ragged, not-false (is_whole c.args.log.now) (sym c.ragged.ensures ∙ c.if-ragged.false))
+returns-else-ragged c = rw (← c.in_ok-refusal.ensures, not-false (is_whole c.args.log.now) (sym c.ragged.ensures ∙ c.if-ragged.false))
