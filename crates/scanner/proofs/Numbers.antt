@@ -2,7 +2,10 @@
 use Prim.Native.Nat.{ℕ, ◌+◌, ◌-◌, ◌*◌, ◌≤◌, ◌<◌}
 use native.Mathlib.Omega.{arith}
 use mathlib.Core.Path.{◌≡◌, refl}
-use mathlib.Core.Bool.{true, false}
+use mathlib.Core.Bool.{Bool, true, false}
+use Rattle.std.specs.Prelude.{◌&&◌}
+use Rattle.std.specs.Char.{is_ascii_digit}
+use Rattle.lists.specs.Tests.{both}
 use mathlib.Core.List.{List, [], ◌∷◌}
 use lib.Dec.{leb}
 use borrow.Author.Tests.{leb-true, le-leb, lt-leb}
@@ -14,6 +17,15 @@ use Rattle.scanner.specs.Scan.{held, Capped, none?}
 pub digit_bounds : (b : ℕ) → digit b ≡ true → (48 ≤ b) × (b ≤ 57)
 unfolding digit
 digit_bounds b e = let q = both_true (leb 48 b) (leb b 57) e in (leb-true 48 b q.0, leb-true b 57 q.1)
+
+-- std's test of a digit is the same
+pub digit_is : (b : ℕ) → digit b ≡ is_ascii_digit b
+unfolding digit
+digit_is b = go (leb 48 b) (leb b 57)
+  where
+    go : (t u : Bool) → both t u ≡ t && u
+    go true u = refl
+    go false u = refl
 
 pub capped_zero : Capped 0 0
 capped_zero = record { under = omega arith; most = omega arith; itself = λ h. refl }

@@ -1,6 +1,7 @@
 -- The tokens left at a place of a text, by the byte that stands there: `tokens_inside` says them of a text that goes on inside a token.
 use Prim.Native.Nat.{ℕ, suc, ◌+◌, ◌-◌, ◌*◌, ◌≤◌, ◌<◌}
 use native.Mathlib.Numerals.{add-one}
+use native.Mathlib.Omega.{arith}
 use mathlib.Core.Path.{◌≡◌, refl, sym, ◌∙◌}
 use mathlib.Core.Bool.{Bool, true, false, cond, not}
 use mathlib.Core.List.{List, [], ◌∷◌, map}
@@ -64,9 +65,11 @@ module _ (s : List ℕ) (i : ℕ) where
   unfolding tokens solid_runs
   tokens_none h = rw (drop_of_length-le s h)
 
-  pub inside_end : (w : Token) → length s ≤ i → tokens_inside w (drop i s) ≡ w ∷ tokens (drop i s)
+  pub inside_end : (w : Token) → length s ≤ i → tokens_inside w (drop i s) ≡ w ∷ tokens (drop (length s) s)
   unfolding tokens_inside tokens solid_runs
-  inside_end w h = rw (drop_of_length-le s h)
+  inside_end w h =
+      let e : length s ≤ length s = omega arith in
+      rw (drop_of_length-le s h, drop_of_length-le s e)
 
   module _ (h : i < length s) where
     pub tokens_blank : blank (s ! i) ≡ true → tokens (drop i s) ≡ tokens (drop (i + 1) s)

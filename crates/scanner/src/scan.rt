@@ -15,43 +15,23 @@ pub enum Next {
 }
 
 // Space, tab, carriage return, line feed.
+#[tactic(auto, unfolding(texts::specs::Tokens::blank))]
 fn is_blank(b: u8) -> bool
     ensures { result ≡ blank b }
 {
-    if b == b' ' {
-        return true;
-    }
-    if b == b'\t' {
-        return true;
-    }
-    if b == b'\r' {
-        return true;
-    }
-    b == b'\n'
-}
-
-// 0 to 9.
-fn is_digit(b: u8) -> bool
-    ensures { result ≡ digit b }
-{
-    if b'0' <= b {
-        return b <= b'9';
-    }
-    false
+    matches!(b, b' ' | b'\t' | b'\r' | b'\n')
 }
 
 // The first place from `at` on that has no blank.
 fn skip(text: &[u8], at: usize) -> usize
     ensures { Skipped text.now at result }
 {
-    let mut i = at;
-    while i < text.len() {
+    for i in at..text.len() {
         if !is_blank(text[i]) {
             return i;
         }
-        i += 1;
     }
-    i
+    text.len()
 }
 
 // The number with one digit more.
@@ -59,11 +39,7 @@ fn with_digit(v: u64, b: u8) -> u64
     requires { (v ≤ held) × (digit b ≡ true) }
     ensures { (x : ℕ) → Capped x v → Capped (x * 10 + (b - 48)) result }
 {
-    let w = v * 10 + ((b - b'0') as u64);
-    if HELD < w {
-        return HELD;
-    }
-    w
+    (v * 10 + u64::from(b - b'0')).min(HELD)
 }
 
 // The token that starts at `at`.
@@ -71,19 +47,17 @@ fn token_at(text: &[u8], at: usize) -> Next
     ensures { Heads (tokens_inside (number 0) (drop at text.now)) text.now result }
 {
     let mut v: u64 = 0;
-    let mut i = at;
-    while i < text.len() {
+    for i in at..text.len() {
         let b = text[i];
         if is_blank(b) {
             return Next::Number(v, i);
         }
-        if !is_digit(b) {
+        if !b.is_ascii_digit() {
             return Next::Other;
         }
         v = with_digit(v, b);
-        i += 1;
     }
-    Next::Number(v, i)
+    Next::Number(v, text.len())
 }
 
 // The first token from `at` on.
@@ -91,8 +65,5 @@ pub fn next_number(text: &[u8], at: usize) -> Next
     ensures { Heads (tokens (drop at text.now)) text.now result }
 {
     let i = skip(text, at);
-    if text.len() <= i {
-        return Next::End;
-    }
-    token_at(text, i)
+    if i < text.len() { token_at(text, i) } else { Next::End }
 }

@@ -1,15 +1,10 @@
 -- `scanner::scan::next_number` meets its contract: blanks, and then a token or the end.
-use Prim.Native.Nat.{◌<◌, ◌-◌}
 use mathlib.Core.Path.{◌∙◌}
-use native.Mathlib.Omega.{arith}
-use lib.ListN.{length}
 use Rattle.scanner.proofs.Tokens.{token_next, tokens_none}
 use Rattle.scanner.proofs.scan.next_number.Goals as goal
 
-pub returns-then-text-i : goal.returns-then-text-i
-returns-then-text-i c = c.skip-i.ensures.same ∙ tokens_none _ _ c.if-text-i.true
+pub returns-then-i-text : goal.returns-then-i-text
+returns-then-i-text c = token_next _ _ _ c.token_at.result c.skip-i.ensures c.if-i-text.true c.token_at.ensures
 
-pub returns : goal.returns
-returns c =
-    let h : c.skip-i.result < length c.args.text.now = omega (arith, c.if-text-i.false) in
-    token_next _ _ _ c.token_at.result c.skip-i.ensures h c.token_at.ensures
+pub returns-else-i-text : goal.returns-else-i-text
+returns-else-i-text c = c.skip-i.ensures.same ∙ tokens_none _ _ c.if-i-text.false
