@@ -1,5 +1,7 @@
 -- What the functions of this crate say of a text s: what was read, up to a place in it.
-use Rattle.std.specs.Prelude.{ℕ, ◌≡◌, List, drop}
+use Rattle.std.specs.Prelude.{ℕ, ◌≡◌, List, drop, Result, Ok, Err}
+use Rattle.answers.specs.declared.reasons.Refusal.{Refusal}
+use Rattle.answers.specs.Said.{number_of}
 use Rattle.lists.specs.Lists.{◌!◌}
 use Rattle.texts.specs.Tokens.{tokens}
 use Rattle.texts.specs.Readings.{Read, bad, good}
@@ -8,11 +10,11 @@ use Rattle.projects.specs.Projects.{Head}
 use Rattle.rowheads.specs.declared.RowHead.{RowHead}
 
 -- of numbers read, the one at `res`
-abbrev pub PickSays : Read (List ℕ) → List ℕ → ℕ → Got → Type 0
-PickSays r s res (Got.Read v to) = (xs : List ℕ) × (r ≡ good xs (tokens (drop to s))) × (xs ! res ≡ v)
-PickSays r s res (Got.Refused c) = r ≡ bad c
+abbrev pub PickSays : Read (List ℕ) → List ℕ → ℕ → Result Got Refusal → Type 0
+PickSays r s res (Ok got) = (xs : List ℕ) × (r ≡ good xs (tokens (drop got.to s))) × (xs ! res ≡ got.value)
+PickSays r s res (Err c) = r ≡ bad (number_of c)
 
 -- the head of a row
-abbrev pub HeadSays : Read Head → List ℕ → ℕ → RowHead → Type 0
-HeadSays r s res (RowHead.Read d q c to) = (h : Head) × (r ≡ good h (tokens (drop to s))) × (h.duration ≡ d) × (h.demands ! res ≡ q) × (h.count ≡ c)
-HeadSays r s res (RowHead.Refused c) = r ≡ bad c
+abbrev pub HeadSays : Read Head → List ℕ → ℕ → Result RowHead Refusal → Type 0
+HeadSays r s res (Ok head) = (h : Head) × (r ≡ good h (tokens (drop head.to s))) × (h.duration ≡ head.duration) × (h.demands ! res ≡ head.demand) × (h.count ≡ head.count)
+HeadSays r s res (Err c) = r ≡ bad (number_of c)

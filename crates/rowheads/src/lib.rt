@@ -2,9 +2,8 @@
 // numbers of which one is picked; and a successor.
 #![tactic(auto)]
 
-ghost use Rattle.std.specs.Prelude.{◌≡◌, ℕ, ◌<◌, eqb, drop};
+ghost use Rattle.std.specs.Prelude.{◌≡◌, ℕ, ◌<◌, drop};
 ghost use Rattle.lists.specs.Lists.{◌!◌};
-ghost use Rattle.lists.specs.Tests.{pick};
 ghost use Rattle.joblist.specs.Limits.{most_jobs};
 ghost use Rattle.texts.specs.Tokens.{tokens};
 ghost use Rattle.texts.specs.Readings.{numbers_up_to};
@@ -14,6 +13,7 @@ ghost use Rattle.projects.specs.Tables.{numbered};
 ghost use Rattle.rowheads.specs.Heads.{need_head, with_count, head_in};
 ghost use Rattle.rowheads.specs.Says.{PickSays, HeadSays};
 
+use answers::Refusal;
 use scanner::Got;
 
 // A table of rows: whole jobs on so many resources, as in Patterson's layout; or PSPLIB's precedence relations, and its requests on so many resources.
@@ -24,111 +24,106 @@ pub enum Table {
     Requests(u32),
 }
 
-// Duration, demand of the chosen resource, successor count, and the place behind them; or a refusal.
-#[derive(Drop)]
-pub enum RowHead {
-    Read(u32, u32, u32, usize),
-    Refused(u32),
+// Duration, demand of the chosen resource, successor count, and the place behind them.
+#[derive(Clone, Copy)]
+pub struct RowHead {
+    pub duration: u32,
+    pub demand: u32,
+    pub count: u32,
+    pub to: usize,
 }
 
 // A successor, from 0.
-pub fn read_link(text: &[u8], at: usize, n: u32) -> Got
+pub fn read_link(text: &[u8], at: usize, n: u32) -> Result<Got, Refusal>
     ensures { GotSays (link n (tokens (drop at text.now))) text.now result }
 {
-    match scanner::next_up_to(text, at, n, 32) {
-        Got::Read(v, to) => {
-            if v == 0 {
-                return Got::Refused(32);
-            }
-            Got::Read(v - 1, to)
-        }
-        Got::Refused(c) => Got::Refused(c),
+    let got = scanner::next_up_to(text, at, n, Refusal::Pairs)?;
+    if got.value == 0 {
+        return Err(Refusal::Pairs);
     }
-}
-
-// v where the place is the one asked for, else the old value.
-fn choose(i: u32, res: u32, v: u32, old: u32) -> u32
-    ensures { result ≡ pick (eqb i res) v old }
-{
-    if i == res {
-        return v;
-    }
-    old
+    Ok(Got {
+        value: got.value - 1,
+        ..got
+    })
 }
 
 // m numbers up to `top`; the answer is the one at `res`, 0 where there is none.
-pub fn read_numbers(text: &[u8], at: usize, m: u32, top: u32, res: u32) -> Got
+pub fn read_numbers(text: &[u8], at: usize, m: u32, top: u32, res: u32) -> Result<Got, Refusal>
     ensures { PickSays (numbers_up_to top m (tokens (drop at text.now))) text.now res result }
 {
-    let mut picked: u32 = 0;
+    let mut picked = 0;
     let mut to = at;
-    let mut i: u32 = 0;
-    while i < m {
-        match scanner::next_up_to(text, to, top, 31) {
-            Got::Read(v, end) => {
-                picked = choose(i, res, v, picked);
-                to = end;
-            }
-            Got::Refused(c) => {
-                return Got::Refused(c);
-            }
+    for i in 0..m {
+        let got = scanner::next_up_to(text, to, top, Refusal::AboveLimit)?;
+        if i == res {
+            picked = got.value;
         }
-        i += 1;
+        to = got.to;
     }
-    Got::Read(picked, to)
+    Ok(Got {
+        value: picked,
+        to,
+    })
 }
 
 // A duration and a demand for each of k resources.
-fn read_need(text: &[u8], at: usize, k: u32, res: u32) -> RowHead
+fn read_need(text: &[u8], at: usize, k: u32, res: u32) -> Result<RowHead, Refusal>
     ensures { HeadSays (need_head k (tokens (drop at text.now))) text.now res result }
 {
-    match scanner::next_up_to(text, at, screen::MOST_TIME, 31) {
-        Got::Refused(c) => RowHead::Refused(c),
-        Got::Read(d, demands) => match read_numbers(text, demands, k, screen::MOST_DEMAND, res) {
-            Got::Refused(c) => RowHead::Refused(c),
-            Got::Read(q, to) => RowHead::Read(d, q, 0, to),
-        },
-    }
+    let duration = scanner::next_up_to(text, at, screen::MOST_TIME, Refusal::AboveLimit)?;
+    let demand = read_numbers(text, duration.to, k, screen::MOST_DEMAND, res)?;
+    Ok(RowHead {
+        duration: duration.value,
+        demand: demand.value,
+        count: 0,
+        to: demand.to,
+    })
 }
 
-// The successor count behind a duration and a demand.
-fn read_count(text: &[u8], at: usize, n: u32, d: u32, q: u32) -> RowHead
-    ensures { (h : Head) (res : ℕ) → h.duration ≡ d → h.demands ! res ≡ q → HeadSays (with_count n h (tokens (drop at text.now))) text.now res result }
+// The successor count behind the rest of a head.
+fn read_count(text: &[u8], n: u32, head: RowHead) -> Result<RowHead, Refusal>
+    ensures { (h : Head) (res : ℕ) → h.duration ≡ head.duration → h.demands ! res ≡ head.demand → HeadSays (with_count n h (tokens (drop head.to text.now))) text.now res result }
 {
-    match scanner::next_up_to(text, at, n, 31) {
-        Got::Refused(c) => RowHead::Refused(c),
-        Got::Read(m, to) => RowHead::Read(d, q, m, to),
-    }
+    let count = scanner::next_up_to(text, head.to, n, Refusal::AboveLimit)?;
+    Ok(RowHead {
+        count: count.value,
+        to: count.to,
+        ..head
+    })
 }
 
 // The number of job j and the 1 behind it.
-fn read_numbered(text: &[u8], at: usize, j: u32) -> Got
+fn read_numbered(text: &[u8], at: usize, j: u32) -> Result<Got, Refusal>
     requires { j < most_jobs }
     ensures { GotSays (numbered j (tokens (drop at text.now))) text.now result }
 {
-    match scanner::next_exactly(text, at, j + 1) {
-        Got::Refused(c) => Got::Refused(c),
-        Got::Read(_, mode) => scanner::next_exactly(text, mode, 1),
-    }
+    let number = scanner::next_exactly(text, at, j + 1)?;
+    scanner::next_exactly(text, number.to, 1)
 }
 
 // What stands before the successors of row j.
-pub fn read_front(text: &[u8], at: usize, n: u32, table: Table, j: u32, res: u32) -> RowHead
+pub fn read_front(text: &[u8], at: usize, n: u32, table: Table, j: u32, res: u32) -> Result<RowHead, Refusal>
     requires { j < most_jobs }
     ensures { HeadSays (head_in table n j (tokens (drop at text.now))) text.now res result }
 {
     match table {
-        Table::Whole(resources) => match read_need(text, at, resources, res) {
-            RowHead::Refused(c) => RowHead::Refused(c),
-            RowHead::Read(d, q, _, to) => read_count(text, to, n, d, q),
-        },
-        Table::Relations => match read_numbered(text, at, j) {
-            Got::Refused(c) => RowHead::Refused(c),
-            Got::Read(_, to) => read_count(text, to, n, 0, 0),
-        },
-        Table::Requests(resources) => match read_numbered(text, at, j) {
-            Got::Refused(c) => RowHead::Refused(c),
-            Got::Read(_, to) => read_need(text, to, resources, res),
-        },
+        Table::Whole(resources) => {
+            let need = read_need(text, at, resources, res)?;
+            read_count(text, n, need)
+        }
+        Table::Relations => {
+            let numbered = read_numbered(text, at, j)?;
+            let bare = RowHead {
+                duration: 0,
+                demand: 0,
+                count: 0,
+                to: numbered.to,
+            };
+            read_count(text, n, bare)
+        }
+        Table::Requests(resources) => {
+            let numbered = read_numbered(text, at, j)?;
+            read_need(text, numbered.to, resources, res)
+        }
     }
 }

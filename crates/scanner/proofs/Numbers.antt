@@ -1,5 +1,5 @@
 -- Numbers as code holds them: a digit more, and a number up to a limit.
-use Prim.Native.Nat.{ℕ, ◌+◌, ◌-◌, ◌*◌, ◌≤◌, ◌<◌}
+use Prim.Native.Nat.{ℕ, ◌≤◌, ◌<◌}
 use native.Mathlib.Omega.{arith}
 use mathlib.Core.Path.{◌≡◌, refl}
 use mathlib.Core.Bool.{Bool, true, false}
@@ -7,12 +7,15 @@ use Rattle.std.specs.Prelude.{◌&&◌}
 use Rattle.std.specs.Char.{is_ascii_digit}
 use Rattle.lists.specs.Tests.{both}
 use mathlib.Core.List.{List, [], ◌∷◌}
+use mathlib.Core.Logic.{◌⊎◌, inl, inr}
 use lib.Dec.{leb}
 use borrow.Author.Tests.{leb-true, le-leb, lt-leb}
 use Rattle.lists.proofs.Tests.{both_true}
 use Rattle.texts.specs.Tokens.{digit, Token, number, other}
 use Rattle.texts.specs.Readings.{bad, good, one}
-use Rattle.scanner.specs.Scan.{held, Capped, none?}
+use Rattle.scanner.specs.Scan.{held, Capped, Heads}
+use Rattle.scanner.specs.declared.scan.Next.{Next}
+use Rattle.scanner.specs.declared.scan.Next.TheVariants.{Other, End}
 
 pub digit_bounds : (b : ℕ) → digit b ≡ true → (48 ≤ b) × (b ≤ 57)
 unfolding digit
@@ -26,16 +29,6 @@ digit_is b = go (leb 48 b) (leb b 57)
     go : (t u : Bool) → both t u ≡ t && u
     go true u = refl
     go false u = refl
-
-pub capped_zero : Capped 0 0
-capped_zero = record { under = omega arith; most = omega arith; itself = λ h. refl }
-
-pub capped_digit : (x v b r : ℕ) → Capped x v → r ≤ v * 10 + (b - 48) → r ≤ held → (r < held → r ≡ v * 10 + (b - 48)) → Capped (x * 10 + (b - 48)) r
-capped_digit x v b r c h k e = record {
-  under = omega (arith, c.under);
-  most = k;
-  itself = λ l. omega (arith, e l, c.itself (omega (arith, e l)));
-}
 
 -- ---- a number up to a limit
 
@@ -58,10 +51,7 @@ pub one_none : (top code : ℕ) (ts : List Token) → ts ≡ [] → one top code
 unfolding one
 one_none top code ts e = rw e
 
--- ---- whether a token is left
-
-pub some_left : (t : Token) (ts rest : List Token) → ts ≡ t ∷ rest → false ≡ none? ts
-some_left t ts rest e = rw e
-
-pub none_left : (ts : List Token) → ts ≡ [] → true ≡ none? ts
-none_left ts e = rw e
+-- where no number stands
+pub one_neither : (top code : ℕ) (ts : List Token) (s : List ℕ) (r : Next) → (r ≡ Other) ⊎ (r ≡ End) → Heads ts s r → one top code ts ≡ bad 30
+one_neither top code ts s r (inl e) h = one_other top code ts (rw e at h).0 (rw e at h).1
+one_neither top code ts s r (inr e) h = one_none top code ts (rw e at h)

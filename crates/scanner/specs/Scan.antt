@@ -1,10 +1,12 @@
 -- Tokens as code meets them, byte by byte: what the functions of this crate say of a place in the text. `tokens (drop at s)` is what is left of
 -- the text s from the place `at` on.
-use Rattle.std.specs.Prelude.{ℕ, ◌≤◌, ◌<◌, ◌≡◌, Bool, true, false, cond, List, [], ◌∷◌, length, drop}
+use Rattle.std.specs.Prelude.{ℕ, ◌≤◌, ◌<◌, ◌≡◌, Bool, true, false, cond, List, [], ◌∷◌, length, drop, Result, Ok, Err}
 use Rattle.lists.specs.Lists.{◌!◌}
 use Rattle.scanner.specs.declared.scan.Next.{Next}
 use Rattle.scanner.specs.declared.scan.Next.TheVariants.{Number, Other, End}
 use Rattle.scanner.specs.declared.Got.{Got}
+use Rattle.answers.specs.declared.reasons.Refusal.{Refusal}
+use Rattle.answers.specs.Said.{number_of}
 use Rattle.texts.specs.Tokens.{blank, Token, number, other, more, tokens}
 use Rattle.texts.specs.Readings.{Read, bad, good}
 
@@ -35,9 +37,9 @@ Heads ts s Other = (rest : List Token) × (ts ≡ other ∷ rest)
 Heads ts s End = ts ≡ []
 
 -- what was read, up to the place behind it
-abbrev pub GotSays : Read ℕ → List ℕ → Got → Type 0
-GotSays r s (Got.Read v to) = r ≡ good v (tokens (drop to s))
-GotSays r s (Got.Refused c) = r ≡ bad c
+abbrev pub GotSays : Read ℕ → List ℕ → Result Got Refusal → Type 0
+GotSays r s (Ok got) = r ≡ good got.value (tokens (drop got.to s))
+GotSays r s (Err c) = r ≡ bad (number_of c)
 
 -- whether no token is left
 abbrev pub none? : List Token → Bool

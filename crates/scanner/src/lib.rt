@@ -4,47 +4,49 @@
 mod scan;
 
 ghost use Rattle.std.specs.Prelude.{◌≡◌, drop};
+ghost use Rattle.answers.specs.Said.{number_of};
 ghost use Rattle.texts.specs.Tokens.{tokens};
 ghost use Rattle.texts.specs.Readings.{one, exactly};
 ghost use Rattle.scanner.specs.Scan.{GotSays, none?};
 
+use answers::Refusal;
 use scan::{Next, next_number};
 
-// A number with the place behind it, or a refusal.
-#[derive(Drop)]
-pub enum Got {
-    Read(u32, usize),
-    Refused(u32),
+// A number with the place behind it.
+#[derive(Clone, Copy)]
+pub struct Got {
+    pub value: u32,
+    pub to: usize,
 }
 
-// The next number from `at` on: 30 where none stands there, `code` where it is above `top`.
-pub fn next_up_to(text: &[u8], at: usize, top: u32, code: u32) -> Got
-    ensures { GotSays (one top code (tokens (drop at text.now))) text.now result }
+// The next number from `at` on: 30 where none stands there, the given refusal where it is above `top`.
+pub fn next_up_to(text: &[u8], at: usize, top: u32, refusal: Refusal) -> Result<Got, Refusal>
+    ensures { GotSays (one top (number_of refusal) (tokens (drop at text.now))) text.now result }
 {
     match next_number(text, at) {
         Next::Number(v, to) => {
-            if v <= (top as u64) {
-                return Got::Read(v as u32, to);
+            if v <= u64::from(top) {
+                Ok(Got {
+                    value: v as u32,
+                    to,
+                })
+            } else {
+                Err(refusal)
             }
-            Got::Refused(code)
         }
-        Next::Other => Got::Refused(30),
-        Next::End => Got::Refused(30),
+        Next::Other | Next::End => Err(Refusal::NoNumber),
     }
 }
 
 // The number v from `at` on: 30 where anything else stands there.
-pub fn next_exactly(text: &[u8], at: usize, v: u32) -> Got
+pub fn next_exactly(text: &[u8], at: usize, v: u32) -> Result<Got, Refusal>
     ensures { GotSays (exactly v (tokens (drop at text.now))) text.now result }
 {
-    match next_up_to(text, at, v, 30) {
-        Got::Read(x, to) => {
-            if x != v {
-                return Got::Refused(30);
-            }
-            Got::Read(x, to)
-        }
-        Got::Refused(c) => Got::Refused(c),
+    let got = next_up_to(text, at, v, Refusal::NoNumber)?;
+    if got.value == v {
+        Ok(got)
+    } else {
+        Err(Refusal::NoNumber)
     }
 }
 
@@ -52,9 +54,5 @@ pub fn next_exactly(text: &[u8], at: usize, v: u32) -> Got
 pub fn is_over(text: &[u8], at: usize) -> bool
     ensures { result ≡ none? (tokens (drop at text.now)) }
 {
-    match next_number(text, at) {
-        Next::Number(_, _) => false,
-        Next::Other => false,
-        Next::End => true,
-    }
+    matches!(next_number(text, at), Next::End)
 }

@@ -65,5 +65,9 @@ pub fn next_number(text: &[u8], at: usize) -> Next
     ensures { Heads (tokens (drop at text.now)) text.now result }
 {
     let i = skip(text, at);
-    if i < text.len() { token_at(text, i) } else { Next::End }
+    if i < text.len() {
+        token_at(text, i)
+    } else {
+        Next::End
+    }
 }

@@ -9,6 +9,8 @@ use lib.ListN.{length, drop, take, set, length-append, length-set}
 use lib.Seq.{take-suc-set}
 use Rattle.lists.specs.Lists.{◌!◌}
 use Rattle.lists.proofs.Lists.{set_any}
+use Rattle.std.specs.Prelude.{Ok, Err}
+use Rattle.answers.specs.declared.reasons.Refusal.{Refusal}
 use Rattle.joblist.specs.Limits.{most_time, most_jobs}
 use Rattle.chains.specs.Paths.{Pair, pair, Precedes, Below}
 use Rattle.texts.specs.Tokens.{Token, tokens}
@@ -16,9 +18,7 @@ use Rattle.texts.specs.Readings.{Read, bad, good}
 use Rattle.walking.specs.Walk.{Seen, seeing, add_pair, add_row, see, Fit, StepSays, WalkedSays}
 use Rattle.walking.specs.declared.Walk.{Walk}
 use Rattle.rowheads.specs.declared.Table.{Table}
-use Rattle.walking.specs.declared.Step.{Step}
 use Rattle.walking.specs.declared.Step.TheVariants.{Successor, Begun, Done}
-use Rattle.walking.specs.declared.Walked.{Walked}
 
 -- what is left, behind what was seen
 abbrev behind : List ℕ → List ℕ → List Pair → Read Seen → Read Seen
@@ -55,22 +55,8 @@ pub record Checking (n : ℕ) (table : Table) (res : ℕ) (t₀ : List Token) (s
   pub same : seeing n table res 0 0 t₀ ≡ behind (take w.next durs) (take w.next dems) ps (see n table res s w)
 
 module _ (n : ℕ) (table : Table) (res : ℕ) (s : List ℕ) where
-  pub checking_start : (at : ℕ) (durs dems : List ℕ) → length durs ≡ most_jobs → length dems ≡ most_jobs → ((j : ℕ) → durs ! j ≤ most_time)
-      → Checking n table res (tokens (drop at s)) s durs dems (record { next = 0; left = 0; at = at }) 0
-  checking_start at durs dems p q low = record {
-    fit = record { begun = omega arith; owned = omega arith };
-    room = omega arith;
-    ps = [];
-    count = refl;
-    range = λ a b r. absurd r;
-    long_durs = p;
-    long_dems = q;
-    low = low;
-    same = sym (behind-nil (seeing n table res 0 0 (tokens (drop at s))));
-  }
-
   module _ (t₀ : List Token) (durs dems : List ℕ) (w : Walk) (pairs : ℕ) (g : Checking n table res t₀ s durs dems w pairs) where
-    pub checking_successor : (v : ℕ) (u : Walk) → StepSays n table res s w (Successor v u) → Checking n table res t₀ s durs dems u (pairs + 1)
+    pub checking_successor : (v : ℕ) (u : Walk) → StepSays n table res s w (Ok (Successor v u)) → Checking n table res t₀ s durs dems u (pairs + 1)
     checking_successor v u t =
         let p : Pair = pair (w.next - 1) v in
         record {
@@ -87,34 +73,3 @@ module _ (n : ℕ) (table : Table) (res : ℕ) (s : List ℕ) where
               ∙ behind_pair (take w.next durs) (take w.next dems) g.ps p (see n table res s u)
               ∙ ap (λ (x : ℕ). behind (take x durs) (take x dems) (g.ps ++ p ∷ []) (see n table res s u)) (sym t.4);
         }
-
-    pub checking_begun : (d q : ℕ) (u : Walk) → n ≤ most_jobs → StepSays n table res s w (Begun d q u) → Checking n table res t₀ s (set durs w.next d) (set dems w.next q) u pairs
-    checking_begun d q u b t =
-        let below : w.next < most_jobs = omega (arith, t.5, t.1.begun) in
-        record {
-          fit = t.1;
-          room = omega (arith, g.room, t.4, t.5, t.6);
-          ps = g.ps;
-          count = g.count;
-          range = g.range;
-          low = λ j. set_any (λ (z : ℕ). z ≤ most_time) durs w.next d j (λ e. t.3) (g.low j);
-          long_durs = length-set durs w.next d ∙ g.long_durs;
-          long_dems = length-set dems w.next q ∙ g.long_dems;
-          same =
-              g.same ∙ ap (behind (take w.next durs) (take w.next dems) g.ps) t.0
-              ∙ behind_row (take w.next durs) (take w.next dems) g.ps d q (see n table res s u)
-              ∙ rw (t.5, add-one w.next, take-suc-set durs w.next d (rw g.long_durs below), take-suc-set dems w.next q (rw g.long_dems below));
-        }
-
-    pub checking_done : StepSays n table res s w Done → WalkedSays (seeing n table res 0 0 t₀) s n durs dems (Walked.Read pairs w.at)
-    checking_done t = (
-      record { durs = take n durs; dems = take n dems; pairs = g.ps },
-      g.same ∙ ap (behind (take w.next durs) (take w.next dems) g.ps) t.0 ∙ rw (t.1, append-nil (take n durs), append-nil (take n dems), append-nil g.ps),
-      refl,
-      refl,
-      g.count,
-      g.range,
-    )
-
-    pub checking_refused : (c : ℕ) → StepSays n table res s w (Step.Refused c) → WalkedSays (seeing n table res 0 0 t₀) s n durs dems (Walked.Refused c)
-    checking_refused c t = g.same ∙ ap (behind (take w.next durs) (take w.next dems) g.ps) t

@@ -1,6 +1,8 @@
 -- The rows of a text as code walks them: what is left at a place among them, and what the functions of this crate say. Durations and demands are
 -- kept in arrays for one resource; pairs are met one by one.
-use Rattle.std.specs.Prelude.{ℕ, ◌+◌, ◌-◌, ◌*◌, ◌≤◌, ◌<◌, ◌≡◌, List, [], ◌∷◌, ◌++◌, length, drop, take}
+use Rattle.std.specs.Prelude.{ℕ, ◌+◌, ◌-◌, ◌*◌, ◌≤◌, ◌<◌, ◌≡◌, List, [], ◌∷◌, ◌++◌, length, drop, take, Result, Ok, Err}
+use Rattle.answers.specs.declared.reasons.Refusal.{Refusal}
+use Rattle.answers.specs.Said.{number_of}
 use Rattle.joblist.specs.Limits.{most_time, most_jobs}
 use Rattle.chains.specs.Paths.{Pair, pair, Precedes, Below}
 use Rattle.texts.specs.Tokens.{Token, tokens}
@@ -50,16 +52,16 @@ abbrev pub Further : List ℕ → Walk → Walk → Type 0
 Further s w u = length (tokens (drop u.at s)) < length (tokens (drop w.at s))
 
 -- a step's answer: what is left before it, by what is left behind it
-abbrev pub StepSays : ℕ → Table → ℕ → List ℕ → Walk → Step → Type 0
-StepSays n table res s w (Successor v u) =
+abbrev pub StepSays : ℕ → Table → ℕ → List ℕ → Walk → Result Step Refusal → Type 0
+StepSays n table res s w (Ok (Successor v u)) =
     (see n table res s w ≡ add_pair (pair (w.next - 1) v) (see n table res s u)) × Fit n u × Further s w u × (v < n) × (u.next ≡ w.next) × (w.left ≡ u.left + 1)
-StepSays n table res s w (Begun d q u) =
+StepSays n table res s w (Ok (Begun d q u)) =
     (see n table res s w ≡ add_row d q (see n table res s u)) × Fit n u × Further s w u × (d ≤ most_time) × (w.left ≡ 0) × (u.next ≡ w.next + 1) × (u.left ≤ most_jobs)
-StepSays n table res s w Done = (see n table res s w ≡ good (record { durs = []; dems = []; pairs = [] }) (tokens (drop w.at s))) × (w.next ≡ n)
-StepSays n table res s w (Step.Refused c) = see n table res s w ≡ bad c
+StepSays n table res s w (Ok Done) = (see n table res s w ≡ good (record { durs = []; dems = []; pairs = [] }) (tokens (drop w.at s))) × (w.next ≡ n)
+StepSays n table res s w (Err c) = see n table res s w ≡ bad (number_of c)
 
 -- the rows checked: durations and demands stand in the first n places
-abbrev pub WalkedSays : Read Seen → List ℕ → ℕ → List ℕ → List ℕ → Walked → Type 0
-WalkedSays r s n durs dems (Walked.Read pairs to) =
-    (x : Seen) × (r ≡ good x (tokens (drop to s))) × (x.durs ≡ take n durs) × (x.dems ≡ take n dems) × (length x.pairs ≡ pairs) × Below n (Precedes x.pairs)
-WalkedSays r s n durs dems (Walked.Refused c) = r ≡ bad c
+abbrev pub WalkedSays : Read Seen → List ℕ → ℕ → List ℕ → List ℕ → Result Walked Refusal → Type 0
+WalkedSays r s n durs dems (Ok walked) =
+    (x : Seen) × (r ≡ good x (tokens (drop walked.at s))) × (x.durs ≡ take n durs) × (x.dems ≡ take n dems) × (length x.pairs ≡ walked.pairs) × Below n (Precedes x.pairs)
+WalkedSays r s n durs dems (Err c) = r ≡ bad (number_of c)

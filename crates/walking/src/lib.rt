@@ -8,8 +8,8 @@ ghost use Rattle.joblist.specs.Limits.{most_time, most_jobs};
 ghost use Rattle.texts.specs.Tokens.{tokens};
 ghost use Rattle.walking.specs.Walk.{Fit, StepSays, WalkedSays, seeing};
 
-use rowheads::{RowHead, Table};
-use scanner::Got;
+use answers::Refusal;
+use rowheads::Table;
 
 // A place among the rows: the next row, the successors left of the row before it, and the place in the text.
 #[derive(Clone, Copy)]
@@ -19,61 +19,44 @@ pub struct Walk {
     pub at: usize,
 }
 
-// A successor; a row's duration and demand; the end of the rows; a refusal.
-#[derive(Drop)]
+// A successor; a row's duration and demand; the end of the rows.
+#[derive(Clone, Copy)]
 pub enum Step {
     Successor(u32, Walk),
     Begun(u32, u32, Walk),
     Done,
-    Refused(u32),
 }
 
-// The number of pairs and the place behind the rows, or a refusal.
-#[derive(Drop)]
-pub enum Walked {
-    Read(usize, usize),
-    Refused(u32),
+// The number of pairs and the place behind the rows.
+#[derive(Clone, Copy)]
+pub struct Walked {
+    pub pairs: usize,
+    pub at: usize,
 }
 
 // One step along the rows.
-pub fn advance(text: &[u8], n: u32, table: Table, res: u32, w: Walk) -> Step
+pub fn advance(text: &[u8], n: u32, table: Table, res: u32, w: Walk) -> Result<Step, Refusal>
     requires { Fit n w × (n ≤ most_jobs) }
     ensures { StepSays n table res text.now w result }
 {
-    let at = w.at;
-    let next = w.next;
-    let left = w.left;
-    if 0 < left {
-        match rowheads::read_link(text, at, n) {
-            Got::Read(v, to) => {
-                return Step::Successor(
-                    v,
-                    Walk {
-                        next,
-                        left: left - 1,
-                        at: to,
-                    },
-                );
-            }
-            Got::Refused(c) => {
-                return Step::Refused(c);
-            }
-        }
-    }
-    if next == n {
-        return Step::Done;
-    }
-    match rowheads::read_front(text, at, n, table, next, res) {
-        RowHead::Read(d, q, m, to) => Step::Begun(
-            d,
-            q,
-            Walk {
-                next: next + 1,
-                left: m,
-                at: to,
-            },
-        ),
-        RowHead::Refused(c) => Step::Refused(c),
+    if 0 < w.left {
+        let successor = rowheads::read_link(text, w.at, n)?;
+        let rest = Walk {
+            left: w.left - 1,
+            at: successor.to,
+            ..w
+        };
+        Ok(Step::Successor(successor.value, rest))
+    } else if w.next == n {
+        Ok(Step::Done)
+    } else {
+        let head = rowheads::read_front(text, w.at, n, table, w.next, res)?;
+        let rest = Walk {
+            next: w.next + 1,
+            left: head.count,
+            at: head.to,
+        };
+        Ok(Step::Begun(head.duration, head.demand, rest))
     }
 }
 
@@ -86,7 +69,7 @@ pub fn validate(
     res: u32,
     dur: &mut [u32; screen::MOST_JOBS],
     dem: &mut [u32; screen::MOST_JOBS],
-) -> Walked
+) -> Result<Walked, Refusal>
     requires { (n ≤ most_jobs) × (length dur.old ≡ most_jobs) × (length dem.old ≡ most_jobs) × ((j : ℕ) → dur.old ! j ≤ most_time) }
     ensures { WalkedSays (seeing n table res 0 0 (tokens (drop at text.now))) text.now n dur.new dem.new result × (length dur.new ≡ most_jobs) × (length dem.new ≡ most_jobs) × ((j : ℕ) → dur.new ! j ≤ most_time) }
 {
@@ -97,7 +80,7 @@ pub fn validate(
     };
     let mut pairs: usize = 0;
     loop {
-        match advance(text, n, table, res, w) {
+        match advance(text, n, table, res, w)? {
             Step::Successor(_, u) => {
                 pairs += 1;
                 w = u;
@@ -109,11 +92,7 @@ pub fn validate(
                 w = u;
             }
             Step::Done => {
-                let to = w.at;
-                return Walked::Read(pairs, to);
-            }
-            Step::Refused(c) => {
-                return Walked::Refused(c);
+                return Ok(Walked { pairs, at: w.at });
             }
         }
     }

@@ -1,16 +1,18 @@
 -- `rowheads::read_count` meets its contract: one reading, behind a head that has the rest.
 use mathlib.Core.Path.{refl}
+use Rattle.std.proofs.lemmas.Result.{err_from_is_err_and}
 use Rattle.rowheads.specs.Heads.{with_count}
 use Rattle.rowheads.proofs.read_count.Goals as goal
 
-pub returns-in-Refused : goal.returns-in-Refused
+pub returns-in_err-count : goal.returns-in_err-count
 unfolding with_count
-returns-in-Refused c =
-    let r = rw c.in-Refused.is at c.next_up_to.ensures in
-    λ h res p q. rw r
+returns-in_err-count c =
+    let p = err_from_is_err_and c.from_residual.result c.from_residual.ensures.1 in
+    let r = c.in_err-count.ensures in
+    λ h res d q. rw (p.1, p.2, r)
 
-pub returns-in-Read : goal.returns-in-Read
+pub returns : goal.returns
 unfolding with_count
-returns-in-Read c =
-    let r = rw c.in-Read.is at c.next_up_to.ensures in
-    λ h res p q. (record { duration = h.duration; demands = h.demands; count = c.in-Read.m }, rw r, p, q, refl)
+returns c =
+    let r = c.in_ok-count.ensures in
+    λ h res d q. (record { duration = h.duration; demands = h.demands; count = c.in_ok-count.count.value }, rw r, d, q, refl)

@@ -1,16 +1,15 @@
 -- `rowheads::read_link` meets its contract.
+use Rattle.std.proofs.lemmas.Result.{err_from_is_err_and}
 use Rattle.rowheads.proofs.Numbers.{link_good, link_zero, link_bad}
 use Rattle.rowheads.proofs.read_link.Goals as goal
 
-pub returns-then-v-eq0 : goal.returns-then-v-eq0
-returns-then-v-eq0 c =
-    let q = rw c.in-Read.is at c.next_up_to.ensures in
-    link_zero _ _ _ _ q c.if-v-eq0.true
+pub returns-in_err-got : goal.returns-in_err-got
+returns-in_err-got c =
+    let p = err_from_is_err_and c.from_residual.result c.from_residual.ensures.1 in
+    rw (p.1, p.2) (link_bad _ _ _ c.in_err-got.ensures)
 
-pub returns-else-v-eq0 : goal.returns-else-v-eq0
-returns-else-v-eq0 c =
-    let q = rw c.in-Read.is at c.next_up_to.ensures in
-    link_good _ _ _ _ q c.if-v-eq0.false
+pub returns-then-got-eq0 : goal.returns-then-got-eq0
+returns-then-got-eq0 c = link_zero _ _ _ _ c.in_ok-got.ensures c.if-got-eq0.true
 
-pub returns-in-Refused : goal.returns-in-Refused
-returns-in-Refused c = link_bad _ _ _ (rw c.in-Refused.is at c.next_up_to.ensures)
+pub returns : goal.returns
+returns c = link_good _ _ _ _ c.in_ok-got.ensures c.if-got-eq0.false

@@ -1,32 +1,26 @@
 -- `rowheads::read_need` meets its contract: two readings, one after the other. A refusal of either is the refusal.
-use mathlib.Core.Path.{◌≡◌, refl}
-use lib.ListN.{drop}
-use Rattle.joblist.specs.Limits.{most_time}
-use Rattle.texts.specs.Tokens.{tokens}
-use Rattle.texts.specs.Readings.{good, one}
+use mathlib.Core.Path.{refl}
+use Rattle.std.proofs.lemmas.Result.{err_from_is_err_and}
 use Rattle.rowheads.specs.Heads.{need_head}
 use Rattle.rowheads.proofs.Numbers.{need_read}
 use Rattle.rowheads.proofs.read_need.Goals as goal
-use Rattle.rowheads.proofs.read_need.Goals.{In-Read}
 
--- the duration, once it is read
-duration : (e : In-Read) → let a = e.args in
-    one most_time 31 (tokens (drop a.at a.text.now)) ≡ good e.in-Read.d (tokens (drop e.in-Read.demands a.text.now))
-duration e = rw e.in-Read.is at e.next_up_to.ensures
-
-pub returns-in-Refused : goal.returns-in-Refused
+pub returns-in_err-duration : goal.returns-in_err-duration
 unfolding need_head
-returns-in-Refused c =
-    let r = rw c.in-Refused.is at c.next_up_to.ensures in
-    rw r
+returns-in_err-duration c =
+    let p = err_from_is_err_and c.from_residual.result c.from_residual.ensures.1 in
+    let d = c.in_err-duration.ensures in
+    rw (p.1, p.2, d)
 
-pub returns-in-Refused-read_numbers : goal.returns-in-Refused-read_numbers
+pub returns-in_err-demand : goal.returns-in_err-demand
 unfolding need_head
-returns-in-Refused-read_numbers c =
-    let r = rw c.in-Refused-read_numbers.is at c.read_numbers.ensures in
-    rw (duration (goal.at.returns-in-Refused-read_numbers c).In-Read, r)
+returns-in_err-demand c =
+    let p = err_from_is_err_and c.from_residual-in_err-demand.result c.from_residual-in_err-demand.ensures.1 in
+    let d = c.in_ok-duration.ensures in
+    let q = c.in_err-demand.ensures in
+    rw (p.1, p.2, d, q)
 
-pub returns-in-Read-read_numbers : goal.returns-in-Read-read_numbers
-returns-in-Read-read_numbers c =
-    let r = rw c.in-Read-read_numbers.is at c.read_numbers.ensures in
-    (_, need_read _ _ _ _ _ _ (duration (goal.at.returns-in-Read-read_numbers c).In-Read) r.1, refl, r.2, refl)
+pub returns : goal.returns
+returns c =
+    let q = c.in_ok-demand.ensures in
+    (_, need_read _ _ _ _ _ _ c.in_ok-duration.ensures q.1, refl, q.2, refl)
