@@ -6,6 +6,7 @@ use mathlib.Core.Bool.{true, false}
 use mathlib.Core.List.{List, [], ◌∷◌}
 use lib.ListN.{length, drop, take, length-map}
 use lib.Seq.{length-take-le}
+use Rattle.std.specs.Prelude.{Ok}
 use Rattle.joblist.specs.Limits.{most_jobs}
 use Rattle.chains.specs.Paths.{Precedes, Below}
 use Rattle.texts.specs.Tokens.{Token, tokens}
@@ -19,11 +20,9 @@ use Rattle.walking.specs.Comes.{only_pairs}
 use Rattle.parsing.specs.Parsed.{OpenSays, Parsing, ParsedSays}
 use Rattle.rowheads.specs.declared.Table.TheVariants.{Whole}
 use Rattle.parsing.specs.declared.Shape.{Shape}
-use Rattle.parsing.specs.declared.Parsed.{Parsed}
 use Rattle.parsing.specs.declared.Opened.{Opened}
 use Rattle.walking.specs.declared.Walked.{Walked}
-use Rattle.rowheads.proofs.Takes.{some_code}
-use Rattle.parsing.proofs.Limits.{patterson_takes, patterson_codes}
+use Rattle.parsing.proofs.Limits.{patterson_takes}
 use Rattle.walking.proofs.Rows.{rows_good, rows_bad, pairs_any}
 use Rattle.parsing.proofs.Whole.{project_bad, project_bad₂, project_over, project_good}
 
@@ -36,43 +35,36 @@ none_left : (ts : List Token) → none? ts ≡ true → ts ≡ []
 none_left [] e = refl
 none_left (t ∷ ts) e = let z : ◌≡◌ {A = ℕ} 0 1 = cc in absurd (omega arith)
 
--- a text that is refused, by a number
-abbrev Refused : List ℕ → ℕ → Type 0
-Refused s c = (patterson s ≡ bad c) × (c ≡ 0 → ⊥)
-
 module _ (s : List ℕ) (res : ℕ) where
-  refused : (c : ℕ) → patterson s ≡ bad c → Refused s c
-  refused c e = (e, some_code (patterson_codes s c e))
-
-  pub parsed_closed : (c : ℕ) → opening (tokens s) ≡ bad c → Refused s c
+  pub parsed_closed : (c : ℕ) → opening (tokens s) ≡ bad c → patterson s ≡ bad c
   unfolding patterson row row_in head_in
-  parsed_closed c e = refused c (project_bad (tokens s) c e)
+  parsed_closed c e = project_bad (tokens s) c e
 
-  module _ (n k cap at : ℕ) (q : OpenSays (opening (tokens s)) s res (Opened.Read n k cap at)) where
-    pub parsed_rows : (c : ℕ) → seeing n (Whole k) res 0 0 (tokens (drop at s)) ≡ bad c → Refused s c
+  module _ (z : Opened) (q : OpenSays (opening (tokens s)) s res (Ok z)) where
+    pub parsed_rows : (c : ℕ) → seeing z.n (Whole z.k) res 0 0 (tokens (drop z.at s)) ≡ bad c → patterson s ≡ bad c
     unfolding patterson row row_in head_in
-    parsed_rows c e = refused c (project_bad₂ (tokens s) (tokens (drop at s)) q.0 q.1 c (rw (q.2, q.3) (rows_bad n (Whole k) res (tokens (drop at s)) c e)))
+    parsed_rows c e = project_bad₂ (tokens s) (tokens (drop z.at s)) q.0 q.1 c (rw (q.2, q.3) (rows_bad z.n (Whole z.k) res (tokens (drop z.at s)) c e))
 
-    module _ (durs dems : List ℕ) (pairs to : ℕ) (f : WalkedSays (seeing n (Whole k) res 0 0 (tokens (drop at s))) s n durs dems (Walked.Read pairs to)) where
-      pub parsed_over : none? (tokens (drop to s)) ≡ false → Refused s 30
+    module _ (durs dems : List ℕ) (w : Walked) (f : WalkedSays (seeing z.n (Whole z.k) res 0 0 (tokens (drop z.at s))) s z.n durs dems (Ok w)) where
+      pub parsed_over : none? (tokens (drop w.at s)) ≡ false → patterson s ≡ bad 30
       unfolding patterson row row_in head_in
       parsed_over h =
-          let t = rows_good n (Whole k) res (tokens (drop at s)) (tokens (drop to s)) f.0 f.1 in
-          let l = some_left (tokens (drop to s)) h in
-          refused 30 (project_over (tokens s) (tokens (drop at s)) q.0 q.1 t.0 (tokens (drop to s)) (rw (q.2, q.3) t.1) l.0 l.1 l.2)
+          let t = rows_good z.n (Whole z.k) res (tokens (drop z.at s)) (tokens (drop w.at s)) f.0 f.1 in
+          let l = some_left (tokens (drop w.at s)) h in
+          project_over (tokens s) (tokens (drop z.at s)) q.0 q.1 t.0 (tokens (drop w.at s)) (rw (q.2, q.3) t.1) l.0 l.1 l.2
 
-      pub parsed_whole : length durs ≡ most_jobs → none? (tokens (drop to s)) ≡ true
-          → ParsedSays (patterson s) s res durs dems (Parsed.Read (record { n = n; k = k; cap = cap; pairs = pairs; table = Whole k; at = at }))
+      pub parsed_whole : length durs ≡ most_jobs → none? (tokens (drop w.at s)) ≡ true
+          → ParsedSays (patterson s) s res durs dems (Ok (record { n = z.n; k = z.k; cap = z.cap; pairs = w.pairs; table = Whole z.k; at = z.at }))
       unfolding patterson row row_in head_in
       parsed_whole l h =
-          let e = none_left (tokens (drop to s)) h in
-          let t = rows_good n (Whole k) res (tokens (drop at s)) (tokens (drop to s)) f.0 f.1 in
-          let ds : durations t.0 ≡ take n durs = sym (ap (λ (y : Seen). y.durs) t.2) ∙ f.2 in
-          let said = project_good (tokens s) (tokens (drop at s)) q.0 q.1 t.0 (tokens (drop to s)) (rw (q.2, q.3) t.1) e in (
+          let e = none_left (tokens (drop w.at s)) h in
+          let t = rows_good z.n (Whole z.k) res (tokens (drop z.at s)) (tokens (drop w.at s)) f.0 f.1 in
+          let ds : durations t.0 ≡ take z.n durs = sym (ap (λ (y : Seen). y.durs) t.2) ∙ f.2 in
+          let said = project_good (tokens s) (tokens (drop z.at s)) q.0 q.1 t.0 (tokens (drop w.at s)) (rw (q.2, q.3) t.1) e in (
             record { capacities = q.0.capacities; rows = t.0 },
             said,
             record {
-              jobs = sym (length-map t.0 (λ (r : Row). r.duration)) ∙ ap length ds ∙ length-take-le n durs (omega (arith, q.5));
+              jobs = sym (length-map t.0 (λ (r : Row). r.duration)) ∙ ap length ds ∙ length-take-le z.n durs (omega (arith, q.5));
               resources = q.6;
               cap = q.4;
               durs_are = ds;
@@ -80,7 +72,7 @@ module _ (s : List ℕ) (res : ℕ) where
               count = ap (λ (y : Seen). length y.pairs) (sym t.2) ∙ f.4;
               end = [];
               come =
-                  pairs_any n (Whole k) 0 res 0 0 (tokens (drop at s)) ∙ ap only_pairs f.1 ∙ ap (λ (y : Seen). good y.pairs (tokens (drop to s))) t.2
+                  pairs_any z.n (Whole z.k) 0 res 0 0 (tokens (drop z.at s)) ∙ ap only_pairs f.1 ∙ ap (λ (y : Seen). good y.pairs (tokens (drop w.at s))) t.2
                   ∙ ap (λ (u : List Token). good (pairs_from 0 t.0) u) e;
               limits = (patterson_takes s [] _ said).within;
             },

@@ -1,6 +1,8 @@
 -- A text read whole, whatever its layout: what it says, with durations and demands in arrays, and where its pairs can be read again.
-use Rattle.std.specs.Prelude.{ℕ, ◌≤◌, ◌≡◌, List, [], length, drop, take}
+use Rattle.std.specs.Prelude.{ℕ, ◌≤◌, ◌≡◌, List, [], length, drop, take, Result, Ok, Err}
 use Rattle.lists.specs.Lists.{◌!◌}
+use Rattle.answers.specs.declared.reasons.Refusal.{Refusal}
+use Rattle.answers.specs.Said.{number_of}
 use Rattle.joblist.specs.Limits.{most_jobs}
 use Rattle.texts.specs.Tokens.{Token, tokens}
 use Rattle.texts.specs.Readings.{Read, bad, good}
@@ -9,13 +11,12 @@ use Rattle.projects.specs.Patterson.{Opening}
 use Rattle.walking.specs.Comes.{comes, rows_at}
 use Rattle.parsing.specs.declared.Opened.{Opened}
 use Rattle.parsing.specs.declared.Shape.{Shape}
-use Rattle.parsing.specs.declared.Parsed.{Parsed}
 
 -- the counts, and one of the capacities
-abbrev pub OpenSays : Read Opening → List ℕ → ℕ → Opened → Type 0
-OpenSays r s res (Opened.Read n k cap at) =
-    (o : Opening) × (r ≡ good o (tokens (drop at s))) × (o.jobs ≡ n) × (o.resources ≡ k) × (o.capacities ! res ≡ cap) × (n ≤ most_jobs) × (length o.capacities ≡ k)
-OpenSays r s res (Opened.Refused c) = r ≡ bad c
+abbrev pub OpenSays : Read Opening → List ℕ → ℕ → Result Opened Refusal → Type 0
+OpenSays r s res (Ok z) =
+    (o : Opening) × (r ≡ good o (tokens (drop z.at s))) × (o.jobs ≡ z.n) × (o.resources ≡ z.k) × (o.capacities ! res ≡ z.cap) × (z.n ≤ most_jobs) × (length o.capacities ≡ z.k)
+OpenSays r s res (Err c) = r ≡ bad (number_of c)
 
 -- a text that says x, and where things stand
 pub record Parsing (s : List ℕ) (res : ℕ) (durs dems : List ℕ) (z : Shape) (x : Project) : Type 0 where
@@ -29,7 +30,7 @@ pub record Parsing (s : List ℕ) (res : ℕ) (durs dems : List ℕ) (z : Shape)
   pub come : comes z.n z.table s (rows_at z.at) ≡ good (pairs_of x) end
   pub limits : WithinLimits x
 
--- by the answer: the text says a project, or meets a refusal, which has a number
-abbrev pub ParsedSays : Read Project → List ℕ → ℕ → List ℕ → List ℕ → Parsed → Type 0
-ParsedSays r s res durs dems (Parsed.Read z) = (x : Project) × (r ≡ good x []) × Parsing s res durs dems z x
-ParsedSays r s res durs dems (Parsed.Refused c) = (r ≡ bad c) × (c ≡ 0 → ⊥)
+-- by the answer: the text says a project, or meets a refusal
+abbrev pub ParsedSays : Read Project → List ℕ → ℕ → List ℕ → List ℕ → Result Shape Refusal → Type 0
+ParsedSays r s res durs dems (Ok z) = (x : Project) × (r ≡ good x []) × Parsing s res durs dems z x
+ParsedSays r s res durs dems (Err c) = r ≡ bad (number_of c)

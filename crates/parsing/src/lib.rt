@@ -8,19 +8,20 @@ ghost use Rattle.texts.specs.Tokens.{tokens};
 ghost use Rattle.projects.specs.Patterson.{opening, patterson};
 ghost use Rattle.parsing.specs.Parsed.{OpenSays, ParsedSays};
 
+use answers::Refusal;
 use rowheads::Table;
-use scanner::Got;
-use walking::Walked;
 
-// Job count, resource count, the chosen capacity (0 where there is no such resource) and the place of the rows; or a refusal.
-#[derive(Drop)]
-enum Opened {
-    Read(u32, u32, u32, usize),
-    Refused(u32),
+// Job count, resource count, the chosen capacity (0 where there is no such resource) and the place of the rows.
+#[derive(Clone, Copy)]
+struct Opened {
+    n: u32,
+    k: u32,
+    cap: u32,
+    at: usize,
 }
 
 // Job count, resource count, the chosen capacity, the pair count, and where the rows with the pairs stand.
-#[derive(Drop)]
+#[derive(Clone, Copy)]
 pub struct Shape {
     pub n: u32,
     pub k: u32,
@@ -30,27 +31,30 @@ pub struct Shape {
     pub at: usize,
 }
 
-// A text read whole, or its refusal.
-#[derive(Drop)]
-pub enum Parsed {
-    Read(Shape),
-    Refused(u32),
-}
-
 // The counts and the capacities.
-fn open_text(text: &[u8], res: u32) -> Opened
+fn open_text(text: &[u8], res: u32) -> Result<Opened, Refusal>
     ensures { OpenSays (opening (tokens text.now)) text.now res result }
 {
-    match scanner::next_up_to(text, 0, screen::MOST_JOBS as u32, 31) {
-        Got::Refused(c) => Opened::Refused(c),
-        Got::Read(n, a) => match scanner::next_up_to(text, a, screen::MOST_RESOURCES, 31) {
-            Got::Refused(c) => Opened::Refused(c),
-            Got::Read(k, b) => match rowheads::read_numbers(text, b, k, screen::MOST_DEMAND, res) {
-                Got::Refused(c) => Opened::Refused(c),
-                Got::Read(cap, at) => Opened::Read(n, k, cap, at),
-            },
-        },
-    }
+    let jobs = scanner::next_up_to(text, 0, screen::MOST_JOBS as u32, Refusal::AboveLimit)?;
+    let resources = scanner::next_up_to(
+        text,
+        jobs.to,
+        screen::MOST_RESOURCES,
+        Refusal::AboveLimit,
+    )?;
+    let capacity = rowheads::read_numbers(
+        text,
+        resources.to,
+        resources.value,
+        screen::MOST_DEMAND,
+        res,
+    )?;
+    Ok(Opened {
+        n: jobs.value,
+        k: resources.value,
+        cap: capacity.value,
+        at: capacity.to,
+    })
 }
 
 // A whole text of the Patterson layout, durations and demands kept.
@@ -59,30 +63,22 @@ pub fn parse(
     res: u32,
     dur: &mut [u32; screen::MOST_JOBS],
     dem: &mut [u32; screen::MOST_JOBS],
-) -> Parsed
+) -> Result<Shape, Refusal>
     requires { (length dur.old ≡ most_jobs) × (length dem.old ≡ most_jobs) × ((j : ℕ) → dur.old ! j ≤ most_time) }
     ensures { ParsedSays (patterson text.now) text.now res dur.new dem.new result × (length dur.new ≡ most_jobs) × (length dem.new ≡ most_jobs) × ((j : ℕ) → dur.new ! j ≤ most_time) }
 {
-    match open_text(text, res) {
-        Opened::Refused(c) => Parsed::Refused(c),
-        Opened::Read(n, k, cap, at) => {
-            let table = Table::Whole(k);
-            match walking::validate(text, at, n, table, res, dur, dem) {
-                Walked::Refused(c) => Parsed::Refused(c),
-                Walked::Read(pairs, to) => {
-                    if !scanner::is_over(text, to) {
-                        return Parsed::Refused(30);
-                    }
-                    Parsed::Read(Shape {
-                        n,
-                        k,
-                        cap,
-                        pairs,
-                        table,
-                        at,
-                    })
-                }
-            }
-        }
+    let opened = open_text(text, res)?;
+    let table = Table::Whole(opened.k);
+    let walked = walking::validate(text, opened.at, opened.n, table, res, dur, dem)?;
+    if !scanner::is_over(text, walked.at) {
+        return Err(Refusal::NoNumber);
     }
+    Ok(Shape {
+        n: opened.n,
+        k: opened.k,
+        cap: opened.cap,
+        pairs: walked.pairs,
+        table,
+        at: opened.at,
+    })
 }

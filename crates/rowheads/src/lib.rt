@@ -60,10 +60,7 @@ pub fn read_numbers(text: &[u8], at: usize, m: u32, top: u32, res: u32) -> Resul
         }
         to = got.to;
     }
-    Ok(Got {
-        value: picked,
-        to,
-    })
+    Ok(Got { value: picked, to })
 }
 
 // A duration and a demand for each of k resources.
@@ -102,7 +99,14 @@ fn read_numbered(text: &[u8], at: usize, j: u32) -> Result<Got, Refusal>
 }
 
 // What stands before the successors of row j.
-pub fn read_front(text: &[u8], at: usize, n: u32, table: Table, j: u32, res: u32) -> Result<RowHead, Refusal>
+pub fn read_front(
+    text: &[u8],
+    at: usize,
+    n: u32,
+    table: Table,
+    j: u32,
+    res: u32,
+) -> Result<RowHead, Refusal>
     requires { j < most_jobs }
     ensures { HeadSays (head_in table n j (tokens (drop at text.now))) text.now res result }
 {

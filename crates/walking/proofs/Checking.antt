@@ -1,24 +1,20 @@
 -- All rows, step by step: durations and demands stand in the arrays as far as the walk has come, and the pairs met so far are counted.
 use Prim.Native.Nat.{ℕ, ◌+◌, ◌-◌, ◌*◌, ◌≤◌, ◌<◌}
 use native.Mathlib.Omega.{arith}
-use native.Mathlib.Numerals.{add-one}
 use mathlib.Core.Path.{◌≡◌, refl, sym, ap, ◌∙◌}
-use mathlib.Core.List.{List, [], ◌∷◌, ◌++◌, append_assoc, append-nil}
+use mathlib.Core.List.{List, [], ◌∷◌, ◌++◌, append_assoc}
 use mathlib.Core.Logic.{inl, inr}
-use lib.ListN.{length, drop, take, set, length-append, length-set}
-use lib.Seq.{take-suc-set}
+use lib.ListN.{length, take, length-append}
 use Rattle.lists.specs.Lists.{◌!◌}
-use Rattle.lists.proofs.Lists.{set_any}
-use Rattle.std.specs.Prelude.{Ok, Err}
-use Rattle.answers.specs.declared.reasons.Refusal.{Refusal}
+use Rattle.std.specs.Prelude.{Ok}
 use Rattle.joblist.specs.Limits.{most_time, most_jobs}
 use Rattle.chains.specs.Paths.{Pair, pair, Precedes, Below}
-use Rattle.texts.specs.Tokens.{Token, tokens}
+use Rattle.texts.specs.Tokens.{Token}
 use Rattle.texts.specs.Readings.{Read, bad, good}
-use Rattle.walking.specs.Walk.{Seen, seeing, add_pair, add_row, see, Fit, StepSays, WalkedSays}
+use Rattle.walking.specs.Walk.{Seen, seeing, add_pair, add_row, see, Fit, StepSays}
 use Rattle.walking.specs.declared.Walk.{Walk}
 use Rattle.rowheads.specs.declared.Table.{Table}
-use Rattle.walking.specs.declared.Step.TheVariants.{Successor, Begun, Done}
+use Rattle.walking.specs.declared.Step.TheVariants.{Successor}
 
 -- what is left, behind what was seen
 abbrev behind : List ℕ → List ℕ → List Pair → Read Seen → Read Seen

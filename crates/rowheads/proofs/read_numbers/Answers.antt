@@ -18,7 +18,7 @@ returns-in_err-got c =
 pub loop-i-preserved : goal.loop-i-preserved
 loop-i-preserved c =
     let e : c.if-i-res.picked ≡ pick (eqb c.loop-i.i c.args.res) c.in_ok-got.got.value c.loop-i.picked =
-        elim c.if-i-res.branch [ then-i-res w ↦ w.picked-is ∙ rw (eq-eqb _ _ w.if-i-res.true) | else-i-res w ↦ w.picked-is ∙ rw (ne_eqb _ _ w.if-i-res.false) ] in
+    elim c.if-i-res.branch [ then-i-res w ↦ w.picked-is ∙ rw (eq-eqb _ _ w.if-i-res.true) | else-i-res w ↦ w.picked-is ∙ rw (ne_eqb _ _ w.if-i-res.false) ] in
     picking_step _ _ _ _ _ _ _ _ c.loop-i.invariant _ _ _ c.loop-i-test.true c.in_ok-got.ensures e
 
 pub returns : goal.returns
