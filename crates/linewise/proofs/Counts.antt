@@ -1,5 +1,5 @@
 -- The number behind a line's colon, where code finds it; and lines passed over one by one.
-use Prim.Native.Nat.{ℕ, zero, suc, ◌-◌, ◌<◌}
+use Prim.Native.Nat.{ℕ, suc, ◌+◌, ◌-◌, ◌<◌}
 use native.Mathlib.Omega.{arith}
 use mathlib.Core.Path.{◌≡◌, sym, ap, ◌∙◌}
 use mathlib.Core.List.{List}
@@ -21,7 +21,6 @@ pub lines_none : (m : ℕ) (s : List ℕ) → m ≡ 0 → s ≡ behind_lines m s
 unfolding behind_lines
 lines_none m s e = rw e
 
-pub lines_step : (m : ℕ) (s t : List ℕ) → 0 < m → t ≡ next_line s → behind_lines m s ≡ behind_lines (m - 1) t
+pub lines_step : (m k : ℕ) (s t : List ℕ) → k < m → t ≡ next_line s → behind_lines (m - k) s ≡ behind_lines (m - (k + 1)) t
 unfolding behind_lines
-lines_step zero s t h e = absurd (omega arith)
-lines_step (suc m) s t h e = let z : suc m - 1 ≡ m = omega arith in rw (z, e)
+lines_step m k s t h e = let z : m - k ≡ suc (m - (k + 1)) = omega (arith, h) in rw (z, e)

@@ -1,11 +1,14 @@
 -- The text at a place, by the byte that stands there: bytes compared one by one, spaces, the first of a kind of byte, the rest of a line.
-use Prim.Native.Nat.{ℕ, ◌+◌, ◌-◌, ◌≤◌, ◌<◌}
+use Prim.Native.Nat.{ℕ, zero, suc, ◌+◌, ◌-◌, ◌≤◌, ◌<◌, min}
 use native.Mathlib.Numerals.{add-one}
 use native.Mathlib.Omega.{arith}
 use mathlib.Core.Path.{◌≡◌, refl, ap}
-use mathlib.Core.Bool.{true, false}
+use mathlib.Core.Bool.{Bool, true, false, ◌&&◌}
+use mathlib.Core.Logic.{◌⊎◌, inl, inr}
 use mathlib.Core.List.{List, [], ◌∷◌}
-use lib.Dec.{eqb, eqb-suc-zero}
+use lib.Dec.{eqb, eqb-zero-suc, eqb-suc-zero, eqb-suc-suc}
+use lib.Pointwise.{pointwise}
+use Rattle.std.proofs.lemmas.Bool.{cases_lt}
 use lib.ListN.{length, take, drop, length-drop, drop_of_length-le}
 use lib.Seq.{drop-cons, take_all, slice_empty, slice-cons}
 use borrow.Author.Tests.{eq-eqb, ne_eqb}
@@ -15,41 +18,52 @@ use Rattle.headings.specs.Lines.{line, behind}
 use Rattle.headings.specs.Headings.{starts_with, unspaced}
 use Rattle.linewise.specs.Says.{LineTo}
 
+-- behind the end is nothing
+over : (s : List ℕ) → drop (length s) s ≡ []
+over s = drop_of_length-le s (omega arith)
+
 -- ---- bytes compared
 
-module _ (word s : List ℕ) (i : ℕ) where
-  pub starts_step : i < length word → i < length s → starts_with (drop i word) (drop i s) ≡ both (eqb (s ! i) (word ! i)) (starts_with (drop (i + 1) word) (drop (i + 1) s))
-  unfolding starts_with
-  starts_step h k = rw (add-one, drop-cons word i 0, drop-cons s i 0)
+eqb_sym : (a b : ℕ) → eqb a b ≡ eqb b a
+eqb_sym zero zero = refl
+eqb_sym zero (suc b) = rw (eqb-zero-suc b, eqb-suc-zero b)
+eqb_sym (suc a) zero = rw (eqb-zero-suc a, eqb-suc-zero a)
+eqb_sym (suc a) (suc b) = rw (eqb-suc-suc a b, eqb-suc-suc b a) (eqb_sym a b)
 
-  pub starts_short : i < length word → length s ≤ i → starts_with (drop i word) (drop i s) ≡ false
-  unfolding starts_with
-  starts_short h k = rw (drop-cons word i 0, drop_of_length-le s k)
-
-  pub starts_end : length word ≤ i → starts_with (drop i word) (drop i s) ≡ true
-  unfolding starts_with
-  starts_end h = rw (drop_of_length-le word h)
-
--- behind the end no bytes stand
-pub starts_past : (word s : List ℕ) (at : ℕ) → length s ≤ at → eqb (length word) 0 ≡ starts_with word (drop at s)
+-- std's test is the same
+starts_is : (word s : List ℕ) → pointwise eqb word (take (length word) s) ≡ starts_with word s
 unfolding starts_with
-starts_past [] s at h = refl
-starts_past (w ∷ ws) s at h = rw (eqb-suc-zero (length ws), drop_of_length-le s h)
+starts_is [] s = refl
+starts_is (w ∷ ws) [] = refl
+starts_is (w ∷ ws) (b ∷ s) = rw (eqb_sym w b, starts_is ws s) (go (eqb b w) (starts_with ws s))
+  where
+    go : (t u : Bool) → t && u ≡ both t u
+    go true u = refl
+    go false u = refl
 
--- a part up to the end
-pub part-rest : (s : List ℕ) (at : ℕ) → take (length s - at) (drop at s) ≡ drop at s
-part-rest s at = take_all (length s - at) (drop at s) (omega (arith, length-drop at s))
+-- behind the end no bytes stand, as at the end
+drop_least : (s : List ℕ) (at : ℕ) → drop (min at (length s)) s ≡ drop at s
+drop_least s at = go (cases_lt at (length s))
+  where
+    go : (at < length s) ⊎ (length s ≤ at) → drop (min at (length s)) s ≡ drop at s
+    go (inl h) = let e : min at (length s) ≡ at = omega arith in rw e
+    go (inr h) = let e : min at (length s) ≡ length s = omega arith in rw (e, over s, drop_of_length-le s h)
+
+-- std's test of the part up to the end
+pub starts_part : (word s : List ℕ) (at k : ℕ) → k ≡ min at (length s)
+    → pointwise eqb word (take (length word) (take (length s - k) (drop k s))) ≡ starts_with word (drop at s)
+starts_part word s at k e = rw (take_all (length s - k) (drop k s) (omega (arith, length-drop k s)), e, drop_least s at) (starts_is word (drop at s))
 
 -- ---- the first byte of a kind
 
 module _ (s : List ℕ) (i : ℕ) where
-  pub unspaced_end : length s ≤ i → drop i s ≡ unspaced (drop i s)
+  pub unspaced_end : length s ≤ i → drop (length s) s ≡ unspaced (drop i s)
   unfolding unspaced
-  unspaced_end h = rw (drop_of_length-le s h)
+  unspaced_end h = rw (over s, drop_of_length-le s h)
 
-  pub behind_end : (b : ℕ) → length s ≤ i → drop i s ≡ behind b (drop i s)
+  pub behind_end : (b : ℕ) → length s ≤ i → drop (length s) s ≡ behind b (drop i s)
   unfolding behind
-  behind_end b h = rw (drop_of_length-le s h)
+  behind_end b h = rw (over s, drop_of_length-le s h)
 
   module _ (h : i < length s) where
     pub unspaced_space : s ! i ≡ 32 → unspaced (drop i s) ≡ unspaced (drop (i + 1) s)

@@ -7,68 +7,37 @@ ghost use Rattle.headings.specs.Lines.{behind, next_line, behind_lines, counted}
 ghost use Rattle.headings.specs.Headings.{starts_with, unspaced};
 ghost use Rattle.linewise.specs.Says.{LineTo, CountSays};
 
-use scanner::Got;
-
-// A number, or a refusal.
-#[derive(Drop)]
-pub enum Count {
-    Read(u32),
-    Refused(u32),
-}
-
-// Whether the text starts with these bytes.
-fn starts_with(text: &[u8], word: &[u8]) -> bool
-    ensures { result ≡ starts_with word.now text.now }
-{
-    let mut i = 0;
-    while i < word.len() {
-        if text.len() <= i {
-            return false;
-        }
-        if text[i] != word[i] {
-            return false;
-        }
-        i += 1;
-    }
-    true
-}
+use answers::Refusal;
 
 // Whether these bytes stand at `at`.
 pub fn starts_at(text: &[u8], at: usize, word: &[u8]) -> bool
     ensures { result ≡ starts_with word.now (drop at text.now) }
 {
-    if text.len() < at {
-        return word.len() == 0;
-    }
-    starts_with(&text[at..], word)
+    text[at.min(text.len())..].starts_with(word)
 }
 
 // The first place from `at` on that has no space.
 pub fn unspaced_at(text: &[u8], at: usize) -> usize
     ensures { drop result text.now ≡ unspaced (drop at text.now) }
 {
-    let mut i = at;
-    while i < text.len() {
+    for i in at..text.len() {
         if text[i] != b' ' {
             return i;
         }
-        i += 1;
     }
-    i
+    text.len()
 }
 
 // The place behind the first byte b from `at` on; the text's end where there is none.
 fn behind(text: &[u8], at: usize, b: u8) -> usize
     ensures { drop result text.now ≡ behind b (drop at text.now) }
 {
-    let mut i = at;
-    while i < text.len() {
+    for i in at..text.len() {
         if text[i] == b {
             return i + 1;
         }
-        i += 1;
     }
-    i
+    text.len()
 }
 
 // The start of the next line; the text's end where there is none.
@@ -82,12 +51,10 @@ pub fn next_line(text: &[u8], at: usize) -> usize
 fn line_end(text: &[u8], at: usize) -> usize
     ensures { LineTo text.now at result }
 {
-    let mut i = at;
-    while i < text.len() {
+    for i in at..text.len() {
         if text[i] == b'\n' {
             return i;
         }
-        i += 1;
     }
     text.len()
 }
@@ -97,22 +64,19 @@ pub fn behind_lines(text: &[u8], at: usize, m: u32) -> usize
     ensures { drop result text.now ≡ behind_lines m (drop at text.now) }
 {
     let mut to = at;
-    let mut left = m;
-    while 0 < left {
+    for _ in 0..m {
         to = next_line(text, to);
-        left -= 1;
     }
     to
 }
 
 // The number behind the first colon of the line from `at` on: 30 where none stands there, 31 where it is above `top`.
-pub fn count_at(text: &[u8], at: usize, top: u32) -> Count
+pub fn count_at(text: &[u8], at: usize, top: u32) -> Result<u32, Refusal>
     ensures { CountSays (counted top (drop at text.now)) result }
 {
     let end = line_end(text, at);
     let line = &text[..end];
-    match scanner::next_up_to(line, behind(line, at, b':'), top, 31) {
-        Got::Read(v, _) => Count::Read(v),
-        Got::Refused(c) => Count::Refused(c),
-    }
+    let from = behind(line, at, b':');
+    let got = scanner::next_up_to(line, from, top, Refusal::AboveLimit)?;
+    Ok(got.value)
 }
