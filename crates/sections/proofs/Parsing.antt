@@ -4,6 +4,7 @@ use mathlib.Core.Path.{◌≡◌, sym, ap, ◌∙◌}
 use mathlib.Core.Bool.{true, false}
 use mathlib.Core.List.{List, [], map}
 use lib.ListN.{length, drop, take}
+use Rattle.std.specs.Prelude.{Ok}
 use Rattle.lists.specs.Lists.{◌!◌}
 use Rattle.joblist.specs.Limits.{most_demand, most_jobs, most_resources}
 use Rattle.texts.specs.Tokens.{Token, tokens}
@@ -18,13 +19,11 @@ use Rattle.walking.specs.Comes.{only_pairs, comes, rows_at}
 use Rattle.parsing.specs.Parsed.{ParsedSays}
 use Rattle.rowheads.specs.declared.Table.TheVariants.{Relations, Requests}
 use Rattle.walking.specs.declared.Walked.{Walked}
-use Rattle.parsing.specs.declared.Parsed.{Parsed}
-use Rattle.rowheads.proofs.Takes.{some_code}
 use Rattle.rowheads.proofs.Tables.{linked, needed, relations_said, requests_said}
 use Rattle.walking.proofs.Rows.{viewed, rows_good, rows_bad, pairs_any}
 use Rattle.psplib.specs.Psplib.{join, tables, sections, psplib}
 use Rattle.psplib.proofs.Joined.{join_long, join_pairs, join_durations, join_demands}
-use Rattle.psplib.proofs.Limits.{relations_take, requests_take, tables_take, tables_codes, psplib_codes, psplib_some}
+use Rattle.psplib.proofs.Limits.{relations_take, requests_take, tables_take}
 
 -- the relations read, whose pairs can be read again from `at` on
 pub record Related (n : ℕ) (s relations : List ℕ) (at pairs : ℕ) : Type 0 where
@@ -46,33 +45,32 @@ module _ (n res : ℕ) (s relations : List ℕ) (at : ℕ) (here : drop at s ≡
   no_relation : (c : ℕ) → seeing n Relations res 0 0 (tokens (drop at s)) ≡ bad c → in_turn (relation n) 0 n (tokens (behind_lines 2 relations)) ≡ bad c
   no_relation c e = said_bad (map linked) _ c (sym (relations_said n (tokens (behind_lines 2 relations))) ∙ rw (← here) (rows_bad n Relations res (tokens (drop at s)) c e))
 
-  pub relations_read : (durs dems : List ℕ) (pairs to : ℕ) → WalkedSays (seeing n Relations res 0 0 (tokens (drop at s))) s n durs dems (Walked.Read pairs to)
-      → Related n s relations at pairs
-  relations_read durs dems pairs to f =
-      let t = rows_good n Relations res (tokens (drop at s)) (tokens (drop to s)) f.0 f.1 in
-      let q = said_good (map linked) (in_turn (relation n) 0 n (tokens (drop at s))) t.0 (tokens (drop to s)) (sym (relations_said n (tokens (drop at s))) ∙ t.1) in
+  pub relations_read : (durs dems : List ℕ) (w : Walked) → WalkedSays (seeing n Relations res 0 0 (tokens (drop at s))) s n durs dems (Ok w) → Related n s relations at w.pairs
+  relations_read durs dems w f =
+      let t = rows_good n Relations res (tokens (drop at s)) (tokens (drop w.at s)) f.0 f.1 in
+      let q = said_good (map linked) (in_turn (relation n) 0 n (tokens (drop at s))) t.0 (tokens (drop w.at s)) (sym (relations_said n (tokens (drop at s))) ∙ t.1) in
       let v : f.0 ≡ viewed res (map linked q.0) = t.2 ∙ ap (viewed res) q.2 in
       record {
         sss = q.0;
-        end = tokens (drop to s);
+        end = tokens (drop w.at s);
         read = rw (← here) q.1;
         count = ap (λ (y : Seen). length y.pairs) (sym v) ∙ f.4;
-        come = pairs_any n Relations 0 res 0 0 (tokens (drop at s)) ∙ ap only_pairs f.1 ∙ ap (λ (y : Seen). good y.pairs (tokens (drop to s))) v;
+        come = pairs_any n Relations 0 res 0 0 (tokens (drop at s)) ∙ ap only_pairs f.1 ∙ ap (λ (y : Seen). good y.pairs (tokens (drop w.at s))) v;
       }
 
 module _ (n k res : ℕ) (s requests : List ℕ) (to : ℕ) (here : drop to s ≡ behind_lines 3 requests) where
   no_request : (c : ℕ) → seeing n (Requests k) res 0 0 (tokens (drop to s)) ≡ bad c → in_turn (request k) 0 n (tokens (behind_lines 3 requests)) ≡ bad c
   no_request c e = said_bad (map needed) _ c (sym (requests_said n k (tokens (behind_lines 3 requests))) ∙ rw (← here) (rows_bad n (Requests k) res (tokens (drop to s)) c e))
 
-  pub requests_read : (durs dems : List ℕ) (m end : ℕ) → WalkedSays (seeing n (Requests k) res 0 0 (tokens (drop to s))) s n durs dems (Walked.Read m end)
+  pub requests_read : (durs dems : List ℕ) (w : Walked) → WalkedSays (seeing n (Requests k) res 0 0 (tokens (drop to s))) s n durs dems (Ok w)
       → Requested n k res requests durs dems
-  requests_read durs dems m end f =
-      let t = rows_good n (Requests k) res (tokens (drop to s)) (tokens (drop end s)) f.0 f.1 in
-      let q = said_good (map needed) (in_turn (request k) 0 n (tokens (drop to s))) t.0 (tokens (drop end s)) (sym (requests_said n k (tokens (drop to s))) ∙ t.1) in
+  requests_read durs dems w f =
+      let t = rows_good n (Requests k) res (tokens (drop to s)) (tokens (drop w.at s)) f.0 f.1 in
+      let q = said_good (map needed) (in_turn (request k) 0 n (tokens (drop to s))) t.0 (tokens (drop w.at s)) (sym (requests_said n k (tokens (drop to s))) ∙ t.1) in
       let v : f.0 ≡ viewed res (map needed q.0) = t.2 ∙ ap (viewed res) q.2 in
       record {
         qs = q.0;
-        end = tokens (drop end s);
+        end = tokens (drop w.at s);
         read = rw (← here) q.1;
         durs_are = sym (ap (λ (y : Seen). y.durs) v) ∙ f.2;
         dems_are = sym (ap (λ (y : Seen). y.dems) v) ∙ f.3;
@@ -81,31 +79,28 @@ module _ (n k res : ℕ) (s requests : List ℕ) (to : ℕ) (here : drop to s �
 module _ (n k res : ℕ) (s relations requests capacities : List ℕ) where
   -- a refusal, by its number
   abbrev Refused : ℕ → Type 0
-  Refused c = (tables n k relations requests capacities ≡ bad c) × (c ≡ 0 → ⊥)
-
-  refused : (c : ℕ) → tables n k relations requests capacities ≡ bad c → Refused c
-  refused c e = (e, some_code (tables_codes n k relations requests capacities c e))
+  Refused c = tables n k relations requests capacities ≡ bad c
 
   module _ (at : ℕ) (here : drop at s ≡ behind_lines 2 relations) where
     pub no_relations : (c : ℕ) → seeing n Relations res 0 0 (tokens (drop at s)) ≡ bad c → Refused c
     unfolding tables
-    no_relations c e = refused c (rw (no_relation n res s relations at here c e))
+    no_relations c e = rw (no_relation n res s relations at here c e)
 
   module _ (at pairs : ℕ) (r : Related n s relations at pairs) where
     module _ (to : ℕ) (here : drop to s ≡ behind_lines 3 requests) where
       pub no_requests : (c : ℕ) → seeing n (Requests k) res 0 0 (tokens (drop to s)) ≡ bad c → Refused c
       unfolding tables
-      no_requests c e = refused c (rw (r.read, no_request n k res s requests to here c e))
+      no_requests c e = rw (r.read, no_request n k res s requests to here c e)
 
     module _ (durs dems : List ℕ) (q : Requested n k res requests durs dems) (from : ℕ) (here : drop from s ≡ behind_lines 2 capacities) where
       pub no_capacities : (c : ℕ) → numbers_up_to most_demand k (tokens (drop from s)) ≡ bad c → Refused c
       unfolding tables
       no_capacities c e =
           let p : numbers_up_to most_demand k (tokens (behind_lines 2 capacities)) ≡ bad c = rw (← here) e in
-          refused c (rw (r.read, q.read, p))
+          rw (r.read, q.read, p)
 
       pub tables_read : (cs : List ℕ) (rest : List Token) (cap : ℕ) → n ≤ most_jobs → numbers_up_to most_demand k (tokens (drop from s)) ≡ good cs rest → cs ! res ≡ cap
-          → ParsedSays (tables n k relations requests capacities) s res durs dems (Parsed.Read (record { n = n; k = k; cap = cap; pairs = pairs; table = Relations; at = at }))
+          → ParsedSays (tables n k relations requests capacities) s res durs dems (Ok (record { n = n; k = k; cap = cap; pairs = pairs; table = Relations; at = at }))
       unfolding tables
       tables_read cs rest cap few e picked =
           let long : length r.sss ≡ n = (relations_take n _ r.end r.sss r.read).0 in
@@ -138,24 +133,21 @@ module _ (n k res : ℕ) (s relations requests capacities : List ℕ) where
 module _ (s : List ℕ) where
   -- a refusal, by its number
   abbrev TextRefused : ℕ → Type 0
-  TextRefused c = (psplib s ≡ bad c) × (c ≡ 0 → ⊥)
-
-  text_refused : (c : ℕ) → psplib s ≡ bad c → TextRefused c
-  text_refused c e = (e, psplib_some (psplib_codes s c e))
+  TextRefused c = psplib s ≡ bad c
 
   pub no_headings : in_order 0 (marks s) ≡ false → TextRefused 35
   unfolding psplib
-  no_headings e = text_refused 35 (rw e)
+  no_headings e = rw e
 
   module _ (ordered : in_order 0 (marks s) ≡ true) where
     pub no_jobs : (c : ℕ) → counted most_jobs (section 0 (marks s)) ≡ bad c → TextRefused c
     unfolding psplib sections
-    no_jobs c e = text_refused c (rw (ordered, e))
+    no_jobs c e = rw (ordered, e)
 
     module _ (n : ℕ) (t₁ : List Token) (e₁ : counted most_jobs (section 0 (marks s)) ≡ good n t₁) where
       pub no_resources : (c : ℕ) → counted most_resources (section 1 (marks s)) ≡ bad c → TextRefused c
       unfolding psplib sections
-      no_resources c e = text_refused c (rw (ordered, e₁, e))
+      no_resources c e = rw (ordered, e₁, e)
 
       pub by_tables : (k : ℕ) (t₂ : List Token) → counted most_resources (section 1 (marks s)) ≡ good k t₂
           → psplib s ≡ tables n k (section 2 (marks s)) (section 3 (marks s)) (section 4 (marks s))

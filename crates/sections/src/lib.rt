@@ -8,11 +8,9 @@ ghost use Rattle.joblist.specs.Limits.{most_time, most_jobs};
 ghost use Rattle.parsing.specs.Parsed.{ParsedSays};
 ghost use Rattle.psplib.specs.Psplib.{tables, psplib};
 
-use linewise::Count;
-use parsing::{Parsed, Shape};
+use answers::Refusal;
+use parsing::Shape;
 use rowheads::Table;
-use scanner::Got;
-use walking::Walked;
 
 // How many lines a table's rows stand behind: the heading's and the column names'; for the requests a line of hyphens too.
 const BEHIND_NAMES: u32 = 2;
@@ -20,7 +18,7 @@ const BEHIND_NAMES: u32 = 2;
 const BEHIND_HYPHENS: u32 = 3;
 
 // Where the headings of the three tables start.
-#[derive(Drop)]
+#[derive(Clone, Copy)]
 struct Tables {
     relations: usize,
     requests: usize,
@@ -33,33 +31,19 @@ pub fn parse(
     res: u32,
     dur: &mut [u32; screen::MOST_JOBS],
     dem: &mut [u32; screen::MOST_JOBS],
-) -> Parsed
+) -> Result<Shape, Refusal>
     requires { (length dur.old ≡ most_jobs) × (length dem.old ≡ most_jobs) × ((j : ℕ) → dur.old ! j ≤ most_time) }
     ensures { ParsedSays (psplib text.now) text.now res dur.new dem.new result × (length dur.new ≡ most_jobs) × (length dem.new ≡ most_jobs) × ((j : ℕ) → dur.new ! j ≤ most_time) }
 {
-    let mut places = [0usize; seeker::HEADINGS];
-    if !seeker::find(text, &mut places) {
-        return Parsed::Refused(35);
-    }
-    match linewise::count_at(text, places[0], screen::MOST_JOBS as u32) {
-        Count::Refused(c) => Parsed::Refused(c),
-        Count::Read(n) => match linewise::count_at(text, places[1], screen::MOST_RESOURCES) {
-            Count::Refused(c) => Parsed::Refused(c),
-            Count::Read(k) => read_tables(
-                text,
-                n,
-                k,
-                Tables {
-                    relations: places[2],
-                    requests: places[3],
-                    capacities: places[4],
-                },
-                res,
-                dur,
-                dem,
-            ),
-        },
-    }
+    let places = seeker::find(text).ok_or(Refusal::Headings)?;
+    let n = linewise::count_at(text, places[0], screen::MOST_JOBS as u32)?;
+    let k = linewise::count_at(text, places[1], screen::MOST_RESOURCES)?;
+    let from = Tables {
+        relations: places[2],
+        requests: places[3],
+        capacities: places[4],
+    };
+    read_tables(text, n, k, from, res, dur, dem)
 }
 
 // The three tables of n jobs on k resources. The relations are read first: they leave zeros in the arrays, which the requests fill.
@@ -71,32 +55,22 @@ fn read_tables(
     res: u32,
     dur: &mut [u32; screen::MOST_JOBS],
     dem: &mut [u32; screen::MOST_JOBS],
-) -> Parsed
+) -> Result<Shape, Refusal>
     requires { (n ≤ most_jobs) × (length dur.old ≡ most_jobs) × (length dem.old ≡ most_jobs) × ((j : ℕ) → dur.old ! j ≤ most_time) }
     ensures { ParsedSays (tables n k (drop from.relations text.now) (drop from.requests text.now) (drop from.capacities text.now)) text.now res dur.new dem.new result × (length dur.new ≡ most_jobs) × (length dem.new ≡ most_jobs) × ((j : ℕ) → dur.new ! j ≤ most_time) }
 {
     let at = linewise::behind_lines(text, from.relations, BEHIND_NAMES);
-    match walking::validate(text, at, n, Table::Relations, res, dur, dem) {
-        Walked::Refused(c) => Parsed::Refused(c),
-        Walked::Read(pairs, _) => {
-            let requests = linewise::behind_lines(text, from.requests, BEHIND_HYPHENS);
-            match walking::validate(text, requests, n, Table::Requests(k), res, dur, dem) {
-                Walked::Refused(c) => Parsed::Refused(c),
-                Walked::Read(_, _) => {
-                    let capacities = linewise::behind_lines(text, from.capacities, BEHIND_NAMES);
-                    match rowheads::read_numbers(text, capacities, k, screen::MOST_DEMAND, res) {
-                        Got::Refused(c) => Parsed::Refused(c),
-                        Got::Read(cap, _) => Parsed::Read(Shape {
-                            n,
-                            k,
-                            cap,
-                            pairs,
-                            table: Table::Relations,
-                            at,
-                        }),
-                    }
-                }
-            }
-        }
-    }
+    let walked = walking::validate(text, at, n, Table::Relations, res, dur, dem)?;
+    let requests = linewise::behind_lines(text, from.requests, BEHIND_HYPHENS);
+    walking::validate(text, requests, n, Table::Requests(k), res, dur, dem)?;
+    let capacities = linewise::behind_lines(text, from.capacities, BEHIND_NAMES);
+    let capacity = rowheads::read_numbers(text, capacities, k, screen::MOST_DEMAND, res)?;
+    Ok(Shape {
+        n,
+        k,
+        cap: capacity.value,
+        pairs: walked.pairs,
+        table: Table::Relations,
+        at,
+    })
 }

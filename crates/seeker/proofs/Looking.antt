@@ -10,6 +10,7 @@ use lib.Dec.{eqb}
 use lib.ListN.{length, drop, set, length-set, drop_of_length-le}
 use lib.Seq.{get_or-set_same, get_or-set_other}
 use borrow.Author.Tests.{eqb-true, eq-eqb, ne_eqb}
+use Rattle.std.specs.Bool.{then_some}
 use Rattle.lists.specs.Lists.{◌!◌}
 use Rattle.headings.specs.Lines.{next_line}
 use Rattle.headings.specs.Headings.{headings, line_mark, marks, in_order, section}
@@ -67,13 +68,13 @@ module _ (s : List ℕ) (at found : ℕ) (places : List ℕ) (l : Looking s at f
         ]
 
   -- no line is left
-  pub looking_end : (n : ℕ) → length s ≤ at → n ≡ length headings → FindSays s places (eqb found n)
+  pub looking_end : length s ≤ at → FindSays s (then_some (eqb found (length headings)) places)
   unfolding in_order
-  looking_end n h z = go (eqb found n) refl
+  looking_end h = go (eqb found (length headings)) refl
     where
-      over : in_order 0 (marks s) ≡ eqb found n
-      over = l.test ∙ rw (drop_of_length-le s h, marks_none, z)
+      over : in_order 0 (marks s) ≡ eqb found (length headings)
+      over = l.test ∙ rw (drop_of_length-le s h, marks_none)
 
-      go : (t : Bool) → eqb found n ≡ t → FindSays s places t
-      go true e = let f : found ≡ n = eqb-true _ _ e in (over ∙ e, λ k b. l.kept k (omega arith))
+      go : (t : Bool) → eqb found (length headings) ≡ t → FindSays s (then_some t places)
+      go true e = let f : found ≡ length headings = eqb-true _ _ e in (over ∙ e, (λ k b. l.kept k (omega arith)), l.size)
       go false e = over ∙ e
