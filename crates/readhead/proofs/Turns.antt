@@ -5,9 +5,6 @@ use native.Mathlib.Omega.{arith}
 use mathlib.Core.Path.{◌≡◌, refl, sym, ap, ◌∙◌}
 use mathlib.Core.Bool.{Bool, true, false, not}
 use mathlib.Core.List.{List, [], ◌∷◌}
-use mir.Facts.{to_z-of_z}
-use mir.Syntax.{w64}
-use mir.Val.{to_z, of_z}
 use lib.Dec.{ltb, eqb}
 use lib.IntN.{ℤ, pos, ◌+ℤ◌}
 use lib.ListN.{length, set}
@@ -25,9 +22,8 @@ use Rattle.lists.proofs.Sets.{clash}
 use Rattle.narrowing.specs.Windows.{Win, win}
 use Rattle.overloads.specs.Overload.{Finding, nothing, overload, found_said, FirstPair}
 use Rattle.overloads.proofs.Pairs.{overload_is}
-use Rattle.theta.specs.Theta.{far, end_of, Ranged, Climbed, depth, descent}
+use Rattle.theta.specs.Theta.{far, end_of, Climbed, depth, descent}
 use Rattle.theta.proofs.Nodes.{total_most}
-use Rattle.theta.proofs.Ranges.{end_fits}
 use Rattle.readhead.specs.Sweep.{tied, due, Sorted, Entered, LeafTaken}
 use Rattle.readhead.proofs.Sweeps.{entered, Going, going_end, going_same, going_short, going_found}
 
@@ -70,26 +66,19 @@ module _ (n m : ℕ) (p : List ℕ) (W : Win) (o : List ℕ) (k : ℕ) (sums : L
 abbrev pub Turning : List ℕ → List ℕ → List ℕ → List ℕ → List ℤ → ℕ → Type 0
 Turning est lct dur sums ends k = Going (length est) most_jobs dur (win est lct) k sums ends
 
--- the root's completion, read as a signed word
-pub root_read : (sums : List ℕ) (ends : List ℤ) → Ranged most_jobs sums ends → to_z w64 (of_z w64 (end_of ends 1)) ≡ end_of ends 1
-root_read sums ends r = to_z-of_z (end_fits sums ends r 1 (omega arith))
-
 module _ (est lct dur place starts stops : List ℕ) (S : Sorted est lct dur place starts stops) where
   small : (T : Set) → total_of (length est) dur T < far
   small T = omega (arith, total_most (length est) dur T S.good.few S.good.within.1.1.0)
 
-  pub next_in : (k : ℕ) → k < length est → stops ! k < length est
-  next_in = S.by_stop.into
-
   module _ (k : ℕ) (sums : List ℕ) (ends : List ℤ) (sums' : List ℕ) (ends' : List ℤ) (T : Turning est lct dur sums ends k) (lt : k < length est)
       (E : Entered est dur (stops ! k) sums ends sums' ends') (r : Bool)
-      (told : r ≡ due (length lct) lct stops (k + 1) (lct ! (stops ! k)) (to_z w64 (of_z w64 (end_of ends' 1)))) where
+      (told : r ≡ due (length lct) lct stops (k + 1) (lct ! (stops ! k)) (end_of ends' 1)) where
     abbrev b : ℕ
     b = lct ! (stops ! k)
 
     -- what the test has told of the root
     due_is : (t : Bool) → r ≡ t → due (length est) lct stops (k + 1) b (end_of ends' 1) ≡ t
-    due_is t h = rw S.good.sized.1.0 at (rw (root_read sums' ends' E.ranged) at (sym told ∙ h))
+    due_is t h = rw S.good.sized.1.0 at (sym told ∙ h)
 
     pub turn_on : r ≡ false → Turning est lct dur sums' ends' (k + 1)
     turn_on h =

@@ -10,14 +10,14 @@ ghost use Rattle.overloads.specs.Overload.{overload, found_said};
 ghost use Rattle.overloads.specs.Promise.{Good, Overloads};
 
 use crate::sweep::sweep;
-use answers::OverloadAnswer;
+use answers::{Overload, Refusal};
 use placing::{order, places};
 use screen::MOST_JOBS;
 
 // What a good list has: the two orders of its jobs are made, and the tree is swept.
-fn find(est: &[u32], lct: &[u32], dur: &[u32]) -> OverloadAnswer
+fn find(est: &[u32], lct: &[u32], dur: &[u32]) -> Option<Overload>
     requires { Good (win est.now lct.now) dur.now }
-    ensures { says_overload result ≡ found_said (overload (length est.now) dur.now (win est.now lct.now)) }
+    ensures { says_overload (Ok result) ≡ found_said (overload (length est.now) dur.now (win est.now lct.now)) }
 {
     let mut place = [0usize; MOST_JOBS];
     let mut starts = [0usize; MOST_JOBS];
@@ -29,12 +29,9 @@ fn find(est: &[u32], lct: &[u32], dur: &[u32]) -> OverloadAnswer
 }
 
 // The overload check: none, the pair a, b, or refusal 1 to 3.
-pub fn overload(est: &[u32], lct: &[u32], dur: &[u32]) -> OverloadAnswer
+pub fn overload(est: &[u32], lct: &[u32], dur: &[u32]) -> Result<Option<Overload>, Refusal>
     ensures { Overloads (win est.now lct.now) dur.now (says_overload result) }
 {
-    let refusal = screen::refusal_of_three(est, lct, dur);
-    if refusal != 0 {
-        return OverloadAnswer::Refused(refusal);
-    }
-    find(est, lct, dur)
+    screen::refusal_of_three(est, lct, dur)?;
+    Ok(find(est, lct, dur))
 }

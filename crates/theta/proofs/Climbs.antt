@@ -14,8 +14,8 @@ use lib.Signed.{mag}
 use Rattle.joblist.specs.Limits.{most_time}
 use Rattle.lists.specs.Lists.{◌!◌}
 use Rattle.lists.specs.Sets.{Set, Empty}
-use Rattle.theta.specs.Theta.{far, end_of, empty, joined, Joins, AllJoin, Places, HoldsSet, Ranged, Touched, Climbed}
-use Rattle.theta.proofs.Ranges.{weights, joined_near, sum_here, end_here, sum_else, end_else, ranged_written, joins_written, zeros}
+use Rattle.theta.specs.Theta.{far, end_of, empty, joined, Joins, AllJoin, Places, HoldsSet, Ranged, Sound, Touched, Climbed}
+use Rattle.theta.proofs.Ranges.{start_ranged, weights, joined_near, sum_here, end_here, sum_else, end_else, ranged_written, joins_written, zeros}
 
 -- the state of the climb at node i
 pub record Climbing (m : ℕ) (sums₀ : List ℕ) (ends₀ : List ℤ) (sums : List ℕ) (ends : List ℤ) (i : ℕ) : Type 0 where
@@ -131,18 +131,25 @@ module _ (n m : ℕ) (e p : List ℕ) (σ : ℕ → ℕ) (O O' : Set) (sums : Li
 
 -- ---- the empty tree
 
+bare : (m v : ℕ) → v < 2 * m → end_of (replicate (2 * m) empty) v ≡ empty
+bare m v b = get_or-replicate (2 * m) v empty (pos 0) b
+
+pub start_sound : (m : ℕ) → Sound m (replicate (2 * m) 0) (replicate (2 * m) empty)
+start_sound m =
+    record {
+      ranged = start_ranged m;
+      joins = λ v a b. record {
+        sum_is = rw (zeros (2 * m) v, zeros (2 * m) (2 * v), zeros (2 * m) (2 * v + 1));
+        end_is = rw (bare m v (omega arith), bare m (2 * v) (omega arith), bare m (2 * v + 1) (omega arith), zeros (2 * m) (2 * v + 1));
+      };
+    }
+
 pub start_holds : (m n : ℕ) (e p : List ℕ) (σ : ℕ → ℕ) (O : Set) → Empty n O → HoldsSet n m e p σ O (replicate (2 * m) 0) (replicate (2 * m) empty)
 start_holds m n e p σ O none_in =
     record {
-      joins = λ v a b. record {
-        sum_is = rw (zeros (2 * m) v, zeros (2 * m) (2 * v), zeros (2 * m) (2 * v + 1));
-        end_is = rw (bare v (omega arith), bare (2 * v) (omega arith), bare (2 * v + 1) (omega arith), zeros (2 * m) (2 * v + 1));
-      };
+      joins = (start_sound m).joins;
       full_sum = λ j b t. absurd (none_in j b t);
       full_end = λ j b t. absurd (none_in j b t);
       bare_sum = λ x b f. zeros (2 * m) (m + x);
-      bare_end = λ x b f. bare (m + x) (omega arith);
+      bare_end = λ x b f. bare m (m + x) (omega arith);
     }
-  where
-    bare : (v : ℕ) → v < 2 * m → end_of (replicate (2 * m) empty) v ≡ empty
-    bare v b = get_or-replicate (2 * m) v empty (pos 0) b

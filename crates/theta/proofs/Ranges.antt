@@ -1,6 +1,6 @@
 -- The tree's numbers stay in range: two children's weights give their parent's, and a node's weight bounds what it holds. One node is
 -- written: what stands where afterwards, and that the tree stays in range where the new numbers are. The empty tree is in range.
-use Prim.Native.Nat.{ℕ, zero, suc, ◌+◌, ◌*◌, ◌≤◌, ◌<◌}
+use Prim.Native.Nat.{ℕ, zero, suc, ◌+◌, ◌*◌, ◌^◌, ◌≤◌, ◌<◌}
 use native.Mathlib.Omega.{arith}
 use native.Mathlib.Nat.{mul-add, add-mul, mul_left_comm, zero-mul, mul-suc}
 use native.Mathlib.Decide.{ℕ_discrete}
@@ -13,6 +13,8 @@ use lib.IntN.{ℤ, pos, ◌+ℤ◌}
 use lib.ListN.{set, length-set, replicate, length-replicate}
 use lib.Seq.{get_or-set_same, get_or-set_other}
 use lib.Signed.{mag, lt_z}
+use Rattle.std.specs.Ordering.{ord_max, int_cmp, is_lt}
+use Rattle.std.specs.declared.cmp.Ordering.TheVariants.{Less, Equal, Greater}
 use Rattle.joblist.specs.Limits.{most_jobs, most_time}
 use Rattle.lists.specs.Lists.{◌!◌}
 use Rattle.lists.proofs.Signed.{mag_add}
@@ -42,6 +44,19 @@ module _ (sums : List ℕ) (ends : List ℤ) (r : Ranged most_jobs sums ends) wh
 
   pub end_fits : (v : ℕ) → 1 ≤ v → SFits w64 (end_of ends v)
   end_fits v h = record { sfits = omega (arith, end_under v h) }
+
+-- with a word's total after it too
+pub tail_fits : (end : ℤ) (tail : ℕ) → mag end ≤ 2 * far → tail < 2 ^ 32 → SFits w64 (end +ℤ pos tail)
+tail_fits end tail h k = record { sfits = omega (arith, mag_add end tail) }
+
+-- the greater of the two is the joined completion
+pub max_joined : (left right : ℤ) (total : ℕ) → ord_max int_cmp right (left +ℤ pos total) ≡ joined left right total
+max_joined left right total = go (lt_z (left +ℤ pos total) right) (lt_z right (left +ℤ pos total))
+  where
+    go : (a b : Bool) → cond (is_lt (cond a Less (cond b Greater Equal))) right (left +ℤ pos total) ≡ cond a right (left +ℤ pos total)
+    go true b = refl
+    go false true = refl
+    go false false = refl
 
 -- the size of a joined completion
 pub joined_near : (left right : ℤ) (a b c : ℕ) → mag left ≤ c + a → mag right ≤ c + b → mag (joined left right b) ≤ c + (a + b)

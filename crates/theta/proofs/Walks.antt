@@ -76,8 +76,3 @@ walk_end m d sums ends b v t f w = go w.h w.upto w.same
     go : (h : ℕ) → (v + 1) * 2 ^ h ≤ 2 * m → descent sums ends b d 1 0 ≡ descent sums ends b h v t → v ≡ descent sums ends b d 1 0
     go zero g s = sym s
     go (suc h) g s = absurd (far (2 ^ h) (pow_pos h) (rw (pow-suc 2 h) at g))
-
--- each step goes to a later node
-pub child_more : (right : Bool) (v : ℕ) → 1 ≤ v → v < pick right (2 * v + 1) (2 * v)
-child_more true v h = omega arith
-child_more false v h = omega arith

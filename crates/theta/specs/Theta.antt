@@ -80,6 +80,16 @@ pub record Ranged (m : ℕ) (sums : List ℕ) (ends : List ℤ) : Type 0 where
   pub weight : (v : ℕ) → sums ! v * v ≤ 2 * most_time * m
   pub near : (v : ℕ) → mag (end_of ends v) ≤ far + sums ! v
 
+-- the numbers of all nodes, as the code holds them
+pub record Nodes : Type 0 where
+  pub sums : List ℕ
+  pub ends : List ℤ
+
+-- a tree in range whose nodes join
+pub record Sound (m : ℕ) (sums : List ℕ) (ends : List ℤ) : Type 0 where
+  pub ranged : Ranged m sums ends
+  pub joins : AllJoin m sums ends
+
 -- node i has been changed: every inner node but its parent is what its children say
 pub record Touched (m : ℕ) (sums : List ℕ) (ends : List ℤ) (i : ℕ) : Type 0 where
   pub from : 1 ≤ i

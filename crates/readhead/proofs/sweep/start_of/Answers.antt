@@ -7,6 +7,3 @@ offset_bounds-est-starts c = rw c.descend-leaf.ensures (omega (arith, c.requires
 
 pub bounds-est-starts : goal.bounds-est-starts
 bounds-est-starts c = rw c.descend-leaf.ensures c.requires.leaf_taken.job
-
-pub returns : goal.returns
-returns c = rw c.descend-leaf.ensures

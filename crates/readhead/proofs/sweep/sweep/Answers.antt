@@ -1,84 +1,46 @@
-use Rattle.lists.specs.Lists.{◌!◌}
-use Prim.Native.Nat.{◌<◌}
 use native.Mathlib.Omega.{arith}
 use lib.ListN.{length}
 use Rattle.joblist.specs.Limits.{most_jobs}
+use Rattle.lists.specs.Lists.{◌!◌}
+use Rattle.lists.proofs.Orders.{rank_below}
 use Rattle.narrowing.specs.Windows.{win}
-use Rattle.theta.proofs.Ranges.{end_under}
+use Rattle.readhead.specs.Sweep.{Entered}
 use Rattle.readhead.proofs.Sweeps.{going_start}
-use Rattle.readhead.proofs.Turns.{next_in, turn_on, turn_reached, turn_found, turn_none, root_read}
+use Rattle.readhead.proofs.Turns.{turn_on, turn_reached, turn_found, turn_none}
 use Rattle.readhead.proofs.sweep.sweep.Goals as goal
-use Rattle.readhead.proofs.sweep.sweep.Goals.{In-loop-k}
+use Rattle.readhead.proofs.sweep.sweep.Goals.{After-put}
 
 pub loop-k-init : goal.loop-k-init
 loop-k-init c =
     let a = c.args in
-    going_start (length a.est.now) most_jobs a.dur.now (win a.est.now a.lct.now)
-
--- ---- a turn, with the start of the call and the place where the latest end has been tested
-
-abbrev Turn : Type 0
-Turn = In-loop-k
-
--- the job that comes next
-next : (d : Turn) → d.args.stops.now ! d.loop-k.k < length d.args.est.now
-next d = next_in _ _ _ _ _ _ d.requires d.loop-k.k d.loop-k-test.true
-
-pub bounds-stops-k : goal.bounds-stops-k
-bounds-stops-k c = omega (arith, c.requires.good.few)
-
-pub offset_bounds-lct-j : goal.offset_bounds-lct-j
-offset_bounds-lct-j c = omega (arith, next (goal.at.offset_bounds-lct-j c).In-loop-k)
-
-pub bounds-lct-j : goal.bounds-lct-j
-bounds-lct-j c = let d = c in omega (arith, next (goal.at.bounds-lct-j c).In-loop-k, d.requires.good.sized.1.0)
-
-pub enter-requires : goal.enter-requires
-enter-requires c =
-    let d = c in
-    let s = d.requires in
-    let g = s.good in
-    let l = d.loop-k in
-    let j = d.args.stops.now ! l.k in
-    record {
-      ranged = (l.invariant.ranged, l.invariant.holds.joins);
-      est_len_bound = (g.few, g.sized.1.1.0, s.placed);
-      j_in_bounds = (next (goal.at.enter-requires c).In-loop-k, g.within.0 j, g.within.1.1.0 j);
-    }
-
-pub due-requires : goal.due-requires
-due-requires c =
-    let s = c.requires in
-    let r = c.enter.ensures.ranged in
-    record { lct_len_bound = (rw s.good.sized.1.0 s.good.few, rw s.good.sized.1.0 s.by_stop, s.stops_long); end_bound = rw (root_read _ _ r) (end_under _ _ r 1 (omega arith)) }
-
--- ---- the latest end is tested
-
-pub start_of-requires : goal.start_of-requires
-start_of-requires c =
-    let d = c in
-    let t = d in
-    let s = t.requires in
-    let e = d.enter.ensures in
-    record { ranged = (e.ranged, e.joins, s.starts_long); leaf_taken = turn_reached _ _ _ _ _ _ s _ _ _ _ _ t.loop-k.invariant t.loop-k-test.true e _ d.due.ensures c.if-due.true }
-
-pub returns-then-due : goal.returns-then-due
-returns-then-due c =
-    let d = c in
-    let t = d in
-    let e = d.enter.ensures in
-    rw c.start_of.ensures
-    (turn_found _ _ _ _ _ _ t.requires _ _ _ _ _ t.loop-k.invariant t.loop-k-test.true e _ d.due.ensures c.if-due.true)
-
-pub loop-k-smaller : goal.loop-k-smaller
-loop-k-smaller c = omega arith
-
-pub loop-k-preserved : goal.loop-k-preserved
-loop-k-preserved c =
-    let d = c in
-    let t = d in
-    let e = d.enter.ensures in
-    turn_on _ _ _ _ _ _ t.requires _ _ _ _ _ t.loop-k.invariant t.loop-k-test.true e _ d.due.ensures c.if-due.false
+    rw (c.new-tree.ensures.sums, c.new-tree.ensures.ends) (going_start (length a.est.now) most_jobs a.dur.now (win a.est.now a.lct.now))
 
 pub returns : goal.returns
 returns c = turn_none _ _ _ _ _ _ c.requires c.loop-k.k _ _ c.loop-k.invariant c.loop-k-test.false
+
+pub put-requires : goal.put-requires
+put-requires c =
+    let s = c.requires in
+    let j = c.args.stops.now ! c.loop-k.k in
+    let b = s.by_stop.into c.loop-k.k c.loop-k-test.true in
+    (omega (arith, s.placed.is j b, rank_below c.args.est.now (length c.args.est.now) j b, s.good.few), s.good.within.0 j, s.good.within.1.1.0 j)
+
+-- ---- the job is in, and its latest end is tested
+
+entered : (d : After-put) → Entered d.args.est.now d.args.dur.now (d.args.stops.now ! d.loop-k.k) d.loop-k.tree.sums d.loop-k.tree.ends d.put.new.self.sums d.put.new.self.ends
+entered d = rw (d.requires.placed.is (d.args.stops.now ! d.loop-k.k) (d.requires.by_stop.into d.loop-k.k d.loop-k-test.true)) at d.put.ensures
+
+pub start_of-a-requires-clause-leaf_taken : goal.start_of-a-requires-clause-leaf_taken
+start_of-a-requires-clause-leaf_taken c =
+    let e = entered (goal.at.start_of-a-requires-clause-leaf_taken c).After-put in
+    turn_reached _ _ _ _ _ _ c.requires _ _ _ _ _ c.loop-k.invariant c.loop-k-test.true e _ c.due.ensures c.if-due.true
+
+pub returns-then-due : goal.returns-then-due
+returns-then-due c =
+    let e = entered (goal.at.returns-then-due c).After-put in
+    rw c.start_of-a.ensures (turn_found _ _ _ _ _ _ c.requires _ _ _ _ _ c.loop-k.invariant c.loop-k-test.true e _ c.due.ensures c.if-due.true)
+
+pub loop-k-preserved : goal.loop-k-preserved
+loop-k-preserved c =
+    let e = entered (goal.at.loop-k-preserved c).After-put in
+    turn_on _ _ _ _ _ _ c.requires _ _ _ _ _ c.loop-k.invariant c.loop-k-test.true e _ c.due.ensures c.if-due.false
