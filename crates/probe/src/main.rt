@@ -20,10 +20,11 @@
 
 mod replies;
 
-ghost use Rattle.std.specs.Prelude.{◌≡◌, ◌<◌, length};
+ghost use Rattle.std.specs.Prelude.{◌≡◌, length};
 ghost use Rattle.requests.specs.Sizes.{line_words, text_bytes};
 
 use intake::{Cursor, next_line};
+use printing::Sink;
 use replies::reply;
 use requests::{TEXT, WORDS};
 use std::io::Read;
@@ -31,41 +32,36 @@ use std::io::Read;
 // Answers the line that the cursor is at the start of, and goes to the start of the next. The answer is written out before
 // anything more is read, so that it is seen at once.
 fn line(
-    rt: &impl Print,
+    sink: &mut Sink<'_, impl Print>,
     input: &mut impl Read,
     source: &mut [u8],
-    sink: &mut [u8],
     c: Cursor,
     words: &mut [u32],
     text: &mut [u8],
-) -> Cursor
-    requires { 0 < length sink.old }
-{
+) -> Cursor {
     let request = requests::take(input, source, c, words, text);
     let call = request.call;
     let taken = request.line;
     let n = taken.bytes;
-    let at = reply(rt, sink, call, taken, words, &mut text[..n]);
-    printing::finish(rt, sink, at);
+    reply(sink, call, taken, words, &mut text[..n]);
+    sink.finish();
     next_line(input, source, taken.cursor)
 }
 
 // Every line of the input. There are no more lines than bytes: the number of turns is not used up either.
 fn serve(
-    rt: &impl Print,
+    sink: &mut Sink<'_, impl Print>,
     input: &mut impl Read,
     source: &mut [u8],
-    sink: &mut [u8],
     words: &mut [u32],
     text: &mut [u8],
-)
-    requires { 0 < length sink.old }
-{
+) {
     let mut cursor = intake::start(input, source);
-    let mut turns = intake::LONG;
-    while 0 < turns && 0 < cursor.left {
-        cursor = line(rt, input, source, sink, cursor, words, text);
-        turns -= 1;
+    for _ in 0..intake::LONG {
+        if cursor.left == 0 {
+            return;
+        }
+        cursor = line(sink, input, source, cursor, words, text);
     }
 }
 
@@ -86,14 +82,12 @@ fn text_room() -> [u8; TEXT]
 fn main(rt: HostRuntime) {
     let mut input = rt.stdin();
     let mut source = io::large_buffer();
-    let mut sink = io::large_buffer();
     let mut words = room();
     let mut text = text_room();
     serve(
-        &rt,
+        &mut Sink::new(&rt),
         &mut input,
         &mut source,
-        &mut sink,
         &mut words,
         &mut text,
     );

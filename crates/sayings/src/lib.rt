@@ -1,80 +1,38 @@
-// The answers of the calls: the answer word, then its numbers (`answers: Said`). An answer is first made a value, whichever call gave it, and printed
-// by one function.
+// What the programs print of a call's answer: the answer word, then its numbers (`answers: Said`). An answer is first made a value, whichever call gave it,
+// and printed by one function.
 #![tactic(auto)]
 
-ghost use Rattle.std.specs.Prelude.{◌≡◌, [], ◌∷◌, ◌<◌, length};
 ghost use Rattle.answers.specs.Said.{says, says_check, says_overload, says_read, says_write, says_conflict};
-ghost use Rattle.sayings.specs.Sayings.{numbers_of, Tells};
+ghost use Rattle.sayings.specs.Sayings.{Tells};
 
-use answers::{Answer, CheckAnswer, ConflictAnswer, OverloadAnswer, ReadAnswer, WriteAnswer};
-use printing::{byte, number};
+use answers::{Answer, CheckAnswer, Overload, ProjectRead, Refusal};
+use std::fmt;
 
-// The answer words of documents 01 and 02, and two of the programs' own: that a record is shown, and that a line cannot be read.
+// The answer words of documents 01 and 02 with their numbers, and two of the programs' own: that a record is shown, and that a line cannot be read.
 #[derive(Clone, Copy)]
-pub enum Word {
-    Settled,
-    Clash,
-    Refused,
-    Holds,
-    Rejected,
+pub enum Saying {
+    Settled(usize),
+    Clash(usize, usize),
+    Refused(u32),
+    Holds(usize),
+    Rejected(usize, u32),
     None,
-    Overload,
-    Read,
-    Written,
-    Marked,
+    Overload(u32, u32),
+    Read(u32, usize),
+    Written(usize),
+    Marked(u32),
     Record,
     Unreadable,
 }
 
-// A word, how many numbers stand behind it, at most two, and these.
-#[derive(Clone, Copy)]
-pub struct Saying {
-    pub word: Word,
-    pub count: u32,
-    pub first: u64,
-    pub second: u64,
-}
-
-pub fn bare(word: Word) -> Saying
-    ensures { (result.word ≡ word) × (numbers_of result ≡ []) }
-{
-    Saying {
-        word,
-        count: 0,
-        first: 0,
-        second: 0,
-    }
-}
-
-fn one(word: Word, n: u64) -> Saying
-    ensures { (result.word ≡ word) × (numbers_of result ≡ n ∷ []) }
-{
-    Saying {
-        word,
-        count: 1,
-        first: n,
-        second: 0,
-    }
-}
-
-fn two(word: Word, n: u64, m: u64) -> Saying
-    ensures { (result.word ≡ word) × (numbers_of result ≡ n ∷ m ∷ []) }
-{
-    Saying {
-        word,
-        count: 2,
-        first: n,
-        second: m,
-    }
-}
-
+// A function for each call, and no `From`: a number that came from the writer and one of marked jobs have types that say nothing of it.
 pub fn narrowing(a: Answer) -> Saying
     ensures { Tells result (says a) }
 {
     match a {
-        Answer::Settled(count) => one(Word::Settled, count as u64),
-        Answer::Clash(count, job) => two(Word::Clash, count as u64, job as u64),
-        Answer::Refused(number) => one(Word::Refused, number as u64),
+        Answer::Settled(count) => Saying::Settled(count),
+        Answer::Clash(count, job) => Saying::Clash(count, job),
+        Answer::Refused(number) => Saying::Refused(number),
     }
 }
 
@@ -82,97 +40,65 @@ pub fn checking(a: CheckAnswer) -> Saying
     ensures { Tells result (says_check a) }
 {
     match a {
-        CheckAnswer::Holds(count) => one(Word::Holds, count as u64),
-        CheckAnswer::Clash(count, job) => two(Word::Clash, count as u64, job as u64),
-        CheckAnswer::Rejected(place, code) => two(Word::Rejected, place as u64, code as u64),
-        CheckAnswer::Refused(number) => one(Word::Refused, number as u64),
+        CheckAnswer::Holds(count) => Saying::Holds(count),
+        CheckAnswer::Clash(count, job) => Saying::Clash(count, job),
+        CheckAnswer::Rejected(place, code) => Saying::Rejected(place, code),
+        CheckAnswer::Refused(number) => Saying::Refused(number),
     }
 }
 
-pub fn overloading(a: OverloadAnswer) -> Saying
+pub fn overloading(a: Result<Option<Overload>, Refusal>) -> Saying
     ensures { Tells result (says_overload a) }
 {
     match a {
-        OverloadAnswer::None => bare(Word::None),
-        OverloadAnswer::Overload(a, b) => two(Word::Overload, a as u64, b as u64),
-        OverloadAnswer::Refused(number) => one(Word::Refused, number as u64),
+        Ok(None) => Saying::None,
+        Ok(Some(pair)) => Saying::Overload(pair.a, pair.b),
+        Err(why) => Saying::Refused(u32::from(why)),
     }
 }
 
-pub fn reading(a: ReadAnswer) -> Saying
+pub fn reading(a: Result<ProjectRead, Refusal>) -> Saying
     ensures { Tells result (says_read a) }
 {
     match a {
-        ReadAnswer::Read(capacity, pairs) => two(Word::Read, capacity as u64, pairs as u64),
-        ReadAnswer::Refused(number) => one(Word::Refused, number as u64),
+        Ok(text) => Saying::Read(text.capacity, text.pairs),
+        Err(why) => Saying::Refused(u32::from(why)),
     }
 }
 
-pub fn writing(a: WriteAnswer) -> Saying
+pub fn writing(a: Result<usize, Refusal>) -> Saying
     ensures { Tells result (says_write a) }
 {
     match a {
-        WriteAnswer::Written(bytes) => one(Word::Written, bytes as u64),
-        WriteAnswer::Refused(number) => one(Word::Refused, number as u64),
+        Ok(bytes) => Saying::Written(bytes),
+        Err(why) => Saying::Refused(u32::from(why)),
     }
 }
 
-pub fn marking(a: ConflictAnswer) -> Saying
+pub fn marking(a: Result<u32, Refusal>) -> Saying
     ensures { Tells result (says_conflict a) }
 {
     match a {
-        ConflictAnswer::Marked(count) => one(Word::Marked, count as u64),
-        ConflictAnswer::Refused(number) => one(Word::Refused, number as u64),
+        Ok(count) => Saying::Marked(count),
+        Err(why) => Saying::Refused(u32::from(why)),
     }
 }
 
-// The most letters of a word.
-const LETTERS: usize = 10;
-
-// A word's letters, filled up with spaces.
-fn spelled(word: Word) -> [u8; LETTERS] {
-    match word {
-        Word::Settled => *b"settled   ",
-        Word::Clash => *b"clash     ",
-        Word::Refused => *b"refused   ",
-        Word::Holds => *b"holds     ",
-        Word::Rejected => *b"rejected  ",
-        Word::None => *b"none      ",
-        Word::Overload => *b"overload  ",
-        Word::Read => *b"read      ",
-        Word::Written => *b"written   ",
-        Word::Marked => *b"marked    ",
-        Word::Record => *b"record    ",
-        Word::Unreadable => *b"unreadable",
+impl fmt::Display for Saying {
+    fn fmt<W: fmt::Write>(&self, f: &mut fmt::Formatter<W>) -> fmt::Result {
+        match *self {
+            Saying::Settled(count) => write!(f, "settled {count}"),
+            Saying::Clash(count, job) => write!(f, "clash {count} {job}"),
+            Saying::Refused(number) => write!(f, "refused {number}"),
+            Saying::Holds(count) => write!(f, "holds {count}"),
+            Saying::Rejected(place, code) => write!(f, "rejected {place} {code}"),
+            Saying::None => write!(f, "none"),
+            Saying::Overload(a, b) => write!(f, "overload {a} {b}"),
+            Saying::Read(capacity, pairs) => write!(f, "read {capacity} {pairs}"),
+            Saying::Written(bytes) => write!(f, "written {bytes}"),
+            Saying::Marked(count) => write!(f, "marked {count}"),
+            Saying::Record => write!(f, "record"),
+            Saying::Unreadable => write!(f, "unreadable"),
+        }
     }
-}
-
-fn letters(out: &impl Print, sink: &mut [u8], at: usize, word: &[u8]) -> usize
-    requires { at < length sink.old }
-    ensures { result < length sink.old }
-{
-    let mut next = at;
-    let mut i = 0;
-    while i < word.len() && word[i] != b' ' {
-        next = byte(out, sink, next, word[i]);
-        i += 1;
-    }
-    next
-}
-
-pub fn say(out: &impl Print, sink: &mut [u8], at: usize, s: Saying) -> usize
-    requires { at < length sink.old }
-    ensures { result < length sink.old }
-{
-    let said = s.word;
-    let word = spelled(said);
-    let behind = letters(out, sink, at, &word);
-    if s.count == 0 {
-        return behind;
-    }
-    let next = number(out, sink, behind, s.first);
-    if s.count == 1 {
-        return next;
-    }
-    number(out, sink, next, s.second)
 }
