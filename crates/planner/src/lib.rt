@@ -19,12 +19,10 @@ pub fn narrow(
 ) -> Answer
     ensures { Narrows (call (win est.old lct.old) dur.now dem.now cap log.old) (leaves (says result) (win est.new lct.new) log.new) }
 {
-    let number = admission::refusal(est, lct, dur, dem, cap, log);
-    if number != 0 {
-        return Answer::Refused(number);
+    if let Err(refusal) = admission::refusal(est, lct, dur, dem, cap, log) {
+        return Answer::Refused(u32::from(refusal));
     }
-    let short = windows::lowest_too_short(est, lct, dur);
-    if short < est.len() {
+    if let Some(short) = windows::lowest_too_short(est, lct, dur) {
         return Answer::Clash(0, short);
     }
     let n = est.len();
@@ -34,15 +32,12 @@ pub fn narrow(
     windows::save(lct, &mut l);
     let end = rounds::work(&mut e[..n], &mut l[..n], dur, dem, cap, log);
     match end {
-        Answer::Settled(count) => {
+        Answer::Settled(_) => {
             windows::restore(&e, est);
             windows::restore(&l, lct);
-            Answer::Settled(count)
         }
-        Answer::Clash(count, job) => Answer::Clash(count, job),
-        Answer::Refused(number) => {
-            logs::clear(log);
-            Answer::Refused(number)
-        }
+        Answer::Clash(_, _) => {}
+        Answer::Refused(_) => logs::clear(log),
     }
+    end
 }
