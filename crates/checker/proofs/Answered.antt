@@ -12,26 +12,25 @@ use Rattle.answers.specs.Said.{Word, said}
 use Rattle.journal.specs.Journal.{room_of, records}
 use Rattle.timetable.specs.Table.{Call, Admitted, TooShort, AllLong, refusal_of}
 use Rattle.timetable.proofs.Good.{durations_sized}
-use Rattle.replay.specs.declared.Ended.{Ended}
 use Rattle.checks.specs.Replay.{Verdict, holds, clashes, rejected, replay, verdict_on, Checked, finds, judged, refuses, rows, checked}
 use Rattle.checks.specs.Promise.{Claimed, Checks}
 use Rattle.exam.specs.Lent.{jobs_in}
-use Rattle.replay.specs.Ended.{verdict}
 use Rattle.checks.proofs.Meaning.{checks}
 use Rattle.checks.proofs.Rows.{claimed_judged}
 use Rattle.checks.proofs.TooShort.{too_short_unclaimed, too_short_claimed}
 
--- ---- the end of a replay that left the windows U
+-- ---- the end of a replay
 
-module _ (c : Call) (count : ℕ) (v : Verdict) (r : Ended) (U : Win) (h : verdict r U ≡ v) where
-  pub row_holds : (W : Win) → W ≡ U → r ≡ Ended.Holds → finds (said Word.holds (count ∷ [])) W ≡ judged c count v
-  row_holds W e q = let z : holds U ≡ v = rw q at h in rw (← z, e)
+module _ (c : Call) (count : ℕ) (v : Verdict) where
+  -- that left the windows U
+  pub row_holds : (U W : Win) → holds U ≡ v → W ≡ U → finds (said Word.holds (count ∷ [])) W ≡ judged c count v
+  row_holds U W h e = rw (← h, e)
 
-  pub row_clash : (j : ℕ) → r ≡ Ended.Clashes j → finds (said Word.clash (count ∷ j ∷ [])) c.win ≡ judged c count v
-  row_clash j q = let z : clashes j ≡ v = rw q at h in rw (← z)
+  pub row_clash : (j : ℕ) → clashes j ≡ v → finds (said Word.clash (count ∷ j ∷ [])) c.win ≡ judged c count v
+  row_clash j h = rw (← h)
 
-  pub row_rejected : (i k : ℕ) → r ≡ Ended.Rejected i k → finds (said Word.rejected (i ∷ k ∷ [])) c.win ≡ judged c count v
-  row_rejected i k q = let z : rejected i k ≡ v = rw q at h in rw (← z)
+  pub row_rejected : (i k : ℕ) → rejected i k ≡ v → finds (said Word.rejected (i ∷ k ∷ [])) c.win ≡ judged c count v
+  row_rejected i k h = rw (← h)
 
 -- ---- the tests before it
 

@@ -11,8 +11,7 @@ ghost use Rattle.checks.specs.Replay.{replay, finds, judged};
 ghost use Rattle.checks.specs.Promise.{Checks};
 ghost use Rattle.exam.specs.Lent.{jobs_in};
 
-use answers::CheckAnswer;
-use replay::Ended;
+use answers::{CheckAnswer, Code, Refusal};
 
 // The replay on copies of the windows: the caller's are rewritten only where the log holds.
 fn on_copies(
@@ -32,15 +31,14 @@ fn on_copies(
     let mut ends = [0u32; screen::MOST_JOBS];
     windows::save(est, &mut starts);
     windows::save(lct, &mut ends);
-    let end = replay::replayed(&mut starts[..n], &mut ends[..n], dur, dem, cap, log, count);
-    match end {
-        Ended::Holds => {
+    match replay::replayed(&mut starts[..n], &mut ends[..n], dur, dem, cap, log, count) {
+        Ok(None) => {
             windows::restore(&starts, est);
             windows::restore(&ends, lct);
             CheckAnswer::Holds(count)
         }
-        Ended::Clashes(job) => CheckAnswer::Clash(count, job),
-        Ended::Rejected(place, code) => CheckAnswer::Rejected(place, code),
+        Ok(Some(job)) => CheckAnswer::Clash(count, job),
+        Err(bad) => CheckAnswer::Rejected(bad.place, bad.code.into()),
     }
 }
 
@@ -59,19 +57,18 @@ pub fn check_log(
 ) -> CheckAnswer
     ensures { Checks (call (win est.old lct.old) dur.now dem.now cap log.now) count (finds (says_check result) (win est.new lct.new)) }
 {
-    let number = admission::refusal(est, lct, dur, dem, cap, log);
-    if number != 0 {
-        return CheckAnswer::Refused(number);
+    if let Err(refusal) = admission::refusal(est, lct, dur, dem, cap, log) {
+        return CheckAnswer::Refused(refusal.into());
     }
     if logs::room(log) < count {
-        return CheckAnswer::Refused(6);
+        return CheckAnswer::Refused(Refusal::Claimed.into());
     }
-    let short = windows::lowest_too_short(est, lct, dur);
-    if short < est.len() {
-        if 0 < count {
-            return CheckAnswer::Rejected(0, replay::CLOSED);
-        }
-        return CheckAnswer::Clash(0, short);
+    if let Some(short) = windows::lowest_too_short(est, lct, dur) {
+        return if 0 < count {
+            CheckAnswer::Rejected(0, Code::Closed.into())
+        } else {
+            CheckAnswer::Clash(0, short)
+        };
     }
     on_copies(est, lct, dur, dem, cap, log, count)
 }
