@@ -7,9 +7,11 @@ use mathlib.Core.Logic.{inl, inr}
 use Rattle.answers.specs.Said.{Word, said}
 use Rattle.joblist.specs.Limits.{most_jobs}
 use Rattle.journal.specs.Journal.{room_of}
-use Rattle.promises.proofs.Calls.{away_exactly}
+use Rattle.promises.specs.Ask.{Admitted}
+use Rattle.promises.proofs.Calls.{away_exactly, admitted_not_away}
 use Rattle.timetable.specs.Table.{Call, asks, refusal_of}
 use Rattle.checks.specs.Replay.{checked}
+use Rattle.checks.specs.Promise.{RefusedRow}
 use Rattle.checks.proofs.Meaning.{checks}
 use Rattle.conflicts.specs.Table.{Blamed, unmarked, marking}
 use Rattle.conflicts.specs.Promise.{ClashOf, Blames}
@@ -24,8 +26,13 @@ module _ (c : Call) (count : ℕ) (a : Blamed) where
   on_tested zero f e h = absurd (f refl)
   on_tested (suc k) f e h = blames c count a (h ∙ sym (refused_row c count (suc k) (inl ((away_exactly (asks c) (suc k)).0 (omega arith, sym e)))))
 
-  pub on_refused : (k : ℕ) → said Word.refused (k ∷ []) ≡ (checked c count).says → a ≡ unmarked k → Blames c count a
-  on_refused k e h = blames c count a (h ∙ sym (refused_row c count k (((checks c count).exactly.refused k).0 (sym e))))
+  -- past those tests the checker turns away only a claim of more records than there are
+  pub on_refused : Admitted (asks c) → (k : ℕ) → said Word.refused (k ∷ []) ≡ (checked c count).says → a ≡ unmarked 6 → Blames c count a
+  on_refused g k e h = blames c count a (h ∙ sym (refused_row c count 6 (six (((checks c count).exactly.refused k).0 (sym e)))))
+    where
+      six : RefusedRow c count k → RefusedRow c count 6
+      six (inl t) = absurd (admitted_not_away (asks c) g k t)
+      six (inr r) = inr (refl, r.1, r.2)
 
   pub on_holds : (n : ℕ) → said Word.holds (n ∷ []) ≡ (checked c count).says → a ≡ unmarked 8 → Blames c count a
   on_holds n e h = let f = ((checks c count).exactly.holds n).0 (sym e) in blames c count a (h ∙ sym (no_clash_row c count (f.0, inl f.2)))

@@ -4,22 +4,21 @@
 
 ghost use Rattle.std.specs.Prelude.{◌≡◌};
 ghost use Rattle.narrowing.specs.Windows.{win};
-ghost use Rattle.answers.specs.Said.{says_check, says_conflict};
+ghost use Rattle.answers.specs.Said.{number_of, says_check, says_conflict};
 ghost use Rattle.timetable.specs.Table.{call, Good};
 ghost use Rattle.checks.specs.Replay.{checked};
 ghost use Rattle.conflicts.specs.Table.{blame, unmarked};
 ghost use Rattle.conflicts.specs.Promise.{Blames};
 
-use answers::{CheckAnswer, Conflict, ConflictAnswer};
+use answers::{CheckAnswer, Conflict, Refusal};
 
 // A refusal leaves no mark.
-fn refused(number: u32) -> Conflict
-    ensures { blame (says_conflict result.answer) result.set ≡ unmarked number }
+fn refused(refusal: Refusal) -> Conflict
+    ensures { blame (says_conflict result.answer) result.set ≡ unmarked (number_of refusal) }
 {
-    let set = bits::empty();
     Conflict {
-        answer: ConflictAnswer::Refused(number),
-        set,
+        answer: Err(refusal),
+        set: bits::empty(),
     }
 }
 
@@ -57,15 +56,12 @@ pub fn conflict(
 ) -> Conflict
     ensures { Blames (call (win est.now lct.now) dur.now dem.now cap log.now) count (blame (says_conflict result.answer) result.set) }
 {
-    let number = admission::refusal(est, lct, dur, dem, cap, log);
-    if number != 0 {
-        return refused(number);
+    if let Err(refusal) = admission::refusal(est, lct, dur, dem, cap, log) {
+        return refused(refusal);
     }
-    let found = check_copies(est, lct, dur, dem, cap, log, count);
-    match found {
+    match check_copies(est, lct, dur, dem, cap, log, count) {
         CheckAnswer::Clash(_, job) => marker::marks(log, count, job),
-        CheckAnswer::Refused(k) => refused(k),
-        CheckAnswer::Holds(_) => refused(8),
-        CheckAnswer::Rejected(_, _) => refused(8),
+        CheckAnswer::Refused(_) => refused(Refusal::Claimed),
+        CheckAnswer::Holds(_) | CheckAnswer::Rejected(_, _) => refused(Refusal::NoClash),
     }
 }

@@ -24,5 +24,4 @@ slice_bounds-check_log-end-2 c = same (goal.at.slice_bounds-check_log-end-2 c).A
 
 pub returns : goal.returns
 returns c =
-    let d = c in
     ap (λ (y : Checked). y.says) c.check_log.ensures.answered ∙ rw (starts-front (goal.at.returns c).After-save-2, ends-front (goal.at.returns c).After-save-2)
