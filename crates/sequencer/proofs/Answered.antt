@@ -30,13 +30,18 @@ win_by W (Answer.Settled n) X = X
 win_by W (Answer.Clash n j) X = W
 win_by W (Answer.Refused k) X = W
 
+pub unsettled : (W : Win) (a : Answer) (X : Win) → ((n : ℕ) → a ≡ Answer.Settled n → ⊥) → win_by W a X ≡ W
+unsettled W (Answer.Settled n) X h = absurd (h n refl)
+unsettled W (Answer.Clash n j) X h = refl
+unsettled W (Answer.Refused k) X h = refl
+
 module _ (W : Win) (p : List ℕ) where
   -- the number that the code's tests give
   abbrev pub Number : ℕ → Type 0
   Number k = k ≡ refusal (jobs W) (three_lists W p) []
 
-  pub accepted : (k : ℕ) → Number k → k ≡ 0 → GoodHead W p
-  accepted k e z = (refusal_exactly (jobs W) (three_lists W p) [] 0).0 (sym e ∙ z)
+  pub accepted : Number 0 → GoodHead W p
+  accepted e = (refusal_exactly (jobs W) (three_lists W p) [] 0).0 (sym e)
 
   -- whatever the answer table says is promised
   by_table : (a : After) → narrowed (head_ask W p) ≡ a → Sequences W p (unwritten a)

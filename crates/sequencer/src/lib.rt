@@ -12,12 +12,10 @@ use answers::Answer;
 pub fn sequence(est: &mut [u32], lct: &mut [u32], dur: &[u32]) -> Answer
     ensures { Sequences (win est.old lct.old) dur.now (left (says result) (win est.new lct.new)) }
 {
-    let number = screen::refusal_of_three(est, lct, dur);
-    if number != 0 {
-        return Answer::Refused(number);
+    if let Err(refusal) = screen::refusal_of_three(est, lct, dur) {
+        return Answer::Refused(u32::from(refusal));
     }
-    let short = windows::lowest_too_short(est, lct, dur);
-    if short < est.len() {
+    if let Some(short) = windows::lowest_too_short(est, lct, dur) {
         return Answer::Clash(0, short);
     }
     let n = est.len();
@@ -26,13 +24,9 @@ pub fn sequence(est: &mut [u32], lct: &mut [u32], dur: &[u32]) -> Answer
     windows::save(est, &mut e);
     windows::save(lct, &mut l);
     let end = sequencing::work(&mut e[..n], &mut l[..n], dur);
-    match end {
-        Answer::Settled(count) => {
-            windows::restore(&e, est);
-            windows::restore(&l, lct);
-            Answer::Settled(count)
-        }
-        Answer::Clash(count, job) => Answer::Clash(count, job),
-        Answer::Refused(number) => Answer::Refused(number),
+    if let Answer::Settled(_) = end {
+        windows::restore(&e, est);
+        windows::restore(&l, lct);
     }
+    end
 }
