@@ -4,7 +4,9 @@ use native.Mathlib.Omega.{arith}
 use mathlib.Core.Path.{◌≡◌, refl, sym, ap, ◌∙◌}
 use mathlib.Core.List.{List, [], ◌∷◌}
 use lib.ListN.{drop}
-use Rattle.std.specs.Prelude.{Option, Some, None}
+use Rattle.std.specs.Prelude.{Option, Some, None, Ok, Err}
+use Rattle.answers.specs.declared.reasons.Refusal.{Refusal}
+use Rattle.answers.specs.Said.{number_of}
 use Rattle.chains.specs.Paths.{Pair, pair}
 use Rattle.texts.specs.Tokens.{Token, tokens}
 use Rattle.texts.specs.Readings.{Read, bad, good}
@@ -38,7 +40,7 @@ pub pulling_start : (s : TextPairs) → Pullable s → Pulling s s
 pulling_start s h = record { jobs = refl; table = refl; text = refl; can = h; same = refl; later = omega arith }
 
 module _ (s₀ s : TextPairs) (g : Pulling s₀ s) where
-  pub pulling_row : (d q : ℕ) (u : Walk) → StepSays s.n s.table 0 s.text.now s.walk (steps.Begun d q u) → Pulling s₀ (record s { walk = u })
+  pub pulling_row : (d q : ℕ) (u : Walk) → StepSays s.n s.table 0 s.text.now s.walk (Ok (steps.Begun d q u)) → Pulling s₀ (record s { walk = u })
   pulling_row d q u t = record {
     jobs = g.jobs;
     table = g.table;
@@ -52,7 +54,7 @@ module _ (s₀ s : TextPairs) (g : Pulling s₀ s) where
   pulled : (r : Option (ℕ × ℕ)) (u : Walk) → PullSays s₀.n s₀.table s₀.text.now s₀.walk r u → Pulled s₀ r (record s { walk = u })
   pulled r u h = record { says = h; jobs = g.jobs; table = g.table; text = g.text; few = rw g.jobs at g.can.1 }
 
-  pub pulling_pair : (v : ℕ) (u : Walk) → StepSays s.n s.table 0 s.text.now s.walk (steps.Successor v u) → Pulled s₀ (Some (s.walk.next - 1, v)) (record s { walk = u })
+  pub pulling_pair : (v : ℕ) (u : Walk) → StepSays s.n s.table 0 s.text.now s.walk (Ok (steps.Successor v u)) → Pulled s₀ (Some (s.walk.next - 1, v)) (record s { walk = u })
   pulling_pair v u t =
       pulled (Some (s.walk.next - 1, v)) u
       (rw (← g.jobs, ← g.table, ← g.text) (
@@ -63,8 +65,8 @@ module _ (s₀ s : TextPairs) (g : Pulling s₀ s) where
         t.3,
       ))
 
-  pub pulling_done : StepSays s.n s.table 0 s.text.now s.walk steps.Done → Pulled s₀ None s
+  pub pulling_done : StepSays s.n s.table 0 s.text.now s.walk (Ok steps.Done) → Pulled s₀ None s
   pulling_done t = pulled None s.walk (λ ps end e. let q : good [] (tokens (drop s.walk.at s.text.now)) ≡ good ps end = sym (ap only_pairs t.0) ∙ sym g.same ∙ e in cc)
 
-  pub pulling_stop : (c : ℕ) → StepSays s.n s.table 0 s.text.now s.walk (steps.Refused c) → Pulled s₀ None s
-  pulling_stop c t = pulled None s.walk (λ ps end e. bad_not_good (bad c) c ps end refl (sym (ap only_pairs t) ∙ sym g.same ∙ e))
+  pub pulling_stop : (c : Refusal) → StepSays s.n s.table 0 s.text.now s.walk (Err c) → Pulled s₀ None s
+  pulling_stop c t = pulled None s.walk (λ ps end e. bad_not_good (bad (number_of c)) (number_of c) ps end refl (sym (ap only_pairs t) ∙ sym g.same ∙ e))

@@ -49,14 +49,14 @@ impl<'a> Iterator for TextPairs<'a> {
     fn next(&mut self) -> Option<(u32, u32)> {
         loop {
             match walking::advance(self.text, self.n, self.table, 0, self.walk) {
-                Step::Successor(v, walk) => {
+                Ok(Step::Successor(v, walk)) => {
                     let job = self.walk.next - 1;
                     self.walk = walk;
                     return Some((job, v));
                 }
-                Step::Begun(_, _, walk) => self.walk = walk,
-                Step::Done => return None,
-                Step::Refused(_) => return None,
+                Ok(Step::Begun(_, _, walk)) => self.walk = walk,
+                Ok(Step::Done) => return None,
+                Err(_) => return None,
             }
         }
     }
