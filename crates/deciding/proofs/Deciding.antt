@@ -1,5 +1,5 @@
 -- From what the parts say to what is decided, for a text of any layout that was parsed.
-use Prim.Native.Nat.{ℕ, zero, suc, ◌≤◌, ◌<◌}
+use Prim.Native.Nat.{ℕ, ◌≤◌, ◌<◌}
 use native.Mathlib.Omega.{arith}
 use mathlib.Core.Path.{◌≡◌, refl, sym, ap, ◌∙◌, subst}
 use mathlib.Core.Bool.{true, false}
@@ -7,7 +7,10 @@ use mathlib.Core.List.{List, []}
 use mathlib.Core.Logic.{inl, inr}
 use lib.ListN.{length}
 use lib.Seq.{get_or-take}
+use Rattle.std.specs.Prelude.{Ok, Err}
 use Rattle.lists.specs.Lists.{◌!◌}
+use Rattle.answers.specs.declared.reasons.Refusal as reasons
+use Rattle.answers.specs.Said.{number_of}
 use Rattle.joblist.specs.Limits.{most_time, most_jobs}
 use Rattle.chains.specs.Paths.{Below, Longer, weight}
 use Rattle.chains.proofs.Chains.{chain_map}
@@ -15,9 +18,8 @@ use Rattle.texts.specs.Readings.{Read, bad}
 use Rattle.projects.specs.Projects.{Project, pairs_of}
 use Rattle.parsing.specs.Parsed.{Parsing, ParsedSays}
 use Rattle.parsing.specs.declared.Shape.{Shape}
-use Rattle.parsing.specs.declared.Parsed.{Parsed}
-use Rattle.parsing.proofs.Parsing.{parsing_range, parsing_few}
-use Rattle.precedence.specs.Chains.{OrderSays}
+use Rattle.parsing.proofs.Parsing.{parsing_range}
+use Rattle.precedence.specs.Chains.{ChainsFound, OrderSays}
 use Rattle.exchange.specs.Calls.{Lent, Order, duration_of}
 use Rattle.exchange.specs.Tests.{ListsFit, Unfit, Met, Refusal, TooLong}
 use Rattle.exchange.proofs.Tests.{none_tested, refusal_of_lem}
@@ -62,13 +64,9 @@ module _ (s : List ℕ) (res : ℕ) (durs dems : List ℕ) (z : Shape) (x : Proj
         over = omega (arith, l.over, duration_at l.last b);
       }
 
--- a text that is read has few jobs
-pub few_jobs : (t : Read Project) (s : List ℕ) (res : ℕ) (durs dems : List ℕ) (g : Parsed) (z : Shape) → g ≡ Parsed.Read z → ParsedSays t s res durs dems g → z.n ≤ most_jobs
-few_jobs t s res durs dems g z e says = let u = rw e at says in parsing_few _ _ _ _ _ _ u.2
-
 -- the tests of such a text, in lists of these lengths
 module _ (t : Read Project) (res h : ℕ) (L : Lent) (m : Sizes) (long : LongAs L m) (near : h ≤ most_time) (s durs dems : List ℕ) (z : Shape)
-    (u : ParsedSays t s res durs dems (Parsed.Read z)) where
+    (u : ParsedSays t s res durs dems (Ok z)) where
   abbrev x : Project
   x = u.0
 
@@ -91,15 +89,12 @@ module _ (t : Read Project) (res h : ℕ) (L : Lent) (m : Sizes) (long : LongAs 
       fits : ListsFit x L
       fits = rw (p.jobs, p.count, long.est, long.lct, long.dur, long.dem, long.jobs, long.successors) r
 
-      pub no_order : (c : ℕ) → (c ≡ 0 → ⊥) → OrderSays (pairs_of x) z.n durs h heads tails c → Refusal (asked t res h L) c
-      no_order zero f o = absurd (f refl)
-      no_order (suc c) f (inl q) = refusal_of_lem (asked t res h L) x [] u.1 (suc c) near (inr (pick, inr (fits, inl (q.1, q.0))))
-      no_order (suc c) f (inr q) = refusal_of_lem (asked t res h L) x [] u.1 (suc c) near (inr (pick, inr (fits, inr (q.1, inl (longer_out s res durs dems z x p h q.2, q.0)))))
+      pub no_order : (c : reasons.Refusal) → OrderSays (pairs_of x) z.n durs h heads tails (Err c) → Refusal (asked t res h L) (number_of c)
+      no_order c (inl q) = rw q.0 (refusal_of_lem (asked t res h L) x [] u.1 33 near (inr (pick, inr (fits, inl (q.1, refl)))))
+      no_order c (inr q) = rw q.0 (refusal_of_lem (asked t res h L) x [] u.1 34 near (inr (pick, inr (fits, inr (q.1, inl (longer_out s res durs dems z x p h q.2, refl))))))
 
-      pub all_passed : (c : ℕ) → c ≡ 0 → OrderSays (pairs_of x) z.n durs h heads tails c
-          → Accepted (asked t res h L) s (record { heads = heads; tails = tails; dur = durs; dem = dems }) z
-      all_passed c none says =
-          let o = rw none at says in
+      pub all_passed : ChainsFound (pairs_of x) z.n durs h heads tails → Accepted (asked t res h L) s (record { heads = heads; tails = tails; dur = durs; dem = dems }) z
+      all_passed o =
           let short : TooLong x h → ⊥ = λ l. o.short (longer_in s res durs dems z x p h l) in
           record {
             x = x;

@@ -1,15 +1,18 @@
 -- What is decided of a project text before a lent word is written: the number of the refusal, or that no test fails, and what the lists are filled from.
-use Rattle.std.specs.Prelude.{ℕ, ◌≡◌, List, [], length}
+use Rattle.std.specs.Prelude.{ℕ, ◌≡◌, List, [], length, Result, Ok, Err}
+use Rattle.answers.specs.declared.reasons.Refusal as reasons
+use Rattle.answers.specs.Said.{number_of}
 use Rattle.texts.specs.Readings.{good}
 use Rattle.projects.specs.Projects.{Project, pairs_of}
 use Rattle.parsing.specs.declared.Shape.{Shape}
-use Rattle.parsing.specs.declared.Parsed.{Parsed}
 use Rattle.parsing.specs.Parsed.{Parsing}
 use Rattle.precedence.specs.Chains.{ChainsFound}
 use Rattle.exchange.specs.Calls.{Lent, TextCall}
 use Rattle.exchange.specs.Tests.{Refusal}
 use Rattle.lent.specs.declared.Sizes.{Sizes}
 use Rattle.lent.specs.declared.Draft.{Draft}
+use Rattle.lent.specs.Parts.{Drafted}
+use Rattle.deciding.specs.declared.Decided.{Decided}
 
 -- the lent lists have these lengths
 pub record LongAs (L : Lent) (z : Sizes) : Type 0 where
@@ -28,7 +31,7 @@ pub record Accepted (c : TextCall) (s : List ℕ) (d : Draft) (z : Shape) : Type
   pub refusal : Refusal c 0
   pub chains : ChainsFound (pairs_of x) z.n d.dur c.horizon d.heads d.tails
 
--- by the answer: taken, or the number of the first test that fails
-abbrev pub DecidedSays : TextCall → List ℕ → Draft → Parsed → Type 0
-DecidedSays c s d (Parsed.Read z) = Accepted c s d z
-DecidedSays c s d (Parsed.Refused k) = Refusal c k × (k ≡ 0 → ⊥)
+-- by the result: taken, or the first test that fails
+abbrev pub DecidedSays : TextCall → List ℕ → Result Decided reasons.Refusal → Type 0
+DecidedSays c s (Ok d) = Accepted c s d.draft d.shape × Drafted d.draft
+DecidedSays c s (Err r) = Refusal c (number_of r)
