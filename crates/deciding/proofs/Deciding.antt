@@ -7,18 +7,22 @@ use mathlib.Core.List.{List, []}
 use mathlib.Core.Logic.{inl, inr}
 use lib.ListN.{length}
 use lib.Seq.{get_or-take}
-use Rattle.std.specs.Prelude.{Ok, Err}
+use Rattle.std.specs.Prelude.{Result, Ok, Err}
 use Rattle.lists.specs.Lists.{◌!◌}
 use Rattle.answers.specs.declared.reasons.Refusal as reasons
 use Rattle.answers.specs.Said.{number_of}
-use Rattle.joblist.specs.Limits.{most_time, most_jobs}
-use Rattle.chains.specs.Paths.{Below, Longer, weight}
+use Rattle.joblist.specs.Limits.{most_time}
+use Rattle.chains.specs.Paths.{Pair, Precedes, Below, Longer, weight}
 use Rattle.chains.proofs.Chains.{chain_map}
-use Rattle.texts.specs.Readings.{Read, bad}
+use Rattle.texts.specs.Tokens.{Token}
+use Rattle.texts.specs.Readings.{Read, bad, good}
 use Rattle.projects.specs.Projects.{Project, pairs_of}
 use Rattle.parsing.specs.Parsed.{Parsing, ParsedSays}
 use Rattle.parsing.specs.declared.Shape.{Shape}
 use Rattle.parsing.proofs.Parsing.{parsing_range}
+use Rattle.walking.specs.Comes.{rows_at}
+use Rattle.precedence.specs.declared.text_pairs.TextPairs.{TextPairs}
+use Rattle.precedence.specs.Pairs.{coming}
 use Rattle.precedence.specs.Chains.{ChainsFound, OrderSays}
 use Rattle.exchange.specs.Calls.{Lent, Order, duration_of}
 use Rattle.exchange.specs.Tests.{ListsFit, Unfit, Met, Refusal, TooLong}
@@ -72,6 +76,12 @@ module _ (t : Read Project) (res h : ℕ) (L : Lent) (m : Sizes) (long : LongAs 
 
   abbrev p : Parsing s res durs dems z u.0
   p = u.2
+
+  -- what is said of the pairs of the text, read from where its rows begin
+  pub ordered : (q : TextPairs) → (q.text.now ≡ s) × (q.n ≡ z.n) × (q.table ≡ z.table) × (q.walk ≡ rows_at z.at) → (heads tails : List ℕ) (r : Result Unit reasons.Refusal)
+      → ((ps : List Pair) (end : List Token) → coming q ≡ good ps end → Below q.n (Precedes ps) → OrderSays ps q.n durs h heads tails r)
+      → OrderSays (pairs_of x) z.n durs h heads tails r
+  ordered q e heads tails r o = rw e.1 at (o (pairs_of x) p.end (rw (e.0, e.1, e.2, e.3) p.come) (rw e.1 (range s res durs dems z x p)))
 
   pub no_resource : z.k ≤ res → Refusal (asked t res h L) 37
   no_resource b = refusal_of_lem (asked t res h L) x [] u.1 37 near (inl (omega (arith, p.resources), refl))

@@ -8,9 +8,8 @@ mod layout;
 ghost use Rattle.exchange.specs.Calls.{Lent};
 ghost use Rattle.deciding.specs.Decided.{LongAs, DecidedSays};
 
-pub use layout::{Layout, Patterson, Psplib};
-
 use answers::Refusal;
+pub use layout::{Layout, Patterson, Psplib};
 use lent::{Draft, Sizes};
 use parsing::Shape;
 use precedence::TextPairs;
