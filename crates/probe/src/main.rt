@@ -20,14 +20,27 @@
 
 mod replies;
 
-ghost use Rattle.std.specs.Prelude.{◌≡◌, length};
-ghost use Rattle.requests.specs.Sizes.{line_words, text_bytes};
-
 use intake::{Cursor, next_line};
 use printing::Sink;
 use replies::reply;
-use requests::{TEXT, WORDS};
+use requests::{Request, TEXT, WORDS};
 use std::io::Read;
+
+// Room for the lists of a line, and for its bytes.
+#[derive(Drop)]
+struct Room {
+    words: [u32; WORDS],
+    text: [u8; TEXT],
+}
+
+impl Room {
+    fn new() -> Room {
+        Room {
+            words: [0; WORDS],
+            text: [0; TEXT],
+        }
+    }
+}
 
 // Answers the line that the cursor is at the start of, and goes to the start of the next. The answer is written out before
 // anything more is read, so that it is seen at once.
@@ -36,16 +49,13 @@ fn line(
     input: &mut impl Read,
     source: &mut [u8],
     c: Cursor,
-    words: &mut [u32],
-    text: &mut [u8],
+    room: &mut Room,
 ) -> Cursor {
-    let request = requests::take(input, source, c, words, text);
-    let call = request.call;
-    let taken = request.line;
-    let n = taken.bytes;
-    reply(sink, call, taken, words, &mut text[..n]);
+    let Request { call, line } = requests::take(input, source, c, &mut room.words, &mut room.text);
+    let text = &mut room.text[..];
+    reply(sink, call, line, &mut room.words, &mut text[..line.bytes]);
     sink.finish();
-    next_line(input, source, taken.cursor)
+    next_line(input, source, line.cursor)
 }
 
 // Every line of the input. There are no more lines than bytes: the number of turns is not used up either.
@@ -53,42 +63,25 @@ fn serve(
     sink: &mut Sink<'_, impl Print>,
     input: &mut impl Read,
     source: &mut [u8],
-    words: &mut [u32],
-    text: &mut [u8],
+    room: &mut Room,
 ) {
     let mut cursor = intake::start(input, source);
     for _ in 0..intake::LONG {
         if cursor.left == 0 {
             return;
         }
-        cursor = line(sink, input, source, cursor, words, text);
+        cursor = line(sink, input, source, cursor, room);
     }
-}
-
-// Room for the lists of a line, and for its bytes. The `ensures` give only the lengths, which lending the arrays as slices needs.
-fn room() -> [u32; WORDS]
-    ensures { line_words ≡ length result }
-{
-    [0; WORDS]
-}
-
-fn text_room() -> [u8; TEXT]
-    ensures { text_bytes ≡ length result }
-{
-    [0; TEXT]
 }
 
 // The arrays take 1.2 MB of the stack; a call that reads a project list takes 0.3 MB more.
 fn main(rt: HostRuntime) {
     let mut input = rt.stdin();
     let mut source = io::large_buffer();
-    let mut words = room();
-    let mut text = text_room();
     serve(
         &mut Sink::new(&rt),
         &mut input,
         &mut source,
-        &mut words,
-        &mut text,
+        &mut Room::new(),
     );
 }
