@@ -8,7 +8,8 @@ ghost use Rattle.sayings.specs.Sayings.{Tells};
 use answers::{Answer, CheckAnswer, Overload, ProjectRead, Refusal};
 use std::fmt;
 
-// The answer words of documents 01 and 02 with their numbers, and two of the programs' own: that a record is shown, and that a line cannot be read.
+// The answer words of documents 01 and 02 with their numbers, and two of the programs' own: that a record is shown, and that a line cannot be read. It is
+// what is printed, so `Refused`, `Rejected` and `None` are words beside the others; a call answers with a Result or with one of the forms that 01 binds.
 #[derive(Clone, Copy)]
 pub enum Saying {
     Settled(usize),
@@ -25,7 +26,8 @@ pub enum Saying {
     Unreadable,
 }
 
-// A function for each call, and no `From`: a number that came from the writer and one of marked jobs have types that say nothing of it.
+// A function for each call, and no `From`: a `Result<usize, Refusal>` does not say that it came from the writer, nor a `Result<u32, Refusal>` that jobs are
+// marked.
 pub fn narrowing(a: Answer) -> Saying
     ensures { Tells result (says a) }
 {
