@@ -4,11 +4,8 @@ use native.Mathlib.Omega.{arith}
 use native.Mathlib.Decide.{dec_lt, ℕ_discrete}
 use mathlib.Core.Path.{◌≡◌}
 use mathlib.Core.List.{List}
-use lib.ListN.{length}
 use Rattle.lists.specs.Lists.{◌!◌}
 use Rattle.lists.specs.Extremes.{LastWith, FirstWith}
-use Rattle.profile.specs.declared.kept.Outline.{Outline}
-use Rattle.peaks.specs.Peaks.{LastOver, FirstOver}
 use Rattle.profile.specs.Steps.{behind_all, Points, Levels, Piece}
 
 module _ (ts ld : List ℕ) (m limit a b : ℕ) where
@@ -38,9 +35,6 @@ module _ (ts ld : List ℕ) (m limit a b : ℕ) where
     pub listed : i < m
     pub before : ts ! i < b
     pub ahead : a < ts ! (i + 1)
-
-  pub in_lists : (i : ℕ) → At i → (i + 1 < length ts) × (i < length ld)
-  in_lists i A = omega (arith, A.listed, A.points.grid.inside, A.points.beside)
 
   -- ---- down from b: the pieces above i are passed
   pub record Down (i : ℕ) : Type 0 where
@@ -164,24 +158,3 @@ module _ (ts ld : List ℕ) (m limit a b : ℕ) where
         go : (y : ℕ) → x ≡ y → a ≤ y → ts ! i ≤ y → y < ts ! (i + 1) → y ≤ b → ((t : ℕ) → a ≤ t → t < y → f t ≤ limit) → FirstWith (λ t. limit < f t) a b x
         go y e n o k l c =
             rw e record { from = n; to = l; has = λ d. omega (arith, L i y D.at.listed o k); none_before = λ t v w z. omega (arith, c t v w) }
-
--- ---- where no piece is looked at
-
-module _ (ts ld : List ℕ) (k : Outline) (limit a b : ℕ) where
-  -- nothing is over the limit
-  pub last_low : a ≤ b → k.peak ≤ limit → LastOver ts ld k limit a b a
-  last_low h p f K =
-      record { from = omega arith; to = h; has = λ t e d. absurd (omega arith); none_behind = λ t u v o. omega (arith, K.peak t) }
-
-  pub first_low : a ≤ b → k.peak ≤ limit → FirstOver ts ld k limit a b b
-  first_low h p f K =
-      record { from = h; to = omega arith; has = λ d. absurd (omega arith); none_before = λ t u v o. omega (arith, K.peak t) }
-
-  -- there is nothing to look at
-  pub last_empty : a ≤ b → b ≤ a → LastOver ts ld k limit a b a
-  last_empty h e f K =
-      record { from = omega arith; to = h; has = λ t q d. absurd (omega arith); none_behind = λ t u v o. absurd (omega arith) }
-
-  pub first-empty : a ≤ b → b ≤ a → FirstOver ts ld k limit a b b
-  first-empty h e f K =
-      record { from = h; to = omega arith; has = λ d. absurd (omega arith); none_before = λ t u v o. absurd (omega arith) }

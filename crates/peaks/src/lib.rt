@@ -6,7 +6,6 @@ ghost use Rattle.std.specs.Prelude.{◌<◌, ◌≤◌};
 ghost use Rattle.profile.specs.Steps.{behind_all, Points};
 ghost use Rattle.peaks.specs.Peaks.{LastOver, FirstOver};
 
-use minmax::{greater, lesser};
 use profile::{Outline, find};
 
 // One more than the last t with a <= t < b over the limit, and a where there is none. Walks the pieces down from the one of b - 1, to that of
@@ -15,21 +14,19 @@ pub fn last_over(ts: &[u32], ld: &[u32], kept: Outline, a: u32, b: u32, limit: u
     requires { Points ts.now ld.now kept.m × (a ≤ b) × (b < behind_all) }
     ensures { LastOver ts.now ld.now kept limit a b result }
 {
-    if kept.peak <= limit {
+    if kept.peak <= limit || b <= a {
         return a;
     }
-    if b <= a {
-        return a;
-    }
-    let m = kept.m;
-    let mut i = find(ts, m, b - 1);
-    while ld[i] <= limit {
-        if ts[i] <= a {
-            return a;
+    let last = find(ts, kept.m, b - 1);
+    for i in (0..last + 1).rev() {
+        if limit < ld[i] {
+            return b.min(ts[i + 1]);
         }
-        i -= 1;
+        if ts[i] <= a {
+            break;
+        }
     }
-    lesser(ts[i + 1], b)
+    a
 }
 
 // The first t with a <= t < b over the limit, and b where there is none. Walks the pieces up from a's, to the last one before b at most.
@@ -37,19 +34,16 @@ pub fn first_over(ts: &[u32], ld: &[u32], kept: Outline, a: u32, b: u32, limit: 
     requires { Points ts.now ld.now kept.m × (a ≤ b) × (b < behind_all) }
     ensures { FirstOver ts.now ld.now kept limit a b result }
 {
-    if kept.peak <= limit {
+    if kept.peak <= limit || b <= a {
         return b;
     }
-    if b <= a {
-        return b;
-    }
-    let m = kept.m;
-    let mut i = find(ts, m, a);
-    while ld[i] <= limit {
-        i += 1;
-        if b <= ts[i] {
-            return b;
+    for i in find(ts, kept.m, a)..kept.m {
+        if limit < ld[i] {
+            return a.max(ts[i]);
+        }
+        if b <= ts[i + 1] {
+            break;
         }
     }
-    greater(ts[i], a)
+    b
 }

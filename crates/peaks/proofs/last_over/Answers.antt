@@ -1,50 +1,26 @@
 use native.Mathlib.Omega.{arith}
-use Rattle.peaks.proofs.Walks.{in_lists, down_start, down_inner, down_step, down_none, down_found, last_low, last_empty}
+use Prim.Native.Nat.{◌+◌, ◌-◌}
+use mathlib.Core.Path.{◌≡◌}
+use Rattle.peaks.proofs.Walks.{down_start, down_inner, down_step, down_none, down_found}
 use Rattle.peaks.proofs.last_over.Goals as goal
-
-pub returns-then-kept-limit : goal.returns-then-kept-limit
-returns-then-kept-limit c = last_low _ _ _ _ _ _ c.requires.1 c.if-kept-limit.true
-
-pub returns-then-b-a : goal.returns-then-b-a
-returns-then-b-a c = last_empty _ _ _ _ _ _ c.requires.1 c.if-b-a.true
-
-pub overflow_sub-b : goal.overflow_sub-b
-overflow_sub-b c = omega arith
-
-pub find-i-requires : goal.find-i-requires
-find-i-requires c = (c.requires.0.grid, omega arith)
 
 pub loop-i-init : goal.loop-i-init
 loop-i-init c =
     let p = c.requires in
-    down_start _ _ _ _ _ _ p.0 c.if-b-a.false p.2 _ c.find-i.ensures
-
-pub bounds-ld-i : goal.bounds-ld-i
-bounds-ld-i c = omega (arith, in_lists _ _ _ _ _ _ _ c.loop-i.invariant.at)
-
-pub bounds-ts-i : goal.bounds-ts-i
-bounds-ts-i c = omega (arith, in_lists _ _ _ _ _ _ _ c.loop-i.invariant.at)
-
-pub returns-then-ts-i : goal.returns-then-ts-i
-returns-then-ts-i c = λ f K. down_none _ _ _ _ _ _ _ c.loop-i.invariant c.loop-i-test.true c.if-ts-i.true f K.levels
-
-pub overflow_sub-i : goal.overflow_sub-i
-overflow_sub-i c = down_inner _ _ _ _ _ _ _ c.loop-i.invariant c.if-ts-i.false
-
-pub loop-i-smaller : goal.loop-i-smaller
-loop-i-smaller c = omega (arith, down_inner _ _ _ _ _ _ _ c.loop-i.invariant c.if-ts-i.false)
+    let e : c.find-last.result + 1 - 1 ≡ c.find-last.result = omega arith in
+    (omega arith, rw e (down_start _ _ _ _ _ _ p.0 (omega arith) p.2 _ c.find-last.ensures))
 
 pub loop-i-preserved : goal.loop-i-preserved
-loop-i-preserved c = down_step _ _ _ _ _ _ _ c.loop-i.invariant c.loop-i-test.true c.if-ts-i.false
+loop-i-preserved c =
+    let D = c.loop-i.invariant.1 in
+    (down_inner _ _ _ _ _ _ _ D (omega arith), down_step _ _ _ _ _ _ _ D (omega arith) (omega arith))
 
-pub overflow_add-i : goal.overflow_add-i
-overflow_add-i c = omega (arith, in_lists _ _ _ _ _ _ _ c.loop-i.invariant.at)
+pub returns-then-limit-ld : goal.returns-then-limit-ld
+returns-then-limit-ld c =
+    λ f K. down_found _ _ _ _ _ _ _ c.loop-i.invariant.1 (omega arith) _ (λ h. omega (arith, c.min.ensures)) (λ h. omega (arith, c.min.ensures)) f K.levels
 
-pub offset_bounds-ts-i-2 : goal.offset_bounds-ts-i-2
-offset_bounds-ts-i-2 c = omega (arith, in_lists _ _ _ _ _ _ _ c.loop-i.invariant.at)
+pub returns-then-ts-i : goal.returns-then-ts-i
+returns-then-ts-i c = λ f K. down_none _ _ _ _ _ _ _ c.loop-i.invariant.1 (omega arith) (omega arith) f K.levels
 
-pub bounds-ts-i-2 : goal.bounds-ts-i-2
-bounds-ts-i-2 c = omega (arith, in_lists _ _ _ _ _ _ _ c.loop-i.invariant.at)
-
-pub returns : goal.returns
-returns c = λ f K. down_found _ _ _ _ _ _ _ c.loop-i.invariant c.loop-i-test.false _ c.lesser.ensures.2 c.lesser.ensures.3 f K.levels
+pub returns-after-loop-i : goal.returns-after-loop-i
+returns-after-loop-i c = absurd (omega arith)
