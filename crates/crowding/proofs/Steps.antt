@@ -3,10 +3,11 @@ use Prim.Native.Nat.{ℕ, zero, suc, ◌+◌, ◌*◌, ◌≤◌}
 use native.Mathlib.Omega.{arith}
 use native.Mathlib.Numerals.{add-one}
 use mathlib.Core.Path.{◌≡◌, refl}
-use mathlib.Core.Bool.{not}
+use mathlib.Core.Bool.{true, false, not}
 use mathlib.Core.List.{List, [], ◌∷◌}
 use lib.Dec.{leb, ltb, eqb}
 use lib.ListN.{length}
+use borrow.Author.Tests.{eq-eqb, ne_eqb}
 use Rattle.lists.specs.Lists.{◌!◌}
 use Rattle.lists.specs.Tests.{both, only}
 use Rattle.lists.specs.Sums.{total}
@@ -32,10 +33,21 @@ module _ (J : Jobs) (W : Win) (j t : ℕ) where
   unfolding load_below
   load_zero = rw total-zero
 
-  pub load_more : (k : ℕ)
-      → load_below (k + 1) ≡ load_below k + only (both (not (eqb k j)) (both (leb (W.l ! k) (t + J.p ! k)) (ltb t (W.e ! k + J.p ! k)))) (J.r ! k)
-  unfolding load_below sure
+  load_more : (k : ℕ) → load_below (k + 1) ≡ load_below k + only (both (not (eqb k j)) (sure J.p W k t)) (J.r ! k)
+  unfolding load_below
   load_more k = rw add-one (total_suc _ k)
+
+  -- another job whose sure part holds t adds its demand, and the others add nothing
+  pub load_with : (k : ℕ) → (k ≡ j → ⊥) → both (leb (W.l ! k) (t + J.p ! k)) (ltb t (W.e ! k + J.p ! k)) ≡ true → load_below (k + 1) ≡ load_below k + J.r ! k
+  unfolding sure
+  load_with k d h = rw (load_more k, ne_eqb k j d, h)
+
+  pub load_own : (k : ℕ) → k ≡ j → load_below (k + 1) ≡ load_below k
+  load_own k h = rw (load_more k, eq-eqb k j h) (omega arith)
+
+  pub load_apart : (k : ℕ) → (k ≡ j → ⊥) → both (leb (W.l ! k) (t + J.p ! k)) (ltb t (W.e ! k + J.p ! k)) ≡ false → load_below (k + 1) ≡ load_below k
+  unfolding sure
+  load_apart k d h = rw (load_more k, ne_eqb k j d, h) (omega arith)
 
   pub load_all : load_below J.n ≡ load J W j t
   unfolding load_below load

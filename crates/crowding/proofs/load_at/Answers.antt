@@ -6,12 +6,12 @@ use Rattle.narrowing.specs.Windows.{win}
 use Rattle.timetable.specs.Table.{jobs_of}
 use Rattle.crowding.specs.Asked.{asked}
 use Rattle.timetable.proofs.Good.{start_most, ends_sized, durations_sized, demands_sized, duration_most}
-use Rattle.crowding.proofs.Steps.{load_below, load_zero, load_more, load_all, load_fits}
+use Rattle.crowding.proofs.Steps.{load_below, load_zero, load_with, load_own, load_apart, load_all, load_fits}
 use Rattle.crowding.proofs.load_at.Goals as goal
-use Rattle.crowding.proofs.load_at.Goals.{After-share-sum}
+use Rattle.crowding.proofs.load_at.Goals.{then-k-job+then-sure, else-k-job, else-k-job-via-then-k-job+else-sure, else-k-job-via-else-k-job}
 
 pub loop-k-init : goal.loop-k-init
-loop-k-init c = (omega arith, sym (load_zero _ _ _ _))
+loop-k-init c = sym (load_zero _ _ _ _)
 
 pub bounds-lct-k : goal.bounds-lct-k
 bounds-lct-k c = omega (arith, ends_sized c.requires.0)
@@ -22,26 +22,38 @@ bounds-dur-k c = omega (arith, durations_sized c.requires.0)
 pub bounds-dem-k : goal.bounds-dem-k
 bounds-dem-k c = omega (arith, demands_sized c.requires.0)
 
-pub share-sum-requires : goal.share-sum-requires
-share-sum-requires c =
+pub sure-requires : goal.sure-requires
+sure-requires c =
     let s = c.requires in
     (start_most s.0 c.loop-k.k, duration_most s.0 c.loop-k.k, s.1)
 
--- the load with one job more
-sum_more : (d : After-share-sum)
-    → let a = d.args in
-    d.loop-k.sum + d.share-sum.result ≡ load_below (jobs_of (asked a.est.now a.lct.now a.dur.now a.dem.now 0)) (win a.est.now a.lct.now) a.job a.t (d.loop-k.k + 1)
-sum_more d = rw (d.loop-k.invariant.1, d.share-sum.ensures) (sym (load_more _ _ _ _ _))
-
-pub loop-k-preserved : goal.loop-k-preserved
-loop-k-preserved c = (omega arith, sum_more (goal.at.loop-k-preserved c).After-share-sum)
-
 pub overflow_add-sum : goal.overflow_add-sum
 overflow_add-sum c =
-    omega (arith, sum_more (goal.at.overflow_add-sum c).After-share-sum, load_fits c.requires.0 c.args.job c.args.t (c.loop-k.k + 1) (omega arith))
+    let a = c.args in
+    let J = jobs_of (asked a.est.now a.lct.now a.dur.now a.dem.now 0) in
+    let k = c.loop-k.k in
+    omega (
+      arith,
+      load_with J (win a.est.now a.lct.now) a.job a.t k c.if-k-job.true (sym c.sure.ensures ∙ c.if-sure.true),
+      load_fits c.requires.0 a.job a.t (k + 1) (omega arith),
+    )
+
+pub loop-k-preserved : goal.loop-k-preserved
+loop-k-preserved c =
+    let a = c.args in
+    let J = jobs_of (asked a.est.now a.lct.now a.dur.now a.dem.now 0) in
+    let W = win a.est.now a.lct.now in
+    let k = c.loop-k.k in
+    elim c.if-k-job.branch [
+      | then-k-job+then-sure w ↦ omega (arith, w.sum-is, load_with J W a.job a.t k w.if-k-job.true (sym w.sure.ensures ∙ w.if-sure.true))
+      | else-k-job w ↦
+          elim w.else-k-job.branch [
+            | else-k-job-via-then-k-job+else-sure v ↦ omega (arith, w.sum-is, load_apart J W a.job a.t k v.if-k-job.true (sym v.sure.ensures ∙ v.if-sure.false))
+            | else-k-job-via-else-k-job v ↦ omega (arith, w.sum-is, load_own J W a.job a.t k v.if-k-job.false)
+          ]
+    ]
 
 pub returns : goal.returns
 returns c =
-    let a = c.args in
-    let e : c.loop-k.k ≡ length a.est.now = omega arith in
-    c.loop-k.invariant.1 ∙ ap (load_below _ _ _ _) e ∙ load_all _ _ _ _
+    let e : c.loop-k.k ≡ length c.args.est.now = omega arith in
+    c.loop-k.invariant ∙ ap (load_below _ _ _ _) e ∙ load_all _ _ _ _

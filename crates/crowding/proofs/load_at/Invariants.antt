@@ -1,8 +1,5 @@
--- `crowding::load_at` meets its contract. The loop's invariant: the sum is the load of the jobs below `k`, and `k` is at most the number of jobs.
--- The measure is the number of jobs left.
-use Prim.Native.Nat.{◌≤◌, ◌-◌}
+-- `crowding::load_at` meets its contract. The loop's invariant: the sum is the load of the jobs below `k`.
 use mathlib.Core.Path.{◌≡◌}
-use lib.ListN.{length}
 use Rattle.narrowing.specs.Windows.{win}
 use Rattle.timetable.specs.Table.{jobs_of}
 use Rattle.crowding.specs.Asked.{asked}
@@ -10,7 +7,4 @@ use Rattle.crowding.proofs.Steps.{load_below}
 use Rattle.crowding.proofs.load_at.Given as goal
 
 abbrev pub invariant-loop-k : goal.invariant-loop-k
-invariant-loop-k l = (l.k ≤ length l.est) × (l.sum ≡ load_below (jobs_of (asked l.est l.lct l.dur l.dem 0)) (win l.est l.lct) l.job l.t l.k)
-
-abbrev pub decreases-loop-k : goal.decreases-loop-k
-decreases-loop-k l = length l.est - l.k
+invariant-loop-k l = l.sum ≡ load_below (jobs_of (asked l.est l.lct l.dur l.dem 0)) (win l.est l.lct) l.job l.t l.k
