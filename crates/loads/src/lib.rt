@@ -3,13 +3,15 @@
 #![tactic(auto)]
 
 ghost use Rattle.std.specs.Prelude.{◌≡◌, ◌<◌, ◌≤◌, length};
-ghost use Rattle.narrowing.specs.Windows.{win, moved, side_of, Respects};
+ghost use Rattle.narrowing.specs.Windows.{win, moved, Respects};
 ghost use Rattle.joblist.specs.Limits.{most_time};
 ghost use Rattle.crowding.specs.Asked.{asked};
+ghost use Rattle.windows.specs.Sides.{side_is};
 ghost use Rattle.timetable.specs.Table.{Workable};
 ghost use Rattle.loads.specs.Loads.{Spacious, Loaded, LoadedAs};
 
 use profile::Outline;
+use windows::Side;
 
 // Job by job, each one's sure part raised by its demand.
 pub fn build(
@@ -24,14 +26,11 @@ pub fn build(
     ensures { LoadedAs ts.old (win est.now lct.now) dur.now dem.now ts.new ld.new result }
 {
     let mut kept = profile::start(ts, ld);
-    let mut k = 0;
-    while k < est.len() {
-        let i = k;
-        k += 1;
-        let p = dur[i];
-        let r = dem[i];
+    for k in 0..est.len() {
+        let p = dur[k];
+        let r = dem[k];
         if 0 < r {
-            kept = profile::grow(ts, ld, kept, lct[i] - p, est[i] + p, r);
+            kept = profile::grow(ts, ld, kept, lct[k] - p, est[k] + p, r);
         }
     }
     kept
@@ -45,13 +44,13 @@ pub fn follow(
     dur: &[u32],
     dem: &[u32],
     job: usize,
-    side: u32,
+    side: Side,
     old: u32,
     ts: &mut [u32],
     ld: &mut [u32],
     kept: Outline,
 ) -> Outline
-    requires { Workable (asked est.now lct.now dur.now dem.now 0) × (job < length dur.now) × Respects (win est.now lct.now) job (side_of side) old × (old ≤ most_time) × Loaded (moved (win est.now lct.now) job (side_of side) old) dur.now dem.now ts.old ld.old kept }
+    requires { Workable (asked est.now lct.now dur.now dem.now 0) × (job < length dur.now) × Respects (win est.now lct.now) job (side_is side) old × (old ≤ most_time) × Loaded (moved (win est.now lct.now) job (side_is side) old) dur.now dem.now ts.old ld.old kept }
     ensures { LoadedAs ts.old (win est.now lct.now) dur.now dem.now ts.new ld.new result }
 {
     if ts.len() - 2 <= kept.m {
@@ -61,10 +60,8 @@ pub fn follow(
     let r = dem[job];
     let e = est[job];
     let l = lct[job];
-    if side == 0 {
-        let lo = minmax::greater(l - p, old + p);
-        return profile::grow(ts, ld, kept, lo, e + p, r);
+    match side {
+        Side::Start => profile::grow(ts, ld, kept, (l - p).max(old + p), e + p, r),
+        Side::End => profile::grow(ts, ld, kept, l - p, (old - p).min(e + p), r),
     }
-    let hi = minmax::lesser(old - p, e + p);
-    profile::grow(ts, ld, kept, l - p, hi, r)
 }
