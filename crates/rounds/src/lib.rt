@@ -39,9 +39,8 @@ pub fn work(
                 at = at.onward(n);
             }
             Turn::Moved(old) => {
-                let side = u32::from(at.side);
                 kept = loads::follow(
-                    est, lct, dur, dem, at.job, side, old, &mut ts, &mut ld, kept,
+                    est, lct, dur, dem, at.job, at.side, old, &mut ts, &mut ld, kept,
                 );
                 at = Place {
                     changed: true,

@@ -5,10 +5,7 @@ use mathlib.Core.Bool.{true}
 use mathlib.Core.List.{List}
 use borrow.Author.Rules.{rules}
 use lib.ListN.{length}
-use Rattle.narrowing.specs.Windows.{Win, win, number, side_of}
-use Rattle.windows.specs.Sides.{side_is}
-use Rattle.windows.specs.declared.Side.{Side}
-use Rattle.windows.specs.declared.Side.TheVariants.{Start, End}
+use Rattle.narrowing.specs.Windows.{Win, win}
 use Rattle.journal.specs.Journal.{room_of}
 use Rattle.timetable.specs.Table.{Call, call}
 use Rattle.places.specs.declared.Place.{Place}
@@ -50,11 +47,6 @@ moved_on : (d : Turned) (old : ℕ) → d.take_turn-turn.result ≡ Turn.Moved o
     → let q = d.loop-at in Reached (asks d) (winThen d) (logThen d) (place q.at.job q.at.side true) (q.count + 1)
 moved_on d old e = reached_moved _ _ _ _ _ d.loop-at.invariant.1 (job-left d) _ _ old (says d (Turn.Moved old) e)
 
--- a side is that of its number
-side_number : (s : Side) (k : ℕ) → k ≡ number (side_is s) → side_of k ≡ side_is s
-side_number Start k h = rw h
-side_number End k h = rw h
-
 -- ---- the goals
 
 pub build-kept-requires : goal.build-kept-requires
@@ -89,9 +81,8 @@ pub follow-kept-requires : goal.follow-kept-requires
 follow-kept-requires c =
     let d = (goal.at.follow-kept-requires c).After-take_turn-turn in
     let q = c.loop-at in
-    rw (side_number q.at.side _ c.from-side.ensures)
-    (follow_ready (here d) q.at q.count _ (winThen d) (logThen d) (says d _ c.in-Moved.is) q.invariant.1.workable (omega (arith, q.invariant.1.size, job-left d))
-    (moved_on d _ c.in-Moved.is).workable q.invariant.2)
+    follow_ready (here d) q.at q.count _ (winThen d) (logThen d) (says d _ c.in-Moved.is) q.invariant.1.workable (omega (arith, q.invariant.1.size, job-left d))
+    (moved_on d _ c.in-Moved.is).workable q.invariant.2
 
 pub overflow_add-count : goal.overflow_add-count
 overflow_add-count c =
