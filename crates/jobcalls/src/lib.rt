@@ -3,67 +3,41 @@
 // it the set that one gives.
 #![tactic(auto)]
 
-ghost use Rattle.std.specs.Prelude.{◌≡◌, length};
+ghost use Rattle.std.specs.Prelude.{◌≡◌};
 ghost use Rattle.answers.specs.Said.{Said};
 ghost use Rattle.desk.specs.Lists.{win};
 ghost use Rattle.desk.specs.Narrowing.{call};
 ghost use Rattle.desk.specs.Conflicts.{blame, Blames};
 ghost use Rattle.desk.specs.Overloads.{Overloads};
 ghost use Rattle.sayings.specs.Sayings.{Tells};
-ghost use Rattle.packed.specs.Packed.{list_of};
-ghost use Rattle.requests.specs.Sizes.{job_entries};
+ghost use Rattle.packed.specs.Packed.{list_of, put_at};
 ghost use Rattle.jobcalls.specs.Sequenced.{Sequenced};
 
 use requests::{JOBS, Task};
 use sayings::{Saying, checking, marking, narrowing, overloading};
 
-// Room for a list of jobs. The `ensures` gives only the length, which lending the array as a slice needs.
-fn room() -> [u32; JOBS]
-    ensures { job_entries ≡ length result }
+// What a call leaves of the windows goes back to where they stood.
+fn put_windows(words: &mut [u32], est: &[u32], lct: &[u32])
+    ensures { words.new ≡ put_at (put_at words.old 0 est.now) 1 lct.now }
 {
-    [0; JOBS]
-}
-
-fn made(
-    est: &mut [u32],
-    lct: &mut [u32],
-    dur: &[u32],
-    dem: &[u32],
-    cap: u32,
-    log: &mut [u32],
-    task: Task,
-    count: usize,
-) -> Saying {
-    match task {
-        Task::Narrow => narrowing(desk::narrow(est, lct, dur, dem, cap, log)),
-        Task::Check => checking(desk::check_log(est, lct, dur, dem, cap, log, count)),
-    }
+    packed::put(words, 0, est);
+    packed::put(words, 1, lct);
 }
 
 // narrow CAP est lct dur dem log
 // check CAP COUNT est lct dur dem log
 pub fn narrow_or_check(words: &mut [u32], task: Task, cap: u32, count: usize) -> Saying {
-    let mut est = room();
-    let mut lct = room();
-    let mut dur = room();
-    let mut dem = room();
-    let n = packed::copy_four(words, &mut est, &mut lct, &mut dur, &mut dem);
-    let e = n.a;
-    let l = n.b;
-    let p = n.c;
-    let d = n.d;
-    let says = made(
-        &mut est[..e],
-        &mut lct[..l],
-        &dur[..p],
-        &dem[..d],
-        cap,
-        packed::list_mut(words, 4),
-        task,
-        count,
-    );
-    packed::put(words, 0, &est);
-    packed::put(words, 1, &lct);
+    let mut est = [0; JOBS];
+    let mut lct = [0; JOBS];
+    let mut dur = [0; JOBS];
+    let mut dem = [0; JOBS];
+    let (est, lct, dur, dem) = packed::copy_four(words, &mut est, &mut lct, &mut dur, &mut dem);
+    let log = packed::list_mut(words, 4);
+    let says = match task {
+        Task::Narrow => narrowing(desk::narrow(est, lct, dur, dem, cap, log)),
+        Task::Check => checking(desk::check_log(est, lct, dur, dem, cap, log, count)),
+    };
+    put_windows(words, est, lct);
     says
 }
 
@@ -84,9 +58,8 @@ pub fn conflict(words: &[u32], cap: u32, count: usize) -> Marks
     let dem = packed::list(words, 3);
     let log = packed::list(words, 4);
     let given = desk::conflict(est, lct, dur, dem, cap, log, count);
-    let answer = given.answer;
+    let says = marking(given.answer);
     let set = given.set;
-    let says = marking(answer);
     Marks { says, set }
 }
 
@@ -104,12 +77,11 @@ pub fn overload(words: &[u32]) -> Saying
 pub fn sequence(words: &mut [u32]) -> Saying
     ensures { Sequenced words.old result words.new }
 {
-    let mut est = room();
-    let mut lct = room();
-    let e = packed::copy(words, 0, &mut est);
-    let l = packed::copy(words, 1, &mut lct);
-    let answer = desk::sequence(&mut est[..e], &mut lct[..l], packed::list(words, 2));
-    packed::put(words, 0, &est[..e]);
-    packed::put(words, 1, &lct[..l]);
+    let mut est = [0; JOBS];
+    let mut lct = [0; JOBS];
+    let est = packed::copy(words, 0, &mut est);
+    let lct = packed::copy(words, 1, &mut lct);
+    let answer = desk::sequence(est, lct, packed::list(words, 2));
+    put_windows(words, est, lct);
     narrowing(answer)
 }

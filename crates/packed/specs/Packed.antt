@@ -1,6 +1,5 @@
 -- Lists packed into one list of words, one behind the other, each as its length and then its numbers.
-use Rattle.std.specs.Prelude.{◌≡◌, List, ◌++◌, ℕ, zero, suc, ◌+◌, ◌-◌, min, length, get_or, take, drop}
-use Rattle.io.specs.Counts.{IsPrefixLen}
+use Rattle.std.specs.Prelude.{List, ◌++◌, ℕ, zero, suc, ◌+◌, min, length, get_or, take, drop, slice_range}
 
 -- where the list behind the one at a place begins; the end of the words where that one runs up to it or beyond
 abbrev pub behind_at : List ℕ → ℕ → ℕ
@@ -11,9 +10,13 @@ unfoldable pub start_of : List ℕ → ℕ → ℕ
 start_of xs zero = 0
 start_of xs (suc k) = behind_at xs (start_of xs k)
 
+-- where its numbers begin; the end of the words where there is no such list
+abbrev pub first_of : List ℕ → ℕ → ℕ
+first_of xs k = min (start_of xs k + 1) (start_of xs (suc k))
+
 -- the numbers of list k: what stands between its length and the next list
 abbrev pub list_of : List ℕ → ℕ → List ℕ
-list_of xs k = take (start_of xs (suc k) - (start_of xs k + 1)) (drop (start_of xs k + 1) xs)
+list_of xs k = slice_range xs (first_of xs k) (start_of xs (suc k))
 
 -- ys over the front of xs, as far as both go
 abbrev pub laid_over : List ℕ → List ℕ → List ℕ
@@ -21,12 +24,4 @@ laid_over xs ys = take (length xs) ys ++ drop (length ys) xs
 
 -- the words with ys over the front of list k
 abbrev pub put_at : List ℕ → ℕ → List ℕ → List ℕ
-put_at xs k ys =
-    take (start_of xs k + 1) xs
-    ++ (laid_over (list_of xs k) ys ++ drop (start_of xs (suc k) - (start_of xs k + 1)) (drop (start_of xs k + 1) xs))
-
--- n numbers of ys stand over the front of what was xs
-pub record Copied (ys xs : List ℕ) (n : ℕ) (now : List ℕ) : Type 0 where
-  pub laid : now ≡ laid_over xs ys
-  pub many : n ≡ min (length ys) (length xs)
-  pub within : IsPrefixLen n now
+put_at xs k ys = take (first_of xs k) xs ++ (laid_over (list_of xs k) ys ++ drop (start_of xs (suc k)) xs)

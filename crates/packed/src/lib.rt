@@ -2,32 +2,20 @@
 // They stand as a line of input or output has them (docs/ANSWERS.md). Nothing here knows of jobs.
 #![tactic(auto)]
 
-ghost use Rattle.std.specs.Prelude.{◌≡◌, min};
+ghost use Rattle.std.specs.Prelude.{◌≡◌, ◌≤◌, suc, length, take};
 ghost use Rattle.io.specs.Counts.{IsPrefixLen};
-ghost use Rattle.packed.specs.Packed.{behind_at, start_of, list_of, put_at, Copied};
+ghost use Rattle.packed.specs.Packed.{behind_at, start_of, list_of, put_at, first_of};
 
-// How many numbers of each of four lists were copied.
-#[derive(Drop)]
-pub struct Four {
-    pub a: usize,
-    pub b: usize,
-    pub c: usize,
-    pub d: usize,
-}
+use std::ops::Range;
 
 // Where the list behind the one at a place begins.
 fn behind(words: &[u32], at: usize) -> usize
     ensures { result ≡ behind_at words.now at }
 {
-    if words.len() <= at {
-        return words.len();
+    match words.get(at) {
+        Some(&n) => (at + 1 + n as usize).min(words.len()),
+        None => words.len(),
     }
-    let first = at + 1;
-    let n = words[at] as usize;
-    if words.len() - first < n {
-        return words.len();
-    }
-    first + n
 }
 
 // Where list k begins, with its length.
@@ -36,86 +24,72 @@ pub fn start(words: &[u32], k: usize) -> usize
     ensures prefix_len { IsPrefixLen result words.now }
 {
     let mut at = 0;
-    let mut i = 0;
-    while i < k {
+    for _ in 0..k {
         at = behind(words, at);
-        i += 1;
     }
     at
+}
+
+// Where the numbers of list k stand, behind its length; at the end of the words where there is no such list.
+fn place(words: &[u32], k: usize) -> Range<usize>
+    ensures first { result.start ≡ first_of words.now k }
+    ensures end { result.end ≡ start_of words.now (suc k) }
+    ensures within { (result.start ≤ result.end) × (result.end ≤ length words.now) }
+{
+    let at = start(words, k);
+    let end = behind(words, at);
+    (at + 1).min(end)..end
 }
 
 // The numbers of list k.
 pub fn list(words: &[u32], k: usize) -> &[u32]
     ensures { result.now ≡ list_of words.now k }
 {
-    let at = start(words, k);
-    if words.len() <= at {
-        return &words[at..];
-    }
-    let first = at + 1;
-    let end = behind(words, at);
-    &words[first..end]
+    &words[place(words, k)]
 }
 
-// The same, lent to be changed.
+// The same, lent to be changed. (A function that is generic over whether it lends to be changed, the language has none of.)
 pub fn list_mut(words: &mut [u32], k: usize) -> &mut [u32]
     ensures { result.now ≡ list_of words.old k }
 {
-    let at = start(words, k);
-    if words.len() <= at {
-        return &mut words[at..];
-    }
-    let first = at + 1;
-    let end = behind(words, at);
-    &mut words[first..end]
+    let numbers = place(words, k);
+    &mut words[numbers]
 }
 
-fn lesser(a: usize, b: usize) -> usize
-    ensures { result ≡ min a b }
-{
-    if a <= b {
-        return a;
-    }
-    b
-}
-
-// The numbers of list k copied over the front of another list, as far as both go; the answer is how many.
-pub fn copy(words: &[u32], k: usize, into: &mut [u32]) -> usize
-    ensures { Copied (list_of words.now k) into.old result into.new }
+// The numbers of list k copied over the front of another list, as far as both go; these are lent.
+pub fn copy<'a>(words: &[u32], k: usize, into: &'a mut [u32]) -> &'a mut [u32]
+    ensures { result.now ≡ take (length into.old) (list_of words.now k) }
 {
     let numbers = list(words, k);
     windows::copy(numbers, into);
-    lesser(numbers.len(), into.len())
+    let n = numbers.len().min(into.len());
+    &mut into[..n]
 }
 
 // The first four lists copied out likewise.
-pub fn copy_four(words: &[u32], a: &mut [u32], b: &mut [u32], c: &mut [u32], d: &mut [u32]) -> Four
-    ensures copied { Copied (list_of words.now 0) a.old result.a a.new }
-    ensures copied_2 { Copied (list_of words.now 1) b.old result.b b.new }
-    ensures copied_3 { Copied (list_of words.now 2) c.old result.c c.new }
-    ensures copied_4 { Copied (list_of words.now 3) d.old result.d d.new }
+pub fn copy_four<'a>(
+    words: &[u32],
+    a: &'a mut [u32],
+    b: &'a mut [u32],
+    c: &'a mut [u32],
+    d: &'a mut [u32],
+) -> (&'a mut [u32], &'a mut [u32], &'a mut [u32], &'a mut [u32])
+    ensures first { result.0.now ≡ take (length a.old) (list_of words.now 0) }
+    ensures second { result.1.now ≡ take (length b.old) (list_of words.now 1) }
+    ensures third { result.2.now ≡ take (length c.old) (list_of words.now 2) }
+    ensures fourth { result.3.now ≡ take (length d.old) (list_of words.now 3) }
 {
-    let k = copy(words, 0, a);
-    let l = copy(words, 1, b);
-    let m = copy(words, 2, c);
-    let n = copy(words, 3, d);
-    Four {
-        a: k,
-        b: l,
-        c: m,
-        d: n,
-    }
+    let first = copy(words, 0, a);
+    let second = copy(words, 1, b);
+    let third = copy(words, 2, c);
+    let fourth = copy(words, 3, d);
+    (first, second, third, fourth)
 }
 
 // A list laid over the front of list k, as far as both go.
 pub fn put(words: &mut [u32], k: usize, list: &[u32])
     ensures { words.new ≡ put_at words.old k list.now }
 {
-    let at = start(words, k);
-    if words.len() <= at {
-        return;
-    }
-    let first = at + 1;
-    let end = behind(words, at);
-    windows::copy(list, &mut words[first..end]);
+    let numbers = place(words, k);
+    windows::copy(list, &mut words[numbers]);
 }
