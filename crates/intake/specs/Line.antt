@@ -1,15 +1,12 @@
--- What a cursor says of the line that it is in.
-use Rattle.std.specs.Prelude.{Bool, true, false, cond, ℕ, eqb}
-use Rattle.intake.specs.declared.input.Cursor.{Cursor}
+-- What the byte that a cursor stands at says of the line that it is in; there is none at the end of the input.
+use Rattle.std.specs.Prelude.{Bool, true, false, ℕ, eqb, Option, Some, None}
 
--- it stands at a line feed, or at the end of the input
-abbrev pub line_end : Cursor → Bool
-line_end c = cond (eqb c.left 0) true (eqb c.now 10)
+-- it is a line feed, or the input ends
+abbrev pub line_end : Option ℕ → Bool
+line_end None = true
+line_end (Some byte) = eqb byte 10
 
--- it stands at that byte of the input
-abbrev pub at_byte : Cursor → ℕ → Bool
-at_byte c byte = cond (eqb c.left 0) false (eqb c.now byte)
-
--- all of the line was taken, and nothing was wrong with it
-abbrev pub whole : Cursor → Bool
-whole c = cond c.good (line_end c) false
+-- it is that byte
+abbrev pub at_byte : Option ℕ → ℕ → Bool
+at_byte None byte = false
+at_byte (Some now) byte = eqb now byte

@@ -4,5 +4,4 @@
 mod input; // input.rt: the bytes, one after another
 mod words; // words.rt: words and numbers
 
-pub use input::{Cursor, LONG, is_whole, next_line, spoiled, start};
-pub use words::{SHORT, Taken, number, word};
+pub use input::{Cursor, Reader};

@@ -20,10 +20,11 @@
 
 mod replies;
 
-use intake::{Cursor, next_line};
+use intake::Reader;
 use printing::Sink;
 use replies::reply;
-use requests::{Request, TEXT, WORDS};
+use requests::{TEXT, WORDS};
+use sayings::Saying;
 use std::io::Read;
 
 // Room for the lists of a line, and for its bytes.
@@ -42,35 +43,28 @@ impl Room {
     }
 }
 
-// Answers the line that the cursor is at the start of, and goes to the start of the next. The answer is written out before
+// Answers the line that the reader is at the start of, and goes to the start of the next. The answer is written out before
 // anything more is read, so that it is seen at once.
-fn line(
-    sink: &mut Sink<'_, impl Print>,
-    input: &mut impl Read,
-    source: &mut [u8],
-    c: Cursor,
-    room: &mut Room,
-) -> Cursor {
-    let Request { call, line } = requests::take(input, source, c, &mut room.words, &mut room.text);
+fn line(sink: &mut Sink<'_, impl Print>, reader: &mut Reader<'_, impl Read>, room: &mut Room) {
     let text = &mut room.text[..];
-    reply(sink, call, line, &mut room.words, &mut text[..line.bytes]);
+    match requests::take(reader, &mut room.words, text) {
+        Some(request) => {
+            let n = request.line.bytes;
+            reply(sink, request, &mut room.words, &mut text[..n]);
+        }
+        None => sink.show(Saying::Unreadable),
+    }
     sink.finish();
-    next_line(input, source, line.cursor)
+    reader.next_line();
 }
 
-// Every line of the input. There are no more lines than bytes: the number of turns is not used up either.
-fn serve(
-    sink: &mut Sink<'_, impl Print>,
-    input: &mut impl Read,
-    source: &mut [u8],
-    room: &mut Room,
-) {
-    let mut cursor = intake::start(input, source);
-    for _ in 0..intake::LONG {
-        if cursor.left == 0 {
+// Every line of the input. Nothing says that an input ends, and a proved loop has to; there are no more lines than bytes.
+fn serve(sink: &mut Sink<'_, impl Print>, reader: &mut Reader<'_, impl Read>, room: &mut Room) {
+    for _ in 0..u64::MAX {
+        if reader.cursor.now.is_none() {
             return;
         }
-        cursor = line(sink, input, source, cursor, room);
+        line(sink, reader, room);
     }
 }
 
@@ -80,8 +74,7 @@ fn main(rt: HostRuntime) {
     let mut source = io::large_buffer();
     serve(
         &mut Sink::new(&rt),
-        &mut input,
-        &mut source,
+        &mut Reader::new(&mut input, &mut source),
         &mut Room::new(),
     );
 }

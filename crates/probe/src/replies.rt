@@ -3,7 +3,7 @@
 // `conflict` gives (docs/ANSWERS.md has the form). A function for each kind of call.
 use forms::Line;
 use printing::Sink;
-use requests::{Call, Layout, Task};
+use requests::{Call, Layout, Request, Task};
 use sayings::Saying;
 
 // The first so many of the packed lists.
@@ -63,12 +63,12 @@ fn write(sink: &mut Sink<'_, impl Print>, line: Line, words: &[u32], text: &mut 
 // The text is what the line has of bytes.
 pub fn reply(
     sink: &mut Sink<'_, impl Print>,
-    call: Call,
-    line: Line,
+    request: Request,
     words: &mut [u32],
     text: &mut [u8],
 ) {
-    match call {
+    let line = request.line;
+    match request.call {
         Call::Jobs(task) => jobs(sink, task, line, words),
         Call::Conflict => conflict(sink, line, words),
         Call::Record => record(sink, line, words),
@@ -76,6 +76,5 @@ pub fn reply(
         Call::Head => head(sink, words),
         Call::Read(layout) => read(sink, layout, line, words, text),
         Call::Write => write(sink, line, words, text),
-        Call::Unknown => sink.show(Saying::Unreadable),
     }
 }

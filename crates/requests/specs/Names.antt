@@ -1,37 +1,36 @@
 -- The calls' names and the form of each one's line, as docs/ANSWERS.md has them under 'The lines of `probe`'.
-use Rattle.std.specs.Prelude.{ℕ, ◌≡◌, Bool, true, false, List, [], ◌∷◌, ◌⊎◌}
-use Rattle.std.proofs.Math.Option.{Option, none, some}
+use Rattle.std.specs.Prelude.{ℕ, ◌≡◌, Bool, true, false, List, [], ◌∷◌, Option, Some, None}
 use Rattle.forms.specs.declared.Form.{Form}
 use Rattle.requests.specs.Sizes.{job_entries, log_entries, pair_entries}
 use Rattle.requests.specs.declared.names.Layout.{Layout}
 use Rattle.requests.specs.declared.names.Task.{Task}
 use Rattle.requests.specs.declared.names.Call.{Call}
 
--- the bytes of a call's name; what is unknown has none
-abbrev pub name_of : Call → Option (List ℕ)
+-- the bytes of a call's name
+abbrev pub name_of : Call → List ℕ
 -- `narrow`
-name_of (Call.Jobs Task.Narrow) = some (110 ∷ 97 ∷ 114 ∷ 114 ∷ 111 ∷ 119 ∷ [])
+name_of (Call.Jobs Task.Narrow) = 110 ∷ 97 ∷ 114 ∷ 114 ∷ 111 ∷ 119 ∷ []
 -- `check`
-name_of (Call.Jobs Task.Check) = some (99 ∷ 104 ∷ 101 ∷ 99 ∷ 107 ∷ [])
+name_of (Call.Jobs Task.Check) = 99 ∷ 104 ∷ 101 ∷ 99 ∷ 107 ∷ []
 -- `conflict`
-name_of Call.Conflict = some (99 ∷ 111 ∷ 110 ∷ 102 ∷ 108 ∷ 105 ∷ 99 ∷ 116 ∷ [])
+name_of Call.Conflict = 99 ∷ 111 ∷ 110 ∷ 102 ∷ 108 ∷ 105 ∷ 99 ∷ 116 ∷ []
 -- `record`
-name_of Call.Record = some (114 ∷ 101 ∷ 99 ∷ 111 ∷ 114 ∷ 100 ∷ [])
+name_of Call.Record = 114 ∷ 101 ∷ 99 ∷ 111 ∷ 114 ∷ 100 ∷ []
 -- `overload`
-name_of Call.Overload = some (111 ∷ 118 ∷ 101 ∷ 114 ∷ 108 ∷ 111 ∷ 97 ∷ 100 ∷ [])
+name_of Call.Overload = 111 ∷ 118 ∷ 101 ∷ 114 ∷ 108 ∷ 111 ∷ 97 ∷ 100 ∷ []
 -- `head`
-name_of Call.Head = some (104 ∷ 101 ∷ 97 ∷ 100 ∷ [])
+name_of Call.Head = 104 ∷ 101 ∷ 97 ∷ 100 ∷ []
 -- `patterson`
-name_of (Call.Read Layout.Patterson) = some (112 ∷ 97 ∷ 116 ∷ 116 ∷ 101 ∷ 114 ∷ 115 ∷ 111 ∷ 110 ∷ [])
+name_of (Call.Read Layout.Patterson) = 112 ∷ 97 ∷ 116 ∷ 116 ∷ 101 ∷ 114 ∷ 115 ∷ 111 ∷ 110 ∷ []
 -- `psplib`
-name_of (Call.Read Layout.Psplib) = some (112 ∷ 115 ∷ 112 ∷ 108 ∷ 105 ∷ 98 ∷ [])
+name_of (Call.Read Layout.Psplib) = 112 ∷ 115 ∷ 112 ∷ 108 ∷ 105 ∷ 98 ∷ []
 -- `write`
-name_of Call.Write = some (119 ∷ 114 ∷ 105 ∷ 116 ∷ 101 ∷ [])
-name_of Call.Unknown = none
+name_of Call.Write = 119 ∷ 114 ∷ 105 ∷ 116 ∷ 101 ∷ []
 
--- the call has that name, or it is unknown and no call has
-abbrev pub Named : List ℕ → Call → Type 0
-Named word c = (name_of c ≡ some word) ⊎ ((c ≡ Call.Unknown) × ((d : Call) → name_of d ≡ some word → ⊥))
+-- the call has that name, or where there is none no call has
+abbrev pub Named : List ℕ → Option Call → Type 0
+Named word (Some c) = name_of c ≡ word
+Named word None = (d : Call) → name_of d ≡ word → ⊥
 
 -- numbers below 2^32, perhaps one below 2^64, lists of jobs, lists of at most so many entries, perhaps bytes
 abbrev pub line_form : ℕ → Bool → ℕ → ℕ → ℕ → Bool → Form
@@ -47,4 +46,3 @@ form_of Call.Overload = line_form 0 false 3 0 0 false
 form_of Call.Head = line_form 0 false 3 0 0 false
 form_of (Call.Read layout) = line_form 2 false 4 2 pair_entries true
 form_of Call.Write = line_form 1 false 2 2 pair_entries true
-form_of Call.Unknown = line_form 0 false 0 0 0 false
