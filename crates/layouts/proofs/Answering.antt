@@ -6,16 +6,20 @@ use mathlib.Core.List.{List, [], ◌∷◌}
 use lib.ListN.{length, take}
 use lib.Seq.{get_or-take, length-take-le}
 use Rattle.lists.specs.Lists.{◌!◌}
-use Rattle.answers.specs.Said.{Word, said}
+use Rattle.answers.specs.declared.reasons.Refusal as reasons
+use Rattle.answers.specs.Said.{Word, said, number_of}
 use Rattle.answers.proofs.Same.{not_said}
 use Rattle.joblist.specs.Limits.{most_jobs}
+use Rattle.screen.proofs.Tests.{number_not_0}
 use Rattle.chains.specs.Paths.{Longest, Back, weight}
 use Rattle.chains.proofs.Chains.{chain_map}
+use Rattle.texts.specs.Readings.{good}
 use Rattle.texts.proofs.Readings.{good_same}
 use Rattle.projects.specs.Projects.{Project, pairs_of, WithinLimits}
-use Rattle.walking.specs.Comes.{comes, rows_at}
+use Rattle.walking.specs.Comes.{rows_at}
+use Rattle.precedence.specs.declared.text_pairs.TextPairs.{TextPairs}
+use Rattle.precedence.specs.Pairs.{Pullable, coming}
 use Rattle.parsing.specs.declared.Shape.{Shape}
-use Rattle.parsing.specs.declared.Parsed.{Parsed}
 use Rattle.parsing.proofs.Parsing.{parsing_few}
 use Rattle.exchange.specs.Calls.{Lent, TextCall, TextAfter, Order, duration_of}
 use Rattle.exchange.specs.Tests.{Fitting, ListsFit, Refusal}
@@ -26,7 +30,7 @@ use Rattle.exchange.proofs.Asked.{refused}
 use Rattle.exchange.proofs.Meaning.{reads_of}
 use Rattle.lent.specs.declared.Draft.{Draft}
 use Rattle.lent.specs.Parts.{Drafted, FilledFrom, Roomy, Wrote}
-use Rattle.deciding.specs.Decided.{Accepted, DecidedSays}
+use Rattle.deciding.specs.Decided.{Accepted}
 use Rattle.deciding.proofs.Deciding.{range, duration_at}
 
 longest_weights : (R : ℕ → ℕ → Type 0) (w u : ℕ → ℕ) → ((a b : ℕ) → R a b → w a ≡ u a) → {j L : ℕ} → Longest R w j L → Longest R u j L
@@ -35,22 +39,21 @@ longest_weights R w u f l = record {
   most = λ M c. l.most M (chain_map R R u w (λ a b r. (r, sym (f a b r))) c);
 }
 
--- by what was decided
-pub accepted_of : (c : TextCall) (s : List ℕ) (d : Draft) (g : Parsed) (z : Shape) → g ≡ Parsed.Read z → DecidedSays c s d g → Accepted c s d z
-accepted_of c s d g z e says = rw e at says
-
 -- a text that is refused: every lent word as it was
-pub refused_reads : (c : TextCall) (k : ℕ) → Refusal c k × (k ≡ 0 → ⊥) → Reads c (refused c.lent k)
-refused_reads c zero q = absurd (q.1 refl)
-refused_reads c (suc k) q =
+refused_with : (c : TextCall) (k : ℕ) → (k ≡ 0 → ⊥) → Refusal c k → Reads c (refused c.lent k)
+refused_with c zero f q = absurd (f refl)
+refused_with c (suc k) f q =
     let unread : Word.refused ≡ Word.read → ⊥ = not_said Word.refused Word.read (λ z. omega arith) in
     record {
-      answered = record { number = suc k; refusal = q.0; leaves = refl };
+      answered = record { number = suc k; refusal = q; leaves = refl };
       good = λ e. absurd (unread e);
       long = λ e. absurd (unread e);
       ordered = λ e. absurd (unread e);
       kept = λ e. absurd (unread e);
     }
+
+pub refused_reads : (c : TextCall) (r : reasons.Refusal) → Refusal c (number_of r) → Reads c (refused c.lent (number_of r))
+refused_reads c r q = refused_with c (number_of r) (number_not_0 r) q
 
 -- a text that is taken
 module _ (c : TextCall) (s : List ℕ) (d : Draft) (z : Shape) (a : Accepted c s d z) where
@@ -70,11 +73,19 @@ module _ (c : TextCall) (s : List ℕ) (d : Draft) (z : Shape) (a : Accepted c s
   pub fitting : Fitting z.n z.pairs (length L.est) (length L.lct) (length L.dur) (length L.dem) (length L.jobs) (length L.successors)
   fitting = rw (← a.parsing.jobs, ← a.parsing.count) fits
 
-  pub pair_room : Roomy (comes z.n z.table s (rows_at z.at)) L.jobs L.successors
-  pair_room = record { ps = pairs_of x; end = a.parsing.end; come = a.parsing.come; jobs = fits.jobs; successors = fits.successors }
+  -- the pairs, read again from where the rows begin
+  module _ (q : TextPairs) (e : (q.text.now ≡ s) × (q.n ≡ z.n) × (q.table ≡ z.table) × (q.walk ≡ rows_at z.at)) where
+    again : coming q ≡ good (pairs_of x) a.parsing.end
+    again = rw (e.0, e.1, e.2, e.3) a.parsing.come
 
-  module _ (K : Lent) (drafted : Drafted d) (f : FilledFrom d c.horizon L.est L.lct L.dur L.dem K.est K.lct K.dur K.dem)
-      (w : Wrote (comes z.n z.table s (rows_at z.at)) L.jobs L.successors K.jobs K.successors) where
+    pub pullable : Pullable q
+    pullable = rw (e.1, e.3) (record { begun = omega arith; owned = omega arith }, few)
+
+    pub pair_room : Roomy (coming q) L.jobs L.successors
+    pair_room = record { ps = pairs_of x; end = a.parsing.end; come = again; jobs = fits.jobs; successors = fits.successors }
+
+  module _ (q : TextPairs) (e : (q.text.now ≡ s) × (q.n ≡ z.n) × (q.table ≡ z.table) × (q.walk ≡ rows_at z.at)) (K : Lent) (drafted : Drafted d)
+      (f : FilledFrom d c.horizon L.est L.lct L.dur L.dem K.est K.lct K.dur K.dem) (w : Wrote (coming q) L.jobs L.successors K.jobs K.successors) where
     abbrev weighs : (j : ℕ) → j < z.n → d.dur ! j ≡ duration_of x j
     weighs = duration_at s c.resource d.dur d.dem z x a.parsing
 
@@ -83,7 +94,7 @@ module _ (c : TextCall) (s : List ℕ) (d : Draft) (z : Shape) (a : Accepted c s
 
     filled : Filled x c.resource c.horizon L K
     filled =
-        let pairs = w.are (pairs_of x) a.parsing.end a.parsing.come in
+        let pairs = w.are (pairs_of x) a.parsing.end (again q e) in
         record {
           est_long = ap length f.est ∙ length-take-le (length L.est) d.heads (omega (arith, fitting.est, few, drafted.heads)) ∙ fits.est;
           lct_long = f.lct.long ∙ fits.lct;

@@ -7,12 +7,13 @@ ghost use Rattle.projects.specs.Patterson.{patterson};
 ghost use Rattle.psplib.specs.Psplib.{psplib};
 ghost use Rattle.exchange.specs.Promise.{Reads};
 
-use answers::ReadAnswer;
+use answers::{ProjectRead, Refusal};
+use deciding::{Layout, Patterson, Psplib};
 use lent::Sizes;
-use parsing::Parsed;
+use precedence::TextPairs;
 
-// Fills the six lists from a text of the Patterson layout, for one resource (from 0) and a horizon.
-pub fn read_patterson(
+// Fills the six lists from a text of a layout, for one resource (from 0) and a horizon.
+fn read<L: Layout>(
     text: &[u8],
     resource: u32,
     horizon: u32,
@@ -22,9 +23,9 @@ pub fn read_patterson(
     dem: &mut [u32],
     jobs: &mut [u32],
     successors: &mut [u32],
-) -> ReadAnswer
+) -> Result<ProjectRead, Refusal>
     ensures { Reads
-        (record { text = patterson text.now; resource = resource; horizon = horizon; lent = record { est = est.old; lct = lct.old; dur = dur.old; dem = dem.old; jobs = jobs.old; successors = successors.old } })
+        (record { text = L.says text.now; resource = resource; horizon = horizon; lent = record { est = est.old; lct = lct.old; dur = dur.old; dem = dem.old; jobs = jobs.old; successors = successors.old } })
         (record { says = says_read result; lent = record { est = est.new; lct = lct.new; dur = dur.new; dem = dem.new; jobs = jobs.new; successors = successors.new } }) }
 {
     let sizes = Sizes {
@@ -35,18 +36,36 @@ pub fn read_patterson(
         jobs: jobs.len(),
         successors: successors.len(),
     };
-    let decided = deciding::decide_patterson(text, resource, horizon, sizes);
-    let parsed = decided.parsed;
-    match parsed {
-        Parsed::Refused(c) => ReadAnswer::Refused(c),
-        Parsed::Read(z) => {
-            let draft = decided.draft;
-            let table = z.table;
-            lent::fill(draft, horizon, est, lct, dur, dem);
-            lent::write_pairs(text, z.n, table, z.at, jobs, successors);
-            ReadAnswer::Read(z.cap, z.pairs)
-        }
-    }
+    let decided = deciding::decide::<L>(text, resource, horizon, sizes)?;
+    let shape = decided.shape;
+    lent::fill(decided.draft, horizon, est, lct, dur, dem);
+    let pairs = TextPairs::new(text, shape.n, shape.table, shape.at);
+    lent::write_pairs(pairs, jobs, successors);
+    Ok(ProjectRead {
+        capacity: shape.cap,
+        pairs: shape.pairs,
+    })
+}
+
+// The lists from a text of the Patterson layout.
+pub fn read_patterson(
+    text: &[u8],
+    resource: u32,
+    horizon: u32,
+    est: &mut [u32],
+    lct: &mut [u32],
+    dur: &mut [u32],
+    dem: &mut [u32],
+    jobs: &mut [u32],
+    successors: &mut [u32],
+) -> Result<ProjectRead, Refusal>
+    ensures { Reads
+        (record { text = patterson text.now; resource = resource; horizon = horizon; lent = record { est = est.old; lct = lct.old; dur = dur.old; dem = dem.old; jobs = jobs.old; successors = successors.old } })
+        (record { says = says_read result; lent = record { est = est.new; lct = lct.new; dur = dur.new; dem = dem.new; jobs = jobs.new; successors = successors.new } }) }
+{
+    read::<Patterson>(
+        text, resource, horizon, est, lct, dur, dem, jobs, successors,
+    )
 }
 
 // The same from a text of the PSPLIB layout.
@@ -60,29 +79,12 @@ pub fn read_psplib(
     dem: &mut [u32],
     jobs: &mut [u32],
     successors: &mut [u32],
-) -> ReadAnswer
+) -> Result<ProjectRead, Refusal>
     ensures { Reads
         (record { text = psplib text.now; resource = resource; horizon = horizon; lent = record { est = est.old; lct = lct.old; dur = dur.old; dem = dem.old; jobs = jobs.old; successors = successors.old } })
         (record { says = says_read result; lent = record { est = est.new; lct = lct.new; dur = dur.new; dem = dem.new; jobs = jobs.new; successors = successors.new } }) }
 {
-    let sizes = Sizes {
-        est: est.len(),
-        lct: lct.len(),
-        dur: dur.len(),
-        dem: dem.len(),
-        jobs: jobs.len(),
-        successors: successors.len(),
-    };
-    let decided = deciding::decide_psplib(text, resource, horizon, sizes);
-    let parsed = decided.parsed;
-    match parsed {
-        Parsed::Refused(c) => ReadAnswer::Refused(c),
-        Parsed::Read(z) => {
-            let draft = decided.draft;
-            let table = z.table;
-            lent::fill(draft, horizon, est, lct, dur, dem);
-            lent::write_pairs(text, z.n, table, z.at, jobs, successors);
-            ReadAnswer::Read(z.cap, z.pairs)
-        }
-    }
+    read::<Psplib>(
+        text, resource, horizon, est, lct, dur, dem, jobs, successors,
+    )
 }
