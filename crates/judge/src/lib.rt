@@ -12,7 +12,15 @@ ghost use Rattle.exam.specs.Lent.{jobs_in};
 use answers::Code;
 
 // Whether a record is good on the windows reached; else the code of the first test that it fails.
-pub fn code_of(est: &[u32], lct: &[u32], dur: &[u32], dem: &[u32], cap: u32, words: &[u32]) -> Result<(), Code>
+#[tactic(auto, using(crate::proofs::Chain::code_is))]
+pub fn code_of(
+    est: &[u32],
+    lct: &[u32],
+    dur: &[u32],
+    dem: &[u32],
+    cap: u32,
+    words: &[u32],
+) -> Result<(), Code>
     requires { Good (call (win est.now lct.now) dur.now dem.now cap []) × (length words.now ≡ record_words) }
     ensures { coded result ≡ code (jobs_in (length dur.now) dur.now dem.now cap) (win est.now lct.now) words.now }
 {
