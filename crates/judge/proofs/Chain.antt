@@ -19,33 +19,19 @@ use Rattle.codes.specs.Codes.{in_range, takes_part, partners, stated_true, tight
 use Rattle.exam.specs.Lent.{jobs_in, Timed, Drawn, LetThrough}
 use Rattle.codes.proofs.Codes.{range_judged, partners_judged}
 
--- ---- the chain from each code on, each test over what it looks at
+-- ---- the chain, each test over what it looks at
 
-module _ (cap : ℕ) (W : Win) (p r x : List ℕ) where
-  abbrev pub from27 : ℕ
-  from27 = unless (lean (jobs_in (length r) [] r cap) x) 27 0
-
-  abbrev pub from26 : ℕ
-  from26 = unless (tightens W (job_of x) (side x) (time_of x)) 26 from27
-
-  abbrev pub from25 : ℕ
-  from25 = unless (stated_true (jobs_in 0 p [] 0) W x) 25 from26
-
-  abbrev pub from24 : ℕ
-  from24 = unless (ltb cap (named (jobs_in (length r) [] r 0) x)) 24 from25
-
-  abbrev pub from23 : ℕ
-  from23 = unless (eqb (x ! count_word) (ones_of (set_of_record x))) 23 from24
-
-  abbrev pub from22 : ℕ
-  from22 = unless (partners (jobs_in (length p) p r 0) x) 22 from23
-
-  abbrev pub from21 : ℕ
-  from21 = unless (in_range (jobs_in (length p) [] [] 0) x) 21 from22
-
-  pub code_is : length r ≡ length p → code (jobs_in (length p) p r cap) W x ≡ from21
-  unfolding code in_range partners takes_part stated_true lean
-  code_is e = rw e
+pub code_is : (cap : ℕ) (W : Win) (p r x : List ℕ) → length r ≡ length p
+    → code (jobs_in (length p) p r cap) W x
+    ≡ unless (in_range (jobs_in (length p) [] [] 0) x) 21
+    (unless (partners (jobs_in (length p) p r 0) x) 22
+    (unless (eqb (x ! count_word) (ones_of (set_of_record x))) 23
+    (unless (ltb cap (named (jobs_in (length r) [] r 0) x)) 24
+    (unless (stated_true (jobs_in 0 p [] 0) W x) 25
+    (unless (tightens W (job_of x) (side x) (time_of x)) 26
+    (unless (lean (jobs_in (length r) [] r cap) x) 27 0))))))
+unfolding code in_range partners takes_part stated_true lean
+code_is cap W p r x e = rw e
 
 -- ---- after 21 and 22
 
