@@ -38,15 +38,6 @@ pub struct Line {
     pub bytes: usize,
 }
 
-// A number below 2^32, or 0 where none is asked for.
-fn short_if(asked: bool, reader: &mut Reader<impl Read>) -> Option<u32> {
-    if asked {
-        Some(reader.number(SHORT)? as u32)
-    } else {
-        Some(0)
-    }
-}
-
 // Reads the rest of a line: its lists into the lent words, each behind its length and one behind the other, its bytes into the lent ones.
 // None where the line has another form; no byte more of it is read then.
 pub fn read(
@@ -58,8 +49,16 @@ pub fn read(
     ensures whole { IsSome result → line_end reader.new.cursor.now ≡ true }
     ensures bytes { IfSome result (λ line. IsPrefixLen line.bytes text.new) }
 {
-    let first = short_if(0 < form.shorts, reader)?;
-    let second = short_if(1 < form.shorts, reader)?;
+    let first = if 0 < form.shorts {
+        reader.number(SHORT)?
+    } else {
+        0
+    };
+    let second = if 1 < form.shorts {
+        reader.number(SHORT)?
+    } else {
+        0
+    };
     let long = if form.long {
         reader.number(u64::MAX)?
     } else {
@@ -76,8 +75,8 @@ pub fn read(
         return None;
     }
     Some(Line {
-        first,
-        second,
+        first: first as u32,
+        second: second as u32,
         long,
         bytes,
     })

@@ -56,7 +56,8 @@ pub fn list_mut(words: &mut [u32], k: usize) -> &mut [u32]
     &mut words[numbers]
 }
 
-// The numbers of list k copied over the front of another list, as far as both go; these are lent.
+// The numbers of list k copied over the front of another list, as far as both go; these are lent. (That the rest stays is not said: a `follows`
+// clause was tried, and the check proves one of a field or of a call's result alone.)
 pub fn copy<'a>(words: &[u32], k: usize, into: &'a mut [u32]) -> &'a mut [u32]
     ensures { result.now ≡ take (length into.old) (list_of words.now k) }
 {
