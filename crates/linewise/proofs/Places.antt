@@ -2,25 +2,23 @@
 use Prim.Native.Nat.{ℕ, zero, suc, ◌+◌, ◌-◌, ◌≤◌, ◌<◌, min}
 use native.Mathlib.Numerals.{add-one}
 use native.Mathlib.Omega.{arith}
-use mathlib.Core.Path.{◌≡◌, refl, ap}
-use mathlib.Core.Bool.{Bool, true, false, ◌&&◌}
+use mathlib.Core.Path.{◌≡◌, refl, ap, ◌∙◌}
+use mathlib.Core.Bool.{Bool, true, false, cond, not, ◌&&◌}
 use mathlib.Core.Logic.{◌⊎◌, inl, inr}
-use mathlib.Core.List.{List, [], ◌∷◌}
+use mathlib.Core.List.{List, [], ◌∷◌, ◌++◌}
 use lib.Dec.{eqb, eqb-zero-suc, eqb-suc-zero, eqb-suc-suc}
 use lib.Pointwise.{pointwise}
 use Rattle.std.proofs.lemmas.Bool.{cases_lt}
-use lib.ListN.{length, take, drop, length-drop, drop_of_length-le}
-use lib.Seq.{drop-cons, take_all, slice_empty, slice-cons}
-use borrow.Author.Tests.{eq-eqb, ne_eqb}
+use lib.ListN.{length, take, drop, length-append, length-drop, drop_of_length-le}
+use Rattle.std.proofs.lemmas.List.{drop-take}
+use lib.Seq.{drop-cons, drop-drop, drop-length, take_all, take-append_seam, length-take-le, slice}
 use Rattle.lists.specs.Lists.{◌!◌}
+use Rattle.scanner.specs.Scan.{from_first}
+use Rattle.scanner.proofs.First.{first_stops}
 use Rattle.lists.specs.Tests.{both}
 use Rattle.headings.specs.Lines.{line, behind}
 use Rattle.headings.specs.Headings.{starts_with, unspaced}
 use Rattle.linewise.specs.Says.{LineTo}
-
--- behind the end is nothing
-over : (s : List ℕ) → drop (length s) s ≡ []
-over s = drop_of_length-le s (omega arith)
 
 -- ---- bytes compared
 
@@ -47,7 +45,7 @@ drop_least s at = go (cases_lt at (length s))
   where
     go : (at < length s) ⊎ (length s ≤ at) → drop (min at (length s)) s ≡ drop at s
     go (inl h) = let e : min at (length s) ≡ at = omega arith in rw e
-    go (inr h) = let e : min at (length s) ≡ length s = omega arith in rw (e, over s, drop_of_length-le s h)
+    go (inr h) = let e : min at (length s) ≡ length s = omega arith in rw (e, drop-length s, drop_of_length-le s h)
 
 -- std's test of the part up to the end
 pub starts_part : (word s : List ℕ) (at k : ℕ) → k ≡ min at (length s)
@@ -56,51 +54,69 @@ starts_part word s at k e = rw (take_all (length s - k) (drop k s) (omega (arith
 
 -- ---- the first byte of a kind
 
-module _ (s : List ℕ) (i : ℕ) where
-  pub unspaced_end : length s ≤ i → drop (length s) s ≡ unspaced (drop i s)
-  unfolding unspaced
-  unspaced_end h = rw (over s, drop_of_length-le s h)
+unspaced_is : (s : List ℕ) → from_first (λ b. not (eqb b 32)) s ≡ unspaced s
+unfolding from_first unspaced
+unspaced_is [] = refl
+unspaced_is (b ∷ s) = go (eqb b 32) (unspaced_is s)
+  where
+    go : (t : Bool) → from_first (λ c. not (eqb c 32)) s ≡ unspaced s → cond (not t) (b ∷ s) (from_first (λ c. not (eqb c 32)) s) ≡ cond t (unspaced s) (b ∷ s)
+    go true e = e
+    go false e = refl
 
-  pub behind_end : (b : ℕ) → length s ≤ i → drop (length s) s ≡ behind b (drop i s)
-  unfolding behind
-  behind_end b h = rw (over s, drop_of_length-le s h)
+pub unspaced_to : (s : List ℕ) (at to : ℕ) → drop to s ≡ from_first (λ b. not (eqb b 32)) (drop at s) → drop to s ≡ unspaced (drop at s)
+unspaced_to s at to e = e ∙ unspaced_is (drop at s)
 
-  module _ (h : i < length s) where
-    pub unspaced_space : s ! i ≡ 32 → unspaced (drop i s) ≡ unspaced (drop (i + 1) s)
-    unfolding unspaced
-    unspaced_space e = rw (add-one, drop-cons s i 0 h, eq-eqb _ _ e)
+module _ (b : ℕ) where
+  behind_first : (s : List ℕ) → behind b s ≡ behind b (from_first (λ c. eqb c b) s)
+  unfolding from_first behind
+  behind_first [] = refl
+  behind_first (a ∷ s) = go (eqb a b) refl (behind_first s)
+    where
+      go : (t : Bool) → eqb a b ≡ t → behind b s ≡ behind b (from_first (λ c. eqb c b) s) → cond t s (behind b s) ≡ behind b (cond t (a ∷ s) (from_first (λ c. eqb c b) s))
+      go true q e = rw q
+      go false q e = e
 
-    pub unspaced_stop : (s ! i ≡ 32 → ⊥) → drop i s ≡ unspaced (drop i s)
-    unfolding unspaced
-    unspaced_stop e = rw (drop-cons s i 0 h, ne_eqb _ _ e)
-
-    pub behind_other : (b : ℕ) → (s ! i ≡ b → ⊥) → behind b (drop i s) ≡ behind b (drop (i + 1) s)
+  module _ (s : List ℕ) (at to : ℕ) (e : drop to s ≡ from_first (λ c. eqb c b) (drop at s)) where
+    pub behind_found : to < length s → drop (to + 1) s ≡ behind b (drop at s)
     unfolding behind
-    behind_other b e = rw (add-one, drop-cons s i 0 h, ne_eqb _ _ e)
+    behind_found h =
+        let q : eqb (s ! to) b ≡ true = first_stops (λ c. eqb c b) s at to e h in
+        rw (behind_first (drop at s), ← e, drop-cons s to 0 h, q, add-one)
 
-    pub behind_here : (b : ℕ) → s ! i ≡ b → drop (i + 1) s ≡ behind b (drop i s)
+    pub behind_missed : length s ≤ to → drop to s ≡ behind b (drop at s)
     unfolding behind
-    behind_here b e = rw (add-one, drop-cons s i 0 h, eq-eqb _ _ e)
+    behind_missed h = rw (behind_first (drop at s), ← e, drop_of_length-le s h)
 
 -- ---- the rest of a line
 
-module _ (s : List ℕ) (i : ℕ) where
-  pub line_over : length s ≤ i → LineTo s i (length s)
-  unfolding line
-  line_over h = record { from = λ k. k; inside = omega arith; same = rw (take_all (length s) s (omega arith), drop_of_length-le s h) }
+line_first : (s : List ℕ) → s ≡ line s ++ from_first (λ b. eqb b 10) s
+unfolding from_first line
+line_first [] = refl
+line_first (b ∷ s) = go (eqb b 10) (line_first s)
+  where
+    go : (t : Bool) → s ≡ line s ++ from_first (λ c. eqb c 10) s → b ∷ s ≡ cond t [] (b ∷ line s) ++ cond t (b ∷ s) (from_first (λ c. eqb c 10) s)
+    go true e = refl
+    go false e = ap (λ r. b ∷ r) e
 
-  module _ (h : i < length s) where
-    pub line_stop : s ! i ≡ 10 → LineTo s i i
-    unfolding line
-    line_stop e = record { from = λ k. omega arith; inside = omega arith; same = rw (slice_empty i s, drop-cons s i 0 h, eq-eqb _ _ e) }
+line_taken : (s : List ℕ) (n : ℕ) → n ≤ length s → drop n s ≡ from_first (λ b. eqb b 10) s → take n s ≡ line s
+line_taken s n h e =
+    let f = from_first (λ b. eqb b 10) s in
+    let q : s ≡ line s ++ f = line_first s in
+    let l : n ≡ length (line s) = omega (arith, h, ap length q, length-append (line s) f, ap length e, length-drop n s) in
+    rw l (ap (λ t. take (length (line s)) t) q ∙ take-append_seam (line s) f)
 
-    -- wherever the line from the next byte on ends, the line from here on ends
-    pub line_onward : (s ! i ≡ 10 → ⊥) → (to : ℕ) → LineTo s (i + 1) to → LineTo s i to
-    unfolding line
-    line_onward e to q =
-        let k : i < to = omega (arith, q.from (omega arith)) in
-        record {
-          from = λ b. omega arith;
-          inside = q.inside;
-          same = rw (slice-cons i to s 0 k q.inside, drop-cons s i 0 h, ne_eqb _ _ e) (ap (λ (r : List ℕ). s ! i ∷ r) (rw add-one at q.same));
-        }
+line_part : (s : List ℕ) (at m : ℕ) → at + m ≤ length s → drop (at + m) s ≡ from_first (λ b. eqb b 10) (drop at s) → slice at (at + m) s ≡ line (drop at s)
+line_part s at m h e = drop-take at m s ∙ line_taken (drop at s) m (omega (arith, h, length-drop at s)) (drop-drop m at s ∙ e)
+
+pub line_to : (s : List ℕ) (at to : ℕ) → to ≤ length s → (at ≤ length s → at ≤ to) → drop to s ≡ from_first (λ b. eqb b 10) (drop at s) → LineTo s at to
+unfolding line
+line_to s at to k h e = record { from = h; inside = k; same = go (cases_lt (length s) at) }
+  where
+    go : (length s < at) ⊎ (at ≤ length s) → slice at to s ≡ line (drop at s)
+    go (inl b) =
+        let over : length (take to s) ≤ at = omega (arith, length-take-le to s k) in
+        let past : length s ≤ at = omega arith in
+        rw (drop_of_length-le (take to s) over, drop_of_length-le s past)
+    go (inr b) =
+        let z : at + (to - at) ≡ to = omega (arith, h b) in
+        rw z at (line_part s at (to - at) (rw z k) (rw z e))

@@ -20,24 +20,15 @@ pub fn starts_at(text: &[u8], at: usize, word: &[u8]) -> bool
 pub fn unspaced_at(text: &[u8], at: usize) -> usize
     ensures { drop result text.now ≡ unspaced (drop at text.now) }
 {
-    for i in at..text.len() {
-        if text[i] != b' ' {
-            return i;
-        }
-    }
-    text.len()
+    scanner::first_where(text, at, |b| b != b' ')
 }
 
 // The place behind the first byte b from `at` on; the text's end where there is none.
 fn behind(text: &[u8], at: usize, b: u8) -> usize
     ensures { drop result text.now ≡ behind b (drop at text.now) }
 {
-    for i in at..text.len() {
-        if text[i] == b {
-            return i + 1;
-        }
-    }
-    text.len()
+    let found = scanner::first_where(text, at, |c| c == b);
+    if found < text.len() { found + 1 } else { found }
 }
 
 // The start of the next line; the text's end where there is none.
@@ -51,12 +42,7 @@ pub fn next_line(text: &[u8], at: usize) -> usize
 fn line_end(text: &[u8], at: usize) -> usize
     ensures { LineTo text.now at result }
 {
-    for i in at..text.len() {
-        if text[i] == b'\n' {
-            return i;
-        }
-    }
-    text.len()
+    scanner::first_where(text, at, |b| b == b'\n')
 }
 
 // The place behind m lines from `at` on.

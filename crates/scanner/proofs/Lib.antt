@@ -1,3 +1,4 @@
 pub mod Tokens
 pub mod Runs
 pub mod Numbers
+pub mod First

@@ -72,10 +72,6 @@ module _ (s : List ℕ) (i : ℕ) where
       rw (drop_of_length-le s h, drop_of_length-le s e)
 
   module _ (h : i < length s) where
-    pub tokens_blank : blank (s ! i) ≡ true → tokens (drop i s) ≡ tokens (drop (i + 1) s)
-    unfolding tokens solid_runs
-    tokens_blank e = rw (add-one, drop-cons s i 0 h, e)
-
     pub tokens_start : blank (s ! i) ≡ false → tokens (drop i s) ≡ tokens_inside (number 0) (drop i s)
     tokens_start e = rw (drop-cons s i 0 h) (tokens_inside_lem (s ! i) (drop (suc i) s) e)
 

@@ -15,6 +15,11 @@ unfoldable pub tokens_inside : Token → List ℕ → List Token
 tokens_inside w [] = w ∷ []
 tokens_inside w (b ∷ s) = cond (blank b) (w ∷ tokens s) (tokens_inside (more w b) s)
 
+-- a text from its first byte on that passes the test, and nothing where it has none
+unfoldable pub from_first : (ℕ → Bool) → List ℕ → List ℕ
+from_first f [] = []
+from_first f (b ∷ s) = cond (f b) (b ∷ s) (from_first f s)
+
 -- from `at` to `to` there are blanks alone, and none stands at `to`
 pub record Skipped (s : List ℕ) (at to : ℕ) : Type 0 where
   pub same : tokens (drop at s) ≡ tokens (drop to s)

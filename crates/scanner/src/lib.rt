@@ -10,6 +10,7 @@ ghost use Rattle.texts.specs.Readings.{one, exactly};
 ghost use Rattle.scanner.specs.Scan.{GotSays, none?};
 
 use answers::Refusal;
+pub use scan::first_where;
 use scan::{Next, next_number};
 
 // A number with the place behind it.

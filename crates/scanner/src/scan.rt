@@ -1,7 +1,7 @@
 // From byte to token.
-ghost use Rattle.std.specs.Prelude.{◌≡◌, true, ℕ, ◌+◌, ◌-◌, ◌*◌, ◌≤◌, drop};
+ghost use Rattle.std.specs.Prelude.{◌≡◌, Bool, true, ℕ, ◌+◌, ◌-◌, ◌*◌, ◌≤◌, ◌<◌, length, drop};
 ghost use Rattle.texts.specs.Tokens.{blank, digit, number, tokens};
-ghost use Rattle.scanner.specs.Scan.{Skipped, held, Capped, Heads, tokens_inside};
+ghost use Rattle.scanner.specs.Scan.{from_first, Skipped, held, Capped, Heads, tokens_inside};
 
 // What is held of a number at most; `held` in specs/ says why.
 const HELD: u64 = 4294967296;
@@ -22,16 +22,26 @@ fn is_blank(b: u8) -> bool
     matches!(b, b' ' | b'\t' | b'\r' | b'\n')
 }
 
-// The first place from `at` on that has no blank.
-fn skip(text: &[u8], at: usize) -> usize
-    ensures { Skipped text.now at result }
+// The first place from `at` on whose byte passes the test; the text's end where there is none.
+pub fn first_where<F: Fn(u8) -> bool>(text: &[u8], at: usize, test: F) -> usize
+    requires { F.IsAlwaysCallable test }
+    ensures inside { result ≤ length text.now }
+    ensures onward { at ≤ length text.now → at ≤ result }
+    ensures first { (f : ℕ → Bool) → ((b : ℕ) (r : Bool) → b < 256 → F.post test b r → r ≡ f b) → drop result text.now ≡ from_first f (drop at text.now) }
 {
     for i in at..text.len() {
-        if !is_blank(text[i]) {
+        if test(text[i]) {
             return i;
         }
     }
     text.len()
+}
+
+// The first place from `at` on that has no blank.
+fn skip(text: &[u8], at: usize) -> usize
+    ensures { Skipped text.now at result }
+{
+    first_where(text, at, |b| !is_blank(b))
 }
 
 // The number with one digit more.

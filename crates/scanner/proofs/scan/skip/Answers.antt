@@ -1,6 +1,9 @@
-use mathlib.Core.Path.{sym, ◌∙◌}
-use Rattle.scanner.proofs.Tokens.{tokens_blank}
+-- `scanner::scan::skip` meets its contract: the first byte that is no blank is found.
+use mathlib.Core.Bool.{not}
+use Rattle.std.proofs.Common.{rules}
+use Rattle.texts.specs.Tokens.{blank}
+use Rattle.scanner.proofs.First.{skipped}
 use Rattle.scanner.proofs.scan.skip.Goals as goal
 
-pub loop-i-preserved : goal.loop-i-preserved
-loop-i-preserved c = c.loop-i.invariant ∙ tokens_blank _ _ c.loop-i-test.true (sym c.is_blank.ensures ∙ c.if-not-is_blank.false)
+pub returns : goal.returns
+returns c = skipped _ _ _ (c.first_where.ensures.first (λ b. not (blank b)) (λ b r k p. search rules))
