@@ -1,16 +1,17 @@
 -- The pairs written one by one, and a list made place by place.
-use Prim.Native.Nat.{ℕ, suc, ◌+◌, ◌<◌}
+use Prim.Native.Nat.{ℕ, suc, ◌+◌, ◌≤◌, ◌<◌}
 use native.Mathlib.Omega.{arith}
 use native.Mathlib.Numerals.{add-one}
 use native.Mathlib.Decide.{ℕ_discrete}
 use mathlib.Core.Path.{◌≡◌, refl, sym, ap, ◌∙◌}
+use mathlib.Core.Bool.{Bool, true, false, cond}
 use mathlib.Core.List.{List, [], ◌∷◌, ◌++◌, map, append_assoc, append-nil}
 use lib.ListN.{length, drop, set, length-append, length-set, length-map}
 use lib.Seq.{drop-cons, set_at, get_or-set_same, get_or-set_other}
 use Rattle.std.specs.Prelude.{Some, None}
 use Rattle.lists.specs.Lists.{◌!◌}
 use Rattle.chains.specs.Paths.{Pair, pair}
-use Rattle.texts.specs.Tokens.{Token}
+use Rattle.texts.specs.Tokens.{blank, onto, goes_on, solid_runs, Token, token, tokens}
 use Rattle.texts.specs.Readings.{Read, good}
 use Rattle.passes.specs.Rounds.{Drawn}
 use Rattle.lent.specs.Parts.{Wrote}
@@ -94,3 +95,22 @@ each_step tails l h i x b e g j c =
       | yes q ↦ rw q (rw (get_or-set_same l i x 0 b) e)
       | no q ↦ rw (get_or-set_other l i j x 0 q) (g j (omega arith))
     ]
+
+-- a text has no more tokens than bytes
+onto_few : (b : ℕ) (ts : List (List ℕ)) → length (onto b ts) ≤ suc (length ts)
+onto_few b [] = omega arith
+onto_few b (t ∷ ts) = omega arith
+
+runs_few : (s : List ℕ) → length (solid_runs s) ≤ length s
+unfolding solid_runs
+runs_few [] = omega arith
+runs_few (b ∷ s) = go (blank b) (goes_on s) (runs_few s)
+  where
+    go : (x y : Bool) → length (solid_runs s) ≤ length s → length (cond x (solid_runs s) (cond y (onto b (solid_runs s)) ((b ∷ []) ∷ solid_runs s))) ≤ suc (length s)
+    go true y h = omega arith
+    go false true h = omega (arith, onto_few b (solid_runs s))
+    go false false h = omega arith
+
+pub tokens_few : (s : List ℕ) → length (tokens s) ≤ length s
+unfolding tokens
+tokens_few s = omega (arith, runs_few s, length-map (solid_runs s) token)

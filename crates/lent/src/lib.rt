@@ -79,10 +79,8 @@ pub fn write_pairs(pairs: TextPairs<'_>, js: &mut [u32], ss: &mut [u32])
     requires { Pullable pairs × Roomy (coming pairs) js.old ss.old }
     ensures { Wrote (coming pairs.entry) js.old ss.old js.new ss.new }
 {
-    let mut i = 0;
-    for (a, b) in pairs {
+    for (i, (a, b)) in pairs.enumerate() {
         js[i] = a;
         ss[i] = b;
-        i += 1;
     }
 }
