@@ -1,6 +1,6 @@
 -- The work under way, for any search: the moves made so far and what the defined work still gives from the place reached are the defined run.
 -- Each law is one way that a turn of the loop goes: the place rests, the round is over, a move finds no room, a move closes its window, a move is made.
-use Prim.Native.Nat.{ℕ, zero, suc, ◌+◌, ◌-◌, ◌*◌, ◌≤◌, ◌<◌}
+use Prim.Native.Nat.{ℕ, suc, ◌+◌, ◌-◌, ◌*◌, ◌≤◌, ◌<◌}
 use native.Mathlib.Omega.{arith}
 use mathlib.Core.Path.{◌≡◌, refl, sym, ap, ap₂, ◌∙◌}
 use mathlib.Core.Bool.{Bool, true, false}

@@ -7,14 +7,17 @@ ghost use Rattle.rounds.specs.Work.{Works};
 
 use answers::{Answer, Refusal};
 use places::Place;
+use searches::Load;
 use turns::Turn;
 
 // The points that the kept load has room for: about twice as many as the windows of any list need. A move adds two at most, and none is taken away until
-// the load is built anew.
+// the load is built anew. The memory is fixed, since a call cannot fail, so that no Vec holds them.
 const POINTS: usize = 4 * screen::MOST_JOBS;
 
 // The work of a good list whose windows are long enough: turns until a round has changed nothing, a move closes a window, or there is no room. The load of
 // all jobs is kept from move to move. What falls with each turn is the room left, then whether another round is to follow, then what is left of this one.
+// The read head's work (`sequencing`) walks the places alike. One loop over a trait of turns would make each work a struct of all its lent lists, and each
+// clause would carry their ghost names: it is longer than both loops.
 pub fn work(
     est: &mut [u32],
     lct: &mut [u32],
@@ -33,8 +36,12 @@ pub fn work(
     let mut at = Place::first();
     let mut count = 0;
     while at.job < n {
-        let turn = turns::take_turn(est, lct, dur, dem, cap, log, at, count, &ts, &ld, kept);
-        match turn {
+        let load = Load {
+            ts: &ts,
+            ld: &ld,
+            kept,
+        };
+        match turns::take_turn(est, lct, dur, dem, cap, log, at, count, load) {
             Turn::Rests => {
                 at = at.onward(n);
             }

@@ -19,7 +19,7 @@ use Rattle.timetable.specs.Table.{jobs_of, Workable}
 use Rattle.timetable.proofs.Law.{greatest_crowded, least_crowded}
 use Rattle.crowding.specs.Asked.{asked}
 use Rattle.timetable.proofs.Good.{durations_sized, window_long}
-use Rattle.profile.specs.declared.kept.Outline.{Outline}
+use Rattle.searches.specs.declared.load.Load.{Load}
 use Rattle.loads.specs.Loads.{full_load, Loaded}
 use Rattle.loads.proofs.Full.{load_full}
 use Rattle.windows.specs.Found.{as_option}
@@ -84,8 +84,8 @@ module _ (e l p r : List ℕ) (cap j : ℕ) where
       busies : (t : ℕ) → Crowded J (win e l) j t → Busy (full_load p r (win e l)) cap (r ! j) s f t
       busies t c = omega (arith, c.over, same t)
 
-      module _ {ts ld : List ℕ} {k : Outline} (L : Loaded (win e l) p r ts ld k) (x : ℕ) where
-        module _ (b : LastBusy ts ld k cap (r ! j) s f (e ! j) f x) where
+      module _ (load : Load) (L : Loaded (win e l) p r load.ts.now load.ld.now load.kept) (x : ℕ) where
+        module _ (b : LastBusy load cap (r ! j) s f (e ! j) f x) where
           last : LastWith (Crowded J (win e l) j) (e ! j) f x
           last = last_as crowds busies (b (full_load p r (win e l)) L.keeps demand_in)
 
@@ -95,7 +95,7 @@ module _ (e l p r : List ℕ) (cap j : ℕ) where
           pub early_moves : e ! j < x → Some (x - 1) ≡ as_option (next_time (asked e l p r cap) j early)
           early_moves h = answers early (some (x - 1)) (last_some last (x - 1) (omega arith) (omega arith))
 
-        module _ (b : FirstBusy ts ld k cap (r ! j) s f s (l ! j) x) where
+        module _ (b : FirstBusy load cap (r ! j) s f s (l ! j) x) where
           stretch : s + p ! j ≡ l ! j
           stretch = omega (arith, window_long w j d)
 

@@ -4,12 +4,11 @@ use native.Mathlib.Omega.{arith}
 use native.Mathlib.Decide.{dec_lt}
 use mathlib.Core.Path.{◌≡◌}
 use mathlib.Core.Bool.{true, false}
-use mathlib.Core.List.{List}
 use Rattle.lists.specs.Tests.{between}
 use Rattle.lists.proofs.Tests.{between_yes, between_before, between_behind}
 use Rattle.std.specs.Prelude.{min, max}
-use Rattle.profile.specs.declared.kept.Outline.{Outline}
 use Rattle.peaks.specs.Peaks.{LastOver, FirstOver}
+use Rattle.searches.specs.declared.load.Load.{Load}
 use Rattle.searches.specs.Busy.{Busy, DemandIn, LastBusy, FirstBusy}
 
 module _ (g : ℕ → ℕ) (cap r s f : ℕ) where
@@ -38,10 +37,10 @@ module _ (g : ℕ → ℕ) (cap r s f : ℕ) where
             ]
       ]
 
-module _ (ts ld : List ℕ) (k : Outline) (cap r s f : ℕ) where
+module _ (load : Load) (cap r s f : ℕ) where
   -- ---- side 0: beside up to mid, in from there up to f
 
-  pub last_all : (e : ℕ) → cap < r → e ≤ f → LastBusy ts ld k cap r s f e f f
+  pub last_all : (e : ℕ) → cap < r → e ≤ f → LastBusy load cap r s f e f f
   last_all e h i g K C =
       record { from = i; to = omega arith; has = λ t q a. busy_always g cap r s f C h t; none_behind = λ t a b. absurd (omega arith) }
 
@@ -49,7 +48,7 @@ module _ (ts ld : List ℕ) (k : Outline) (cap r s f : ℕ) where
     in_from : (t : ℕ) → mid ≤ t → t < f → between s f t ≡ true
     in_from t a b = between_yes s f t (omega arith) b
 
-    pub last_own : (x : ℕ) → LastOver ts ld k cap mid f x → mid < x → LastBusy ts ld k cap r s f e f x
+    pub last_own : (x : ℕ) → LastOver load.ts.now load.ld.now load.kept cap mid f x → mid < x → LastBusy load cap r s f e f x
     last_own x L h g K C =
         let S = L g K in
         record {
@@ -59,7 +58,7 @@ module _ (ts ld : List ℕ) (k : Outline) (cap r s f : ℕ) where
           none_behind = λ t a b o. S.none_behind t a b (in_busy g cap r s f t (in_from t (omega arith) b) o);
         }
 
-    pub last_beside : (x y : ℕ) → r ≤ cap → LastOver ts ld k cap mid f x → x ≤ mid → LastOver ts ld k (cap - r) e mid y → LastBusy ts ld k cap r s f e f y
+    pub last_beside : (x y : ℕ) → r ≤ cap → LastOver load.ts.now load.ld.now load.kept cap mid f x → x ≤ mid → LastOver load.ts.now load.ld.now load.kept (cap - r) e mid y → LastBusy load cap r s f e f y
     last_beside x y w L h M g K C =
         let S = L g K in
         let T = M g K in
@@ -76,7 +75,7 @@ module _ (ts ld : List ℕ) (k : Outline) (cap r s f : ℕ) where
 
   -- ---- side 1: in from s up to mid, beside from there up to l
 
-  pub first_all : (l : ℕ) → cap < r → s ≤ l → FirstBusy ts ld k cap r s f s l s
+  pub first_all : (l : ℕ) → cap < r → s ≤ l → FirstBusy load cap r s f s l s
   first_all l h i g K C =
       record { from = omega arith; to = i; has = λ d. busy_always g cap r s f C h s; none_before = λ t a b. absurd (omega arith) }
 
@@ -84,7 +83,7 @@ module _ (ts ld : List ℕ) (k : Outline) (cap r s f : ℕ) where
     in_to : (t : ℕ) → s ≤ t → t < mid → between s f t ≡ true
     in_to t a b = between_yes s f t a (omega arith)
 
-    pub first_own : (x : ℕ) → FirstOver ts ld k cap s mid x → x < mid → FirstBusy ts ld k cap r s f s l x
+    pub first_own : (x : ℕ) → FirstOver load.ts.now load.ld.now load.kept cap s mid x → x < mid → FirstBusy load cap r s f s l x
     first_own x L h g K C =
         let S = L g K in
         record {
@@ -94,7 +93,7 @@ module _ (ts ld : List ℕ) (k : Outline) (cap r s f : ℕ) where
           none_before = λ t a b o. S.none_before t a b (in_busy g cap r s f t (in_to t a (omega arith)) o);
         }
 
-    pub first_beside : (x y : ℕ) → r ≤ cap → FirstOver ts ld k cap s mid x → mid ≤ x → FirstOver ts ld k (cap - r) mid l y → FirstBusy ts ld k cap r s f s l y
+    pub first_beside : (x y : ℕ) → r ≤ cap → FirstOver load.ts.now load.ld.now load.kept cap s mid x → mid ≤ x → FirstOver load.ts.now load.ld.now load.kept (cap - r) mid l y → FirstBusy load cap r s f s l y
     first_beside x y w L h M g K C =
         let S = L g K in
         let T = M g K in

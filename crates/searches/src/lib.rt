@@ -3,7 +3,7 @@
 
 ghost use Rattle.std.specs.Prelude.{◌≡◌, ◌<◌, ◌≤◌, length};
 ghost use Rattle.narrowing.specs.Windows.{win};
-ghost use Rattle.profile.specs.Steps.{behind_all, Points};
+ghost use Rattle.profile.specs.Steps.{behind_all};
 ghost use Rattle.crowding.specs.Asked.{asked};
 ghost use Rattle.timetable.specs.Table.{Workable};
 ghost use Rattle.loads.specs.Loads.{Loaded};
@@ -12,43 +12,47 @@ ghost use Rattle.windows.specs.Found.{as_option};
 ghost use Rattle.searches.specs.Found.{next_time};
 ghost use Rattle.searches.specs.Busy.{LastBusy, FirstBusy};
 
-use profile::Outline;
+mod load; // load.rt: the kept load, as it is lent
+
+pub use load::Load;
 use windows::Side;
 
-// Side 0: one more than the last time from e up to f that is crowded for a job of demand r, and e where there is none. Its sure part is from s up to f; there
-// the load has its demand in it already.
-fn early(ts: &[u32], ld: &[u32], kept: Outline, cap: u32, r: u32, e: u32, s: u32, f: u32) -> u32
-    requires { Points ts.now ld.now kept.m × (e ≤ s) × (e ≤ f) × (f < behind_all) }
-    ensures { LastBusy ts.now ld.now kept cap r s f e f result }
-{
-    if cap < r {
-        return f;
+impl Load<'_> {
+    // Side 0: one more than the last time from e up to f that is crowded for a job of demand r, and e where there is none. Its sure part is from s up to f;
+    // there the load has its demand in it already.
+    fn early(self, cap: u32, r: u32, e: u32, s: u32, f: u32) -> u32
+        requires { (e ≤ s) × (e ≤ f) × (f < behind_all) }
+        ensures { LastBusy self.entry cap r s f e f result }
+    {
+        if cap < r {
+            return f;
+        }
+        let rest = cap - r;
+        let mid = s.min(f);
+        let x = peaks::last_over(self.ts, self.ld, self.kept, mid, f, cap);
+        if mid < x {
+            x
+        } else {
+            peaks::last_over(self.ts, self.ld, self.kept, e, mid, rest)
+        }
     }
-    let rest = cap - r;
-    let mid = s.min(f);
-    let x = peaks::last_over(ts, ld, kept, mid, f, cap);
-    if mid < x {
-        x
-    } else {
-        peaks::last_over(ts, ld, kept, e, mid, rest)
-    }
-}
 
-// Side 1: the first time from s up to l that is crowded for a job of demand r, and l where there is none. Its sure part is from s up to f.
-fn late(ts: &[u32], ld: &[u32], kept: Outline, cap: u32, r: u32, s: u32, f: u32, l: u32) -> u32
-    requires { Points ts.now ld.now kept.m × (s ≤ l) × (f ≤ l) × (l < behind_all) }
-    ensures { FirstBusy ts.now ld.now kept cap r s f s l result }
-{
-    if cap < r {
-        return s;
-    }
-    let rest = cap - r;
-    let mid = s.max(f);
-    let x = peaks::first_over(ts, ld, kept, s, mid, cap);
-    if x < mid {
-        x
-    } else {
-        peaks::first_over(ts, ld, kept, mid, l, rest)
+    // Side 1: the first time from s up to l that is crowded for a job of demand r, and l where there is none. Its sure part is from s up to f.
+    fn late(self, cap: u32, r: u32, s: u32, f: u32, l: u32) -> u32
+        requires { (s ≤ l) × (f ≤ l) × (l < behind_all) }
+        ensures { FirstBusy self.entry cap r s f s l result }
+    {
+        if cap < r {
+            return s;
+        }
+        let rest = cap - r;
+        let mid = s.max(f);
+        let x = peaks::first_over(self.ts, self.ld, self.kept, s, mid, cap);
+        if x < mid {
+            x
+        } else {
+            peaks::first_over(self.ts, self.ld, self.kept, mid, l, rest)
+        }
     }
 }
 
@@ -61,11 +65,9 @@ pub fn next_time(
     cap: u32,
     job: usize,
     side: Side,
-    ts: &[u32],
-    ld: &[u32],
-    kept: Outline,
+    load: Load<'_>,
 ) -> Option<u32>
-    requires { Workable (asked est.now lct.now dur.now dem.now cap) × (job < length dur.now) × Loaded (win est.now lct.now) dur.now dem.now ts.now ld.now kept }
+    requires { Workable (asked est.now lct.now dur.now dem.now cap) × (job < length dur.now) × Loaded (win est.now lct.now) dur.now dem.now load.ts.now load.ld.now load.kept }
     ensures { result ≡ as_option (next_time (asked est.now lct.now dur.now dem.now cap) job (side_is side)) }
 {
     let r = dem[job];
@@ -78,11 +80,11 @@ pub fn next_time(
     let l = lct[job];
     match side {
         Side::Start => {
-            let x = early(ts, ld, kept, cap, r, e, l - p, e + p);
+            let x = load.early(cap, r, e, l - p, e + p);
             if e < x { Some(x - 1) } else { None }
         }
         Side::End => {
-            let y = late(ts, ld, kept, cap, r, l - p, e + p, l);
+            let y = load.late(cap, r, l - p, e + p, l);
             if y < l { Some(y) } else { None }
         }
     }

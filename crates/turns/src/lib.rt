@@ -9,7 +9,7 @@ ghost use Rattle.loads.specs.Loads.{Loaded};
 ghost use Rattle.turns.specs.Moves.{TurnSays};
 
 use places::Place;
-use profile::Outline;
+use searches::Load;
 
 // What a turn at a place comes to: its side rests, it moved from a bound, the move closed the window, or there is no room for its record.
 #[derive(Drop)]
@@ -30,16 +30,14 @@ pub fn take_turn(
     log: &mut [u32],
     at: Place,
     count: usize,
-    ts: &[u32],
-    ld: &[u32],
-    kept: Outline,
+    load: Load<'_>,
 ) -> Turn
-    requires { Workable (call (win est.old lct.old) dur.now dem.now cap log.old) × (at.job < length est.old) × Loaded (win est.old lct.old) dur.now dem.now ts.now ld.now kept }
+    requires { Workable (call (win est.old lct.old) dur.now dem.now cap log.old) × (at.job < length est.old) × Loaded (win est.old lct.old) dur.now dem.now load.ts.now load.ld.now load.kept }
     ensures { TurnSays (call (win est.old lct.old) dur.now dem.now cap log.old) at count (win est.new lct.new) log.new result }
 {
     let job = at.job;
     let side = at.side;
-    let found = searches::next_time(est, lct, dur, dem, cap, job, side, ts, ld, kept);
+    let found = searches::next_time(est, lct, dur, dem, cap, job, side, load);
     let Some(t) = found else {
         return Turn::Rests;
     };

@@ -23,17 +23,17 @@ overflow_sub-l c = omega (arith, within (goal.at.overflow_sub-l c).Start)
 pub early-x-requires : goal.early-x-requires
 early-x-requires c =
     let w = within (goal.at.early-x-requires c).Start in
-    (c.requires.2.keeps.points, omega arith, omega arith, omega arith)
+    (omega arith, omega arith, omega arith)
 
 pub returns-then-e-x : goal.returns-then-e-x
 returns-then-e-x c =
     let p = c.requires in
-    rw c.in-Start.is (early_moves _ _ _ _ _ _ p.0 p.1 c.if-p-eq0.false c.if-r-eq0.false p.2 _ c.early-x.ensures c.if-e-x.true)
+    rw c.in-Start.is (early_moves _ _ _ _ _ _ p.0 p.1 c.if-p-eq0.false c.if-r-eq0.false c.args.load p.2 _ c.early-x.ensures c.if-e-x.true)
 
 pub returns-else-e-x : goal.returns-else-e-x
 returns-else-e-x c =
     let p = c.requires in
-    rw c.in-Start.is (early_rests _ _ _ _ _ _ p.0 p.1 c.if-p-eq0.false c.if-r-eq0.false p.2 _ c.early-x.ensures c.if-e-x.false)
+    rw c.in-Start.is (early_rests _ _ _ _ _ _ p.0 p.1 c.if-p-eq0.false c.if-r-eq0.false c.args.load p.2 _ c.early-x.ensures c.if-e-x.false)
 
 pub overflow_sub-l-in-End : goal.overflow_sub-l-in-End
 overflow_sub-l-in-End c = omega (arith, within (goal.at.overflow_sub-l-in-End c).Start)
@@ -41,14 +41,14 @@ overflow_sub-l-in-End c = omega (arith, within (goal.at.overflow_sub-l-in-End c)
 pub late-y-requires : goal.late-y-requires
 late-y-requires c =
     let w = within (goal.at.late-y-requires c).Start in
-    (c.requires.2.keeps.points, omega arith, omega arith, omega arith)
+    (omega arith, omega arith, omega arith)
 
 pub returns-then-y-l : goal.returns-then-y-l
 returns-then-y-l c =
     let p = c.requires in
-    rw c.in-End.is (late_moves _ _ _ _ _ _ p.0 p.1 c.if-p-eq0.false c.if-r-eq0.false p.2 _ c.late-y.ensures c.if-y-l.true)
+    rw c.in-End.is (late_moves _ _ _ _ _ _ p.0 p.1 c.if-p-eq0.false c.if-r-eq0.false c.args.load p.2 _ c.late-y.ensures c.if-y-l.true)
 
 pub returns-else-y-l : goal.returns-else-y-l
 returns-else-y-l c =
     let p = c.requires in
-    rw c.in-End.is (late_rests _ _ _ _ _ _ p.0 p.1 c.if-p-eq0.false c.if-r-eq0.false p.2 _ c.late-y.ensures c.if-y-l.false)
+    rw c.in-End.is (late_rests _ _ _ _ _ _ p.0 p.1 c.if-p-eq0.false c.if-r-eq0.false c.args.load p.2 _ c.late-y.ensures c.if-y-l.false)
