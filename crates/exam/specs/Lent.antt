@@ -3,7 +3,7 @@ use Rattle.std.specs.Prelude.{ℕ, ◌≤◌, ◌<◌, ◌≡◌, true, List, []
 use Rattle.narrowing.specs.Windows.{Win}
 use Rattle.joblist.specs.Limits.{most_time, demand_column, jobs, three_lists}
 use Rattle.joblist.specs.GoodList.{GoodList}
-use Rattle.journal.specs.Journal.{record_words, job_of, time_of, is_member}
+use Rattle.journal.specs.Journal.{job_of, time_of, is_member}
 use Rattle.timetable.specs.Time.{Jobs}
 
 -- n jobs with their durations, demands and the capacity; what a test does not look at stands empty or 0
@@ -20,7 +20,6 @@ Drawn r = GoodList (length r) (demand_column r ∷ []) []
 
 -- a record that codes 21 and 22 let through: its job and its members are among n jobs, its time is small
 pub record LetThrough (n : ℕ) (x : List ℕ) : Type 0 where
-  pub words : length x ≡ record_words
   pub job : job_of x < n
   pub time : time_of x ≤ most_time
   pub members : (k : ℕ) → is_member x k ≡ true → k < n

@@ -6,7 +6,7 @@ ghost use Rattle.lists.specs.Lists.{◌!◌};
 ghost use Rattle.lists.specs.Tests.{where?, every};
 ghost use Rattle.narrowing.specs.Windows.{win};
 ghost use Rattle.members.specs.Members.{set_words, has, ones_of};
-ghost use Rattle.journal.specs.Journal.{count_word, record_words, set_of_record, job_of, time_of};
+ghost use Rattle.journal.specs.Journal.{count_word, set_of_record, job_of, time_of};
 ghost use Rattle.codes.specs.Facts.{side};
 ghost use Rattle.codes.specs.Codes.{in_range, takes_part, partners, tightens};
 ghost use Rattle.exam.specs.Lent.{jobs_in};
@@ -15,8 +15,7 @@ use windows::Side;
 
 // 21: the job is in a list of n jobs, the side is 0 or 1, and the time is within its limit.
 #[tactic(auto, unfolding(codes::specs::Codes::in_range))]
-pub fn in_range(n: usize, words: &[u32]) -> bool
-    requires { length words.now ≡ record_words }
+pub fn in_range(n: usize, words: &[u32; logs::RECORD]) -> bool
     ensures { result ≡ in_range (jobs_in n [] [] 0) words.now }
 {
     (words[logs::JOB_WORD] as usize) < n
@@ -25,6 +24,7 @@ pub fn in_range(n: usize, words: &[u32]) -> bool
 }
 
 // Whether every member passes the test. Every bit of the set is looked at.
+// It is a `for`: under `all`, alone or behind `filter`, the proof that the test is asked of members alone did not close.
 pub fn every_member<F: Fn(usize) -> bool>(set: &[u32], test: F) -> bool
     requires few { length set.now ≤ set_words }
     requires asked { (k : ℕ) → has set.now k ≡ true → F.pre test k }
@@ -48,8 +48,8 @@ fn takes_part(dur: &[u32], dem: &[u32], k: usize) -> bool
 }
 
 // 22: the moved job and every member take part, and the moved job is no member.
-pub fn partners(dur: &[u32], dem: &[u32], words: &[u32]) -> bool
-    requires { (length dem.now ≡ length dur.now) × (length words.now ≡ record_words) }
+pub fn partners(dur: &[u32], dem: &[u32], words: &[u32; logs::RECORD]) -> bool
+    requires { length dem.now ≡ length dur.now }
     ensures { result ≡ partners (jobs_in (length dur.now) dur.now dem.now 0) words.now }
 {
     let job = words[logs::JOB_WORD] as usize;
@@ -58,16 +58,15 @@ pub fn partners(dur: &[u32], dem: &[u32], words: &[u32]) -> bool
 }
 
 // 23: the count word is the number of ones.
-pub fn counted(words: &[u32]) -> bool
-    requires { length words.now ≡ record_words }
+pub fn counted(words: &[u32; logs::RECORD]) -> bool
     ensures { result ≡ eqb (words.now ! count_word) (ones_of (set_of_record words.now)) }
 {
     words[logs::COUNT_WORD] == bits::count(logs::set_of(words))
 }
 
 // 26: the change tightens.
-pub fn tightens(est: &[u32], lct: &[u32], words: &[u32]) -> bool
-    requires { (length words.now ≡ record_words) × (job_of words.now < length est.now) × (job_of words.now < length lct.now) }
+pub fn tightens(est: &[u32], lct: &[u32], words: &[u32; logs::RECORD]) -> bool
+    requires { (job_of words.now < length est.now) × (job_of words.now < length lct.now) }
     ensures { result ≡ tightens (win est.now lct.now) (job_of words.now) (side words.now) (time_of words.now) }
 {
     let job = words[logs::JOB_WORD] as usize;

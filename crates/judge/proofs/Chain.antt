@@ -11,7 +11,7 @@ use Rattle.lists.specs.Lists.{◌!◌}
 use Rattle.lists.specs.Tests.{unless}
 use Rattle.narrowing.specs.Windows.{Win, win}
 use Rattle.members.specs.Members.{ones_of}
-use Rattle.journal.specs.Journal.{count_word, record_words, set_of_record, job_of, time_of}
+use Rattle.journal.specs.Journal.{count_word, set_of_record, job_of, time_of}
 use Rattle.timetable.specs.Reason.{named}
 use Rattle.timetable.specs.Table.{call, Good}
 use Rattle.codes.specs.Facts.{side, InRange}
@@ -38,9 +38,8 @@ code_is cap W p r x e = rw e
 pub ranged : (n : ℕ) (x : List ℕ) → in_range (jobs_in n [] [] 0) x ≡ true → InRange (jobs_in n [] [] 0) x
 ranged n x h = (range_judged (jobs_in n [] [] 0) (win [] []) x).passed h
 
-pub placed : (n : ℕ) (p r x : List ℕ) → in_range (jobs_in n [] [] 0) x ≡ true → partners (jobs_in n p r 0) x ≡ true → length x ≡ record_words → LetThrough n x
-placed n p r x h q w = record {
-  words = w;
+pub placed : (n : ℕ) (p r x : List ℕ) → in_range (jobs_in n [] [] 0) x ≡ true → partners (jobs_in n p r 0) x ≡ true → LetThrough n x
+placed n p r x h q = record {
   job = (ranged n x h).job;
   time = (ranged n x h).time;
   members = λ k m. (((partners_judged (jobs_in n p r 0) (win [] []) x).passed q).members k m).0.listed;

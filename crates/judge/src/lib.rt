@@ -4,7 +4,6 @@
 ghost use Rattle.std.specs.Prelude.{◌≡◌, [], length};
 ghost use Rattle.narrowing.specs.Windows.{win};
 ghost use Rattle.answers.specs.Said.{coded};
-ghost use Rattle.journal.specs.Journal.{record_words};
 ghost use Rattle.timetable.specs.Table.{call, Good};
 ghost use Rattle.codes.specs.Codes.{code};
 ghost use Rattle.exam.specs.Lent.{jobs_in};
@@ -19,9 +18,9 @@ pub fn code_of(
     dur: &[u32],
     dem: &[u32],
     cap: u32,
-    words: &[u32],
+    words: &[u32; logs::RECORD],
 ) -> Result<(), Code>
-    requires { Good (call (win est.now lct.now) dur.now dem.now cap []) × (length words.now ≡ record_words) }
+    requires { Good (call (win est.now lct.now) dur.now dem.now cap []) }
     ensures { coded result ≡ code (jobs_in (length dur.now) dur.now dem.now cap) (win est.now lct.now) words.now }
 {
     if !exam::in_range(dur.len(), words) {

@@ -31,7 +31,7 @@ fn sure(est: &[u32], lct: &[u32], dur: &[u32], k: usize, t: u32) -> bool
 }
 
 // 25: the stated facts are true of the windows.
-pub fn stated_true(est: &[u32], lct: &[u32], dur: &[u32], words: &[u32]) -> bool
+pub fn stated_true(est: &[u32], lct: &[u32], dur: &[u32], words: &[u32; logs::RECORD]) -> bool
     requires { Timed (win est.now lct.now) dur.now × LetThrough (length dur.now) words.now }
     ensures { result ≡ stated_true (jobs_in 0 dur.now [] 0) (win est.now lct.now) words.now }
 {

@@ -22,7 +22,8 @@ fn refused(refusal: Refusal) -> Conflict
     }
 }
 
-// What the checker answers. It is lent copies, so that the windows are only read.
+// What the checker answers. It is lent copies, so that the windows are only read. The planner, the sequencer and the checker make such copies too, but to
+// write them back: what all four share is `windows::save`, and a function round the rest would take each call's work and end as closures.
 fn check_copies(
     est: &[u32],
     lct: &[u32],

@@ -17,7 +17,7 @@ overflow_add-sum c =
     let r = c.args.dem.now in
     let s = c.set_of-set.result.now in
     let k = c.loop-k.k in
-    let d = c.requires.0 in
+    let d = c.requires in
     let share : share_at r s k ≡ r ! k = rw (sym c.has.ensures ∙ c.if-has.true) in
     omega (arith, share, c.loop-k.invariant, draw_more r s k, draw_most r s (k + 1) d, d.few)
 

@@ -18,28 +18,28 @@ placed-in : (d : Else-not-partners) → LetThrough (length d.args.dur.now) d.arg
 placed-in d =
     let a = d.args in
     placed (length a.dur.now) a.dur.now a.dem.now a.words.now (sym d.in_range.ensures ∙ d.if-not-in_range.false)
-    (sym d.partners.ensures ∙ d.if-not-partners.false) d.requires.1
+    (sym d.partners.ensures ∙ d.if-not-partners.false)
 
 draws : (s : Start) → Drawn s.args.dem.now
-draws s = let a = s.args in drawn (win a.est.now a.lct.now) a.dur.now a.dem.now a.cap s.requires.0
+draws s = let a = s.args in drawn (win a.est.now a.lct.now) a.dur.now a.dem.now a.cap s.requires
 
 pub exceeds-requires : goal.exceeds-requires
 exceeds-requires c =
     let at = goal.at.exceeds-requires c in
-    (draws at.Start, c.requires.1, omega (arith, (listed at.Else-not-in_range).job, c.requires.0.sized))
+    (draws at.Start, omega (arith, (listed at.Else-not-in_range).job, c.requires.sized))
 
 pub stated_true-requires : goal.stated_true-requires
 stated_true-requires c =
     let a = c.args in
-    (timed (win a.est.now a.lct.now) a.dur.now a.dem.now a.cap c.requires.0, placed-in (goal.at.stated_true-requires c).Else-not-partners)
+    (timed (win a.est.now a.lct.now) a.dur.now a.dem.now a.cap c.requires, placed-in (goal.at.stated_true-requires c).Else-not-partners)
 
 pub tightens-requires : goal.tightens-requires
 tightens-requires c =
     let f = listed (goal.at.tightens-requires c).Else-not-in_range in
-    (c.requires.1, omega (arith, f.job, c.requires.0.sized), omega (arith, f.job, c.requires.0.sized))
+    (omega (arith, f.job, c.requires.sized), omega (arith, f.job, c.requires.sized))
 
 pub lean-requires : goal.lean-requires
 lean-requires c =
     let at = goal.at.lean-requires c in
-    let same : length c.args.dur.now ≡ length c.args.dem.now = omega (arith, c.requires.0.sized) in
+    let same : length c.args.dur.now ≡ length c.args.dem.now = omega (arith, c.requires.sized) in
     (draws at.Start, rw same at (placed-in at.Else-not-partners))
