@@ -1,5 +1,5 @@
 -- Refusals 32 and 33 of pairs that are lent as two lists, jobs and successors (document 02, Item 13): what the two tests say; and the pairs as a reading.
-use Rattle.std.specs.Prelude.{ℕ, suc, ◌<◌, ◌≡◌, Bool, true, false, List, [], ◌⊎◌, length}
+use Rattle.std.specs.Prelude.{ℕ, suc, ◌<◌, Bool, true, false, List, [], ◌⊎◌, length}
 use Rattle.joblist.specs.Limits.{most_jobs}
 use Rattle.chains.specs.Paths.{Pair, Precedes, Cycle}
 use Rattle.chains.specs.Listed.{paired, PairInRange, InOrder, Rising, PairOutOfRange, OutOfOrder, NotRising}
@@ -9,9 +9,8 @@ use Rattle.texts.specs.Readings.{Read, good}
 abbrev pub read_pairs : List ℕ → List ℕ → Read (List Pair)
 read_pairs js ss = good (paired js ss) []
 
--- two lists that can be read so: of one length, and of jobs' numbers
-pub record Side (js ss : List ℕ) : Type 0 where
-  pub even : length ss ≡ length js
+-- every pair can be a pair of jobs
+pub record OfJobs (js ss : List ℕ) : Type 0 where
   pub below : (i : ℕ) → i < length js → PairInRange most_jobs js ss i
 
 -- the pair at place i is of the n jobs and comes before the next, where there is one; or it is not, or does not

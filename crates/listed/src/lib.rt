@@ -2,18 +2,19 @@
 // there is a cycle along them.
 #![tactic(auto)]
 
-ghost use Rattle.std.specs.Prelude.{◌≡◌, ℕ, ◌≤◌, ◌<◌, length};
+ghost use Rattle.std.specs.Prelude.{◌≡◌, ℕ, ◌≤◌, ◌<◌, MatchOption, length};
 ghost use Rattle.joblist.specs.Limits.{most_jobs};
 ghost use Rattle.chains.specs.Listed.{PairInRange};
 ghost use Rattle.listed.specs.Listed.{PlacedSays, RisingSays, CycleSays};
 
 use passes::Pairs;
 
-// The pairs of two lists, in their order.
+// The pairs of two lists of one length, in their order.
 #[derive(Clone, Copy)]
-struct Listed<'a> {
-    jobs: &'a [u32],
-    successors: &'a [u32],
+pub struct Listed<'a> {
+    pub jobs: &'a [u32],
+    pub successors: &'a [u32],
+    ghost even: { length successors.now ≡ length jobs.now },
 }
 
 impl<'a> Iterator for Listed<'a> {
@@ -22,9 +23,9 @@ impl<'a> Iterator for Listed<'a> {
     ghost use Rattle.std.specs.Prelude.{length};
     ghost use Rattle.std.specs.Iterator.{at_most};
     ghost use Rattle.passes.specs.Rounds.{Drawn};
-    ghost use Rattle.listed.specs.Listed.{read_pairs, Side};
+    ghost use Rattle.listed.specs.Listed.{read_pairs, OfJobs};
 
-    ghost can_next = { λ s. Side s.jobs.now s.successors.now };
+    ghost can_next = { λ s. OfJobs s.jobs.now s.successors.now };
 
     ghost next_gives = { λ s r t. Drawn (read_pairs s.jobs.now s.successors.now) r (read_pairs t.jobs.now t.successors.now) };
 
@@ -49,36 +50,48 @@ impl<'a> Pairs for Listed<'a> {
     ghost ends = { λ s. tt };
 }
 
-// Whether the pair at place i is of the n jobs and comes before the next, where there is one.
-fn placed(jobs: &[u32], successors: &[u32], n: u32, i: usize) -> bool
-    requires { (length successors.now ≡ length jobs.now) × (i < length jobs.now) }
-    ensures { PlacedSays n jobs.now successors.now i result }
-{
-    let (a, b) = (jobs[i], successors[i]);
-    let k = i + 1;
-    a < n && b < n && (k == jobs.len() || (a, b) < (jobs[k], successors[k]))
-}
-
-// Whether every pair is of the n jobs, and they are in strictly rising order.
-pub fn rising(jobs: &[u32], successors: &[u32], n: u32) -> bool
-    requires { length successors.now ≡ length jobs.now }
-    ensures { RisingSays n jobs.now successors.now result }
-{
-    for at in 0..jobs.len() {
-        if !placed(jobs, successors, n, at) {
-            return false;
+impl<'a> Listed<'a> {
+    // The pairs, where the lists are of one length.
+    pub fn new(jobs: &'a [u32], successors: &'a [u32]) -> Option<Listed<'a>>
+        ensures { MatchOption result (length successors.now ≡ length jobs.now → ⊥) (λ pairs. (pairs.jobs.now ≡ jobs.now) × (pairs.successors.now ≡ successors.now)) }
+    {
+        if successors.len() == jobs.len() {
+            Some(Listed { jobs, successors })
+        } else {
+            None
         }
     }
-    true
-}
 
-// Whether there is a cycle: steps are counted, and without a cycle no chain has as many as there are jobs.
-pub fn has_cycle(jobs: &[u32], successors: &[u32], n: u32) -> bool
-    requires n_le_most_jobs { (n ≤ most_jobs) × (length successors.now ≡ length jobs.now) }
-    requires by_index { (i : ℕ) → i < length jobs.now → PairInRange n jobs.now successors.now i }
-    ensures { CycleSays jobs.now successors.now result }
-{
-    let steps = [1u32; screen::MOST_JOBS];
-    let mut levels = [0u32; screen::MOST_JOBS];
-    !passes::settle(Listed { jobs, successors }, &steps, false, n, &mut levels)
+    // Whether the pair at place i is of the n jobs and comes before the next, where there is one.
+    fn placed(&self, n: u32, i: usize) -> bool
+        requires { i < length self.now.jobs.now }
+        ensures { PlacedSays n self.now.jobs.now self.now.successors.now i result }
+    {
+        let (a, b) = (self.jobs[i], self.successors[i]);
+        let k = i + 1;
+        a < n && b < n && (k == self.jobs.len() || (a, b) < (self.jobs[k], self.successors[k]))
+    }
+
+    // Whether every pair is of the n jobs, and they are in strictly rising order.
+    pub fn rising(&self, n: u32) -> bool
+        ensures { RisingSays n self.now.jobs.now self.now.successors.now result }
+    {
+        for at in 0..self.jobs.len() {
+            if !self.placed(n, at) {
+                return false;
+            }
+        }
+        true
+    }
+
+    // Whether there is a cycle: steps are counted, and without a cycle no chain has as many as there are jobs.
+    pub fn has_cycle(&self, n: u32) -> bool
+        requires n_le_most_jobs { n ≤ most_jobs }
+        requires by_index { (i : ℕ) → i < length self.now.jobs.now → PairInRange n self.now.jobs.now self.now.successors.now i }
+        ensures { CycleSays self.now.jobs.now self.now.successors.now result }
+    {
+        let steps = [1u32; screen::MOST_JOBS];
+        let mut levels = [0u32; screen::MOST_JOBS];
+        !passes::settle(*self, &steps, false, n, &mut levels)
+    }
 }

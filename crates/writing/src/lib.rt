@@ -5,6 +5,7 @@ ghost use Rattle.answers.specs.Said.{says_write};
 ghost use Rattle.exchange.specs.Write.{Writes};
 
 use answers::Refusal;
+use listed::Listed;
 
 // Writes a project of one resource into the buffer, in our form of the Patterson layout.
 pub fn write_patterson(
@@ -20,14 +21,14 @@ pub fn write_patterson(
         (record { says = says_write result; buffer = buffer.new }) }
 {
     screen::refusal_of_two(dur, dem, cap)?;
-    if successors.len() != jobs.len() {
+    let Some(pairs) = Listed::new(jobs, successors) else {
         return Err(Refusal::Lengths);
-    }
+    };
     let n = dur.len() as u32;
-    if !listed::rising(jobs, successors, n) {
+    if !pairs.rising(n) {
         return Err(Refusal::Pairs);
     }
-    if listed::has_cycle(jobs, successors, n) {
+    if pairs.has_cycle(n) {
         return Err(Refusal::Cycle);
     }
     scribe::write(cap, dur, dem, jobs, successors, buffer).ok_or(Refusal::Buffer)

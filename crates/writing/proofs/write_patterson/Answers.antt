@@ -14,32 +14,36 @@ use Rattle.joblist.specs.Limits.{most_jobs, two_lists, supply}
 use Rattle.joblist.specs.GoodList.{GoodList, refusal}
 use Rattle.joblist.proofs.Refusals.{good}
 use Rattle.chains.specs.Paths.{Precedes, Cycle}
-use Rattle.chains.specs.Listed.{paired, Rising}
+use Rattle.chains.specs.Listed.{Rising}
 use Rattle.screen.proofs.Tests.{number_not_0}
 use Rattle.projects.specs.Made.{made}
 use Rattle.scribe.specs.Writing.{OutcomeSays}
 use Rattle.exchange.specs.Write.{WriteCall, Writes, pairs_in, write_columns, alone}
 use Rattle.exchange.proofs.WriteBack.{lists_refused, pairs_uneven, not_rising, cyclic, too_short, wrote}
 use Rattle.writing.proofs.write_patterson.Goals as goal
-use Rattle.writing.proofs.write_patterson.Goals.{Else-has_cycle, Else-not-rising, In_ok-refusal_of_two}
+use Rattle.writing.proofs.write_patterson.Goals.{Else-not-rising, In-Some, In_ok-refusal_of_two}
 
 -- 1 to 3
 good_lists : (e : In_ok-refusal_of_two) → let a = e.args in GoodList (length a.dur.now) (two_lists a.dur.now a.dem.now) (supply a.cap)
 good_lists e = good _ _ _ (sym e.in_ok-refusal_of_two.ensures)
 
-rise : (e : Else-not-rising) → let a = e.args in Rising (length a.dur.now) a.jobs.now a.successors.now
-rise e = rw e.if-not-rising.false at e.rising.ensures
+-- the pairs are those of the lists, which are of one length
+same : (e : In-Some) → (e.in-Some.pairs.jobs.now ≡ e.args.jobs.now) × (e.in-Some.pairs.successors.now ≡ e.args.successors.now)
+same e = rw e.in-Some.is at e.new.ensures
 
-no_cycle : (e : Else-has_cycle) → let a = e.args in Cycle (Precedes (paired a.jobs.now a.successors.now)) → ⊥
-no_cycle e = rw e.if-has_cycle.false at e.has_cycle.ensures
+even : (e : In-Some) → length e.args.successors.now ≡ length e.args.jobs.now
+even e = rw ((same e).0, (same e).1) at e.in-Some.pairs.even
+
+rise : (e : Else-not-rising) → let p = e.in-Some.pairs in Rising (length e.args.dur.now) p.jobs.now p.successors.now
+rise e = rw e.if-not-rising.false at e.rising.ensures
 
 pub returns-in_err-refusal_of_two : goal.returns-in_err-refusal_of_two
 returns-in_err-refusal_of_two c =
     let p = err_from_is_err_and c.from_residual.result c.from_residual.ensures.1 in
     rw (p.1, p.2) (lists_refused _ _ (number_not_0 _) c.in_err-refusal_of_two.ensures)
 
-pub returns-then-successors-jobs : goal.returns-then-successors-jobs
-returns-then-successors-jobs c = pairs_uneven _ _ refl c.in_ok-refusal_of_two.ensures c.if-successors-jobs.true
+pub returns-in_default : goal.returns-in_default
+returns-in_default c = pairs_uneven _ _ refl c.in_ok-refusal_of_two.ensures c.in_default.ensures
 
 pub overflow_cast-n : goal.overflow_cast-n
 overflow_cast-n c =
@@ -48,20 +52,24 @@ overflow_cast-n c =
 
 pub returns-then-not-rising : goal.returns-then-not-rising
 returns-then-not-rising c =
+    let e = (goal.at.returns-then-not-rising c).In-Some in
     let f = rw c.if-not-rising.true at c.rising.ensures in
-    not_rising _ _ refl c.in_ok-refusal_of_two.ensures c.if-successors-jobs.false f
+    not_rising _ _ refl c.in_ok-refusal_of_two.ensures (even e) (rw ((same e).0, (same e).1) at f)
 
 pub has_cycle-requires : goal.has_cycle-requires
-has_cycle-requires c = record { n_le_most_jobs = ((good_lists (goal.at.has_cycle-requires c).In_ok-refusal_of_two).few, c.if-successors-jobs.false); by_index = (rise (goal.at.has_cycle-requires c).Else-not-rising).range }
+has_cycle-requires c = record { n_le_most_jobs = (good_lists (goal.at.has_cycle-requires c).In_ok-refusal_of_two).few; by_index = (rise (goal.at.has_cycle-requires c).Else-not-rising).range }
 
 pub returns-then-has_cycle : goal.returns-then-has_cycle
 returns-then-has_cycle c =
-    cyclic _ _ refl c.in_ok-refusal_of_two.ensures c.if-successors-jobs.false (rise (goal.at.returns-then-has_cycle c).Else-not-rising) (rw c.if-has_cycle.true at c.has_cycle.ensures)
+    let e = (goal.at.returns-then-has_cycle c).In-Some in
+    let f = rw c.if-has_cycle.true at c.has_cycle.ensures in
+    cyclic _ _ refl c.in_ok-refusal_of_two.ensures (even e) (rw ((same e).0, (same e).1) at (rise (goal.at.returns-then-has_cycle c).Else-not-rising)) (rw ((same e).0, (same e).1) at f)
 
 pub write-requires : goal.write-requires
 write-requires c =
+    let e = (goal.at.write-requires c).In-Some in
     let g = good_lists (goal.at.write-requires c).In_ok-refusal_of_two in
-    record { demands = g.sized.1.0; few = g.few; pairs = c.if-successors-jobs.false; rising = rise (goal.at.write-requires c).Else-not-rising }
+    record { demands = g.sized.1.0; few = g.few; pairs = even e; rising = rw ((same e).0, (same e).1) at (rise (goal.at.write-requires c).Else-not-rising) }
 
 -- the text is written, or the buffer is too short
 module _ (c : WriteCall) (tested : 0 ≡ refusal (length c.dur) (write_columns c) (alone c)) (even : length c.successors ≡ length c.jobs) (rising : Rising (length c.dur) c.jobs c.successors)
@@ -72,5 +80,7 @@ module _ (c : WriteCall) (tested : 0 ≡ refusal (length c.dur) (write_columns c
 
 pub returns : goal.returns
 returns c =
+    let e = (goal.at.returns c).In-Some in
+    let f = rw c.if-has_cycle.false at c.has_cycle.ensures in
     rw c.ok_or.ensures.value
-    (left _ c.in_ok-refusal_of_two.ensures c.if-successors-jobs.false (rise (goal.at.returns c).Else-not-rising) (no_cycle (goal.at.returns c).Else-has_cycle) _ c.write.result c.write.ensures)
+    (left _ c.in_ok-refusal_of_two.ensures (even e) (rw ((same e).0, (same e).1) at (rise (goal.at.returns c).Else-not-rising)) (rw ((same e).0, (same e).1) at f) _ c.write.result c.write.ensures)

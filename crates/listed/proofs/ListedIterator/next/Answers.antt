@@ -4,11 +4,11 @@ use native.Mathlib.Omega.{arith}
 use mathlib.Core.Path.{ap}
 use mathlib.Core.List.{List, ◌∷◌}
 use lib.ListN.{length}
-use Rattle.listed.specs.Listed.{Side}
+use Rattle.listed.specs.Listed.{OfJobs}
 use Rattle.listed.proofs.ListedIterator.next.Goals as goal
 
-others : (a b : ℕ) (js ss : List ℕ) → Side (a ∷ js) (b ∷ ss) → Side js ss
-others a b js ss s = record { even = let e = s.even in omega arith; below = λ i h. s.below (suc i) (omega arith) }
+others : (a b : ℕ) (js ss : List ℕ) → OfJobs (a ∷ js) (b ∷ ss) → OfJobs js ss
+others a b js ss s = record { below = λ i h. s.below (suc i) (omega arith) }
 
 pub returns-clause-goes : goal.returns-clause-goes
 returns-clause-goes c =
