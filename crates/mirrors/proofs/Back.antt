@@ -4,7 +4,7 @@ use native.Mathlib.Omega.{arith}
 use native.Mathlib.Decide.{ℕ_discrete}
 use mathlib.Core.Path.{◌≡◌, refl, sym, ap, ◌∙◌}
 use mathlib.Core.List.{List, [], ◌∷◌}
-use lib.ListN.{length, set, length-map, length-set}
+use lib.ListN.{length, set, length-map}
 use lib.Seq.{get_or-set_same, get_or-set_other}
 use Rattle.lists.specs.Lists.{◌!◌}
 use Rattle.lists.proofs.Lists.{same_list, everywhere}
@@ -47,22 +47,18 @@ mirrored n xs ys e f g h =
 -- ---- the walk: the first i times are counted back, the others as they were
 
 pub record Counting (xs ys : List ℕ) (i : ℕ) : Type 0 where
-  pub upto : i ≤ length xs
-  pub long : length ys ≡ length xs
   pub done : (k : ℕ) → k < i → ys ! k ≡ most_time - xs ! k
   pub left : (k : ℕ) → i ≤ k → ys ! k ≡ xs ! k
 
 pub counting_start : (xs : List ℕ) → Counting xs xs 0
-counting_start xs = record { upto = omega arith; long = refl; done = λ k h. absurd (omega arith); left = λ k h. refl }
+counting_start xs = record { done = λ k h. absurd (omega arith); left = λ k h. refl }
 
-module _ (xs ys : List ℕ) (i : ℕ) (C : Counting xs ys i) where
+module _ (xs ys : List ℕ) (i : ℕ) (C : Counting xs ys i) (long : length ys ≡ length xs) where
   pub counting_step : i < length xs → Counting xs (set ys i (most_time - ys ! i)) (i + 1)
   counting_step h =
       record {
-        upto = omega arith;
-        long = rw (length-set ys i (most_time - ys ! i)) C.long;
         done = λ k b. elim (ℕ_discrete k i) [
-          | yes q ↦ rw q (get_or-set_same ys i (most_time - ys ! i) 0 (omega (arith, C.long)) ∙ ap (λ (t : ℕ). most_time - t) (C.left i (omega arith)))
+          | yes q ↦ rw q (get_or-set_same ys i (most_time - ys ! i) 0 (omega (arith, long)) ∙ ap (λ (t : ℕ). most_time - t) (C.left i (omega arith)))
           | no q ↦ get_or-set_other ys i k (most_time - ys ! i) 0 q ∙ C.done k (omega arith)
         ];
         left = λ k b. get_or-set_other ys i k (most_time - ys ! i) 0 (λ q. omega arith) ∙ C.left k (omega arith);
@@ -70,4 +66,4 @@ module _ (xs ys : List ℕ) (i : ℕ) (C : Counting xs ys i) where
 
   pub counting_end : length xs ≤ i → ys ≡ counted_back xs
   counting_end h =
-      same_list (length xs) ys (counted_back xs) C.long (back_length xs) (λ k b. C.done k (omega arith) ∙ sym (back_at xs k b))
+      same_list (length xs) ys (counted_back xs) long (back_length xs) (λ k b. C.done k (omega arith) ∙ sym (back_at xs k b))

@@ -12,9 +12,7 @@ pub fn count_back(times: &mut [u32])
     requires { Within (time_column times.old) }
     ensures { times.new ≡ counted_back times.old }
 {
-    let mut i = 0;
-    while i < times.len() {
-        times[i] = MOST_TIME - times[i];
-        i += 1;
+    for time in times.iter_mut() {
+        *time = MOST_TIME - *time;
     }
 }

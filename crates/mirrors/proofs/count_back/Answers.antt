@@ -2,23 +2,15 @@ use native.Mathlib.Omega.{arith}
 use Rattle.mirrors.proofs.Back.{counting_start, counting_step, counting_end}
 use Rattle.mirrors.proofs.count_back.Goals as goal
 
-pub loop-i-init : goal.loop-i-init
-loop-i-init c = counting_start _
+pub loop-time-init : goal.loop-time-init
+loop-time-init c = counting_start _
 
 -- each time is within the limit
-pub overflow_sub-times : goal.overflow_sub-times
-overflow_sub-times c =
-    let l = c.loop-i in
-    omega (arith, l.invariant.left l.i (omega arith), c.requires l.i)
+pub overflow_sub-time : goal.overflow_sub-time
+overflow_sub-time c = let l = c.loop-time in omega (arith, l.invariant.left l.time-index (omega arith), c.requires l.time-index)
 
-pub loop-i-smaller : goal.loop-i-smaller
-loop-i-smaller c = omega (arith, c.loop-i.invariant.long)
-
-pub loop-i-preserved : goal.loop-i-preserved
-loop-i-preserved c = let l = c.loop-i in counting_step _ _ _ l.invariant (omega (arith, l.invariant.long))
-
-pub shape_of-times : goal.shape_of-times
-shape_of-times c = c.loop-i.invariant.long
+pub loop-time-preserved : goal.loop-time-preserved
+loop-time-preserved c = let l = c.loop-time in counting_step _ _ _ l.invariant l.auto.times (omega arith)
 
 pub returns : goal.returns
-returns c = let l = c.loop-i in counting_end _ _ _ l.invariant (omega (arith, l.invariant.long))
+returns c = let l = c.loop-time in counting_end _ _ _ l.invariant l.auto.times (omega arith)
