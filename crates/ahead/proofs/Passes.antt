@@ -1,22 +1,22 @@
 -- The pass of the search: which jobs are members, how far it goes, and what its end says.
-use Prim.Native.Nat.{ℕ, zero, suc, ◌+◌, ◌*◌, ◌-◌, ◌≤◌, ◌<◌}
+use Prim.Native.Nat.{ℕ, zero, suc, ◌+◌, ◌*◌, ◌-◌, ◌≤◌, ◌<◌, max}
 use native.Mathlib.Omega.{arith}
-use mathlib.Core.Path.{◌≡◌, refl, sym}
+use mathlib.Core.Path.{◌≡◌, refl, sym, ap, ◌∙◌}
 use mathlib.Core.Bool.{Bool, true, false, not}
 use mathlib.Core.List.{List}
 use mathlib.Core.Option.{Option, none, some}
 use lib.Dec.{leb, ltb, eqb}
-use lib.ListN.{length}
+use lib.ListN.{length, take}
+use lib.Seq.{length-take-le}
 use borrow.Author.Tests.{le-leb, ltb-true, ltb-false}
 use Rattle.lists.specs.Lists.{◌!◌}
 use Rattle.lists.specs.Tests.{both, pick}
 use Rattle.lists.specs.Extremes.{found_or}
 use Rattle.lists.specs.Sets.{Set}
 use Rattle.lists.specs.Sweeps.{sweep}
-use Rattle.lists.proofs.Sweeps.{sweep_latest}
+use Rattle.lists.proofs.Sweeps.{sweep_more, sweep_latest}
 use Rattle.narrowing.specs.Windows.{Win, early}
 use Rattle.joblist.specs.Limits.{most_time, most_jobs}
-use Rattle.minmax.specs.MinMax.{IsGreater}
 use Rattle.heads.specs.Search.{comes_first, firsts, early_bound, when, detect}
 use Rattle.heads.proofs.Search.{early_latest, first_yes}
 use Rattle.mirrors.specs.Back.{told}
@@ -31,11 +31,32 @@ listed r m h =
     let l = r.lent in
     (b, omega (arith, l.starts_long), omega (arith, l.ends_long), omega (arith, l.p_long), l.few)
 
+-- the order's first n places are as many as the jobs
+pub places_all : {n : ℕ} {starts ends p o : List ℕ} → Ready n starts ends p o → length (take n o) ≡ n
+places_all r = length-take-le _ _ (omega (arith, r.room, r.lent.few))
+
 -- the test in code, of a job that lasts
 pub member_is : (starts ends p : List ℕ) (k i : ℕ) → k < length ends → 1 ≤ p ! i
     → both (not (eqb k i)) (both (leb 1 (p ! k)) (ltb (most_time - ends ! k) (starts ! i + p ! i + p ! k))) ≡ firsts p (told starts ends) i k
 unfolding comes_first
 member_is starts ends p k i h q = rw (le-leb 1 (p ! i) q, back_at ends k h)
+
+-- one more place: a member is done its p after the later of its e and what was done
+pub sweep_on : (starts ends p o : List ℕ) (i m done : ℕ) → Ready (length starts) starts ends p o → m < length starts → 1 ≤ p ! i
+    → done ≡ sweep starts p (firsts p (told starts ends) i) o m → (member : Bool)
+    → both (not (eqb (o ! m) i)) (both (leb 1 (p ! (o ! m))) (ltb (most_time - ends ! (o ! m)) (starts ! i + p ! i + p ! (o ! m)))) ≡ member
+    → pick member (max (starts ! (o ! m)) done + p ! (o ! m)) done ≡ sweep starts p (firsts p (told starts ends) i) o (m + 1)
+sweep_on starts ends p o i m done r b q d member t =
+    let O = firsts p (told starts ends) i in
+    let is : O (o ! m) ≡ member = sym (member_is starts ends p (o ! m) i (listed r m b).2 q) ∙ t in
+    rw (sweep_more starts p O o m, is, ← d) (ap (λ (x : ℕ). pick member (x + p ! (o ! m)) done) (latest (starts ! (o ! m)) done))
+  where
+    latest : (e z : ℕ) → max e z ≡ pick (ltb z e) e z
+    latest e z = go (ltb z e) refl
+      where
+        go : (c : Bool) → ltb z e ≡ c → max e z ≡ pick c e z
+        go true f = omega (arith, ltb-true z e f)
+        go false f = omega (arith, ltb-false z e f)
 
 pub sweep_zero : (e p : List ℕ) (O : Set) (o : List ℕ) → sweep e p O o 0 ≡ 0
 unfolding sweep
@@ -74,10 +95,10 @@ module _ (n : ℕ) (p : List ℕ) (W : Win) (i : ℕ) where
           absurd (omega (arith, (first_yes p W a.at i (l.sub a.at a.below a.member)).lasts_i))
 
   -- another starts at the bound, where that is later
-  pub start_is : (r : ℕ) → IsGreater (W.e ! i) (early_bound n p W i) r → r ≡ found_or (W.e ! i) (detect n p W i early)
+  pub start_is : max (W.e ! i) (early_bound n p W i) ≡ found_or (W.e ! i) (detect n p W i early)
   unfolding detect
-  start_is r g = go (ltb (W.e ! i) (early_bound n p W i)) refl
+  start_is = go (ltb (W.e ! i) (early_bound n p W i)) refl
     where
-      go : (c : Bool) → ltb (W.e ! i) (early_bound n p W i) ≡ c → r ≡ found_or (W.e ! i) (when c (early_bound n p W i))
-      go true e = g.2 (ltb-true _ _ e)
-      go false e = g.3 (ltb-false _ _ e)
+      go : (c : Bool) → ltb (W.e ! i) (early_bound n p W i) ≡ c → max (W.e ! i) (early_bound n p W i) ≡ found_or (W.e ! i) (when c (early_bound n p W i))
+      go true e = omega (arith, ltb-true _ _ e)
+      go false e = omega (arith, ltb-false _ _ e)

@@ -4,16 +4,14 @@
 
 ghost use Rattle.std.specs.Prelude.{◌≡◌, not, ◌+◌, ◌*◌, ◌-◌, ◌<◌, ◌≤◌, leb, ltb, eqb, length};
 ghost use Rattle.lists.specs.Lists.{◌!◌};
-ghost use Rattle.lists.specs.Tests.{both, pick};
+ghost use Rattle.lists.specs.Tests.{both};
 ghost use Rattle.lists.specs.Extremes.{found_or};
-ghost use Rattle.lists.specs.Sweeps.{advanced};
 ghost use Rattle.narrowing.specs.Windows.{early};
-ghost use Rattle.joblist.specs.Limits.{most_time, most_jobs};
+ghost use Rattle.joblist.specs.Limits.{most_time};
 ghost use Rattle.heads.specs.Search.{early_bound, detect};
 ghost use Rattle.mirrors.specs.Back.{told};
 ghost use Rattle.ahead.specs.Ready.{Ready};
 
-use minmax::greater;
 use screen::{MOST_JOBS, MOST_TIME};
 
 // Whether job k, which lasts p and has its latest end counted back, comes before job i, whose e + p is `end`: i lasts.
@@ -21,27 +19,7 @@ fn comes_first(k: usize, i: usize, end: u32, back: u32, p: u32) -> bool
     requires { (end ≤ 2 * most_time) × (back ≤ most_time) × (p ≤ most_time) }
     ensures { result ≡ both (not (eqb k i)) (both (leb 1 p) (ltb (most_time - back) (end + p))) }
 {
-    if k == i {
-        return false;
-    }
-    if 1 <= p {
-        return MOST_TIME - back < end + p;
-    }
-    false
-}
-
-// What is done after one more job, if it is a member: it starts when all before it are done, or at its e if that is later.
-fn advance(done: u32, e: u32, p: u32, member: bool) -> u32
-    requires { (done ≤ most_time * (most_jobs + 1)) × (e ≤ most_time) × (p ≤ most_time) }
-    ensures { result ≡ pick member (advanced done e p) done }
-{
-    if member {
-        if done < e {
-            return e + p;
-        }
-        return done + p;
-    }
-    done
+    k != i && 1 <= p && MOST_TIME - back < end + p
 }
 
 // The greatest value, over the non-empty sets of jobs that come before the job, of least e plus total p; 0 where none comes first. One pass, with one
@@ -57,13 +35,12 @@ fn bound_of(
     ensures { result ≡ early_bound (length starts.now) dur.now (told starts.now ends.now) job }
 {
     let end = starts[job] + dur[job];
-    let mut done: u32 = 0;
-    let mut m: usize = 0;
-    while m < starts.len() {
-        let k = order[m];
-        let member = comes_first(k, job, end, ends[k], dur[k]);
-        done = advance(done, starts[k], dur[k], member);
-        m += 1;
+    let mut done = 0;
+    for &k in &order[..starts.len()] {
+        if comes_first(k, job, end, ends[k], dur[k]) {
+            // it starts when all before it are done, or at its earliest start if that is later
+            done = starts[k].max(done) + dur[k];
+        }
     }
     done
 }
@@ -79,10 +56,9 @@ pub fn start(
     requires { Ready (length starts.now) starts.now ends.now dur.now order.now × (job < length starts.now) }
     ensures { result ≡ found_or (starts.now ! job) (detect (length starts.now) dur.now (told starts.now ends.now) job early) }
 {
-    let present = starts[job];
     if dur[job] == 0 {
-        return present;
+        starts[job]
+    } else {
+        starts[job].max(bound_of(starts, ends, dur, order, job))
     }
-    let bound = bound_of(starts, ends, dur, order, job);
-    greater(present, bound)
 }

@@ -11,7 +11,7 @@ use screen::{MOST_JOBS, MOST_TIME};
 use windows::Side;
 
 // What a turn comes to: the side rests, it moved, or its move would close the window.
-#[derive(Drop)]
+#[derive(Clone, Copy, Debug, PartialEq, Eq)]
 pub enum Turn {
     Rests,
     Moved,
@@ -31,13 +31,13 @@ fn turn_on(
 {
     let to = ahead::start(starts, ends, dur, order, job);
     if to == starts[job] {
-        return Turn::Rests;
+        Turn::Rests
+    } else if MOST_TIME - ends[job] < to + dur[job] {
+        Turn::Closed
+    } else {
+        sifting::raise(starts, order, job, to);
+        Turn::Moved
     }
-    if MOST_TIME - ends[job] < to + dur[job] {
-        return Turn::Closed;
-    }
-    sifting::raise(starts, order, job, to);
-    Turn::Moved
 }
 
 // One turn at a job's side. `fore` has the jobs by rising start, `rear` by their ends counted back.

@@ -15,7 +15,7 @@ use theta::Tree;
 
 // Whether place k of the order has a job of the latest end b.
 fn tied(lct: &[u32], stops: &[usize; MOST_JOBS], k: usize, b: u32) -> bool
-    requires { (length lct.now ≤ most_jobs) × (Ordered lct.now (length lct.now) stops.now) × (length stops.now ≡ most_jobs) }
+    requires { (length lct.now ≤ most_jobs) × (Ordered lct.now (length lct.now) stops.now) }
     ensures { result ≡ tied (length lct.now) lct.now stops.now k b }
 {
     k < lct.len() && lct[stops[k]] == b
@@ -23,7 +23,7 @@ fn tied(lct: &[u32], stops: &[usize; MOST_JOBS], k: usize, b: u32) -> bool
 
 // Whether the latest end b is to be tested, no job of it being next, and exceeded.
 fn due(lct: &[u32], stops: &[usize; MOST_JOBS], k: usize, b: u32, tree: &Tree) -> bool
-    requires { (length lct.now ≤ most_jobs) × (Ordered lct.now (length lct.now) stops.now) × (length stops.now ≡ most_jobs) }
+    requires { (length lct.now ≤ most_jobs) × (Ordered lct.now (length lct.now) stops.now) }
     ensures { result ≡ due (length lct.now) lct.now stops.now k b (end_of tree.now.ends 1) }
 {
     !tied(lct, stops, k, b) && tree.exceeds(1, 0, b)
@@ -31,8 +31,7 @@ fn due(lct: &[u32], stops: &[usize; MOST_JOBS], k: usize, b: u32, tree: &Tree) -
 
 // The earliest start at the leaf where the descent ends.
 fn start_of(est: &[u32], starts: &[usize; MOST_JOBS], tree: &Tree, b: u32) -> u32
-    requires starts_len { length starts.now ≡ most_jobs }
-    requires leaf_taken { LeafTaken est.now starts.now (descent tree.now.sums tree.now.ends b depth 1 0) }
+    requires { LeafTaken est.now starts.now (descent tree.now.sums tree.now.ends b depth 1 0) }
     ensures { result ≡ est.now ! (starts.now ! (descent tree.now.sums tree.now.ends b depth 1 0 - most_jobs)) }
 {
     let leaf = tree.descend(b);

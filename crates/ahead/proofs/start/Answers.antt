@@ -9,7 +9,7 @@ returns-then-dur-job-eq0 c =
     let s = c.args in
     start_stays (length s.starts.now) s.dur.now (told s.starts.now s.ends.now) s.job c.if-dur-job-eq0.true
 
-pub returns : goal.returns
-returns c =
+pub returns-else-dur-job-eq0 : goal.returns-else-dur-job-eq0
+returns-else-dur-job-eq0 c =
     let s = c.args in
-    start_is (length s.starts.now) s.dur.now (told s.starts.now s.ends.now) s.job _ (rw (← c.bound_of-bound.ensures) c.greater.ensures)
+    rw (c.max.ensures, c.bound_of.ensures) (start_is (length s.starts.now) s.dur.now (told s.starts.now s.ends.now) s.job)

@@ -38,10 +38,10 @@ raise-requires c =
     let n = length s.starts.now in
     let W = told s.starts.now s.ends.now in
     let r = c.requires.0 in
-    (r.lent.few, r.room, r.order, c.requires.1, found_later n s.dur.now W s.job _ c.start-to.ensures)
+    (r.lent.few, r.order, c.requires.1, found_later n s.dur.now W s.job _ c.start-to.ensures)
 
-pub returns : goal.returns
-returns c =
+pub returns-else-ends-job : goal.returns-else-ends-job
+returns-else-ends-job c =
     let s = c.args in
     let n = length s.starts.now in
     let W = told s.starts.now s.ends.now in

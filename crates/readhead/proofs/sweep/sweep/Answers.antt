@@ -30,9 +30,9 @@ put-requires c =
 entered : (d : After-put) → Entered d.args.est.now d.args.dur.now (d.args.stops.now ! d.loop-k.k) d.loop-k.tree.sums d.loop-k.tree.ends d.put.new.self.sums d.put.new.self.ends
 entered d = rw (d.requires.placed.is (d.args.stops.now ! d.loop-k.k) (d.requires.by_stop.into d.loop-k.k d.loop-k-test.true)) at d.put.ensures
 
-pub start_of-a-requires-clause-leaf_taken : goal.start_of-a-requires-clause-leaf_taken
-start_of-a-requires-clause-leaf_taken c =
-    let e = entered (goal.at.start_of-a-requires-clause-leaf_taken c).After-put in
+pub start_of-a-requires : goal.start_of-a-requires
+start_of-a-requires c =
+    let e = entered (goal.at.start_of-a-requires c).After-put in
     turn_reached _ _ _ _ _ _ c.requires _ _ _ _ _ c.loop-k.invariant c.loop-k-test.true e _ c.due.ensures c.if-due.true
 
 pub returns-then-due : goal.returns-then-due
