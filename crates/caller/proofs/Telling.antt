@@ -1,8 +1,8 @@
 -- What each function tells, from the promise of the call that it made and the word of the answer.
 use Prim.Native.Nat.{ℕ}
 use native.Mathlib.Omega.{arith}
-use mathlib.Core.Path.{◌≡◌, refl, ap, ◌∙◌, sym}
-use mathlib.Core.Bool.{Bool, true, false}
+use mathlib.Core.Path.{◌≡◌, refl, ap}
+use mathlib.Core.Bool.{Bool, true}
 use mathlib.Core.List.{List, [], ◌∷◌}
 use mathlib.Core.Logic.{◌⊎◌, inl, inr, ◌↔◌}
 use Rattle.answers.specs.declared.Answer.{Answer}
@@ -21,10 +21,6 @@ use Rattle.desk.specs.Reading.{Lent, TextCall, Reads}
 use Rattle.desk.proofs.Conflicts.{all_listed, none_elsewhere}
 use Rattle.desk.proofs.Sequencing.{counts_settled, counts_decided}
 use Rattle.caller.specs.Told.{ToldSettles, ToldHolds, ToldHopeless, ToldSequences, ToldReads}
-
--- false is not true
-not-true : false ≡ true → ⊥
-not-true e = let q : ◌≡◌ {A = ℕ} 0 1 = cc in omega arith
 
 pub tells_settles : (c : Call) (U : Win) (log : List ℕ) (a : Answer) (r : Bool) → Narrows c (leaves (says a) U log) → (r ≡ true) ↔ ((says a).word ≡ Word.settled)
     → ToldSettles c U log r
