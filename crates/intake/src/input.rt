@@ -16,14 +16,14 @@ pub struct Cursor {
 }
 
 impl Cursor {
-    pub fn is_at(self, byte: u8) -> bool
+    pub(crate) fn is_at(self, byte: u8) -> bool
         ensures { result ≡ at_byte self.now byte }
     {
         self.now == Some(byte)
     }
 
     // The digit that it stands at, if it does.
-    pub fn digit(self) -> Option<u8>
+    pub(crate) fn digit(self) -> Option<u8>
         ensures { IfSome result (λ d. (d ≤ 9) × (0 < self.left)) }
     {
         match self.now {
@@ -83,7 +83,7 @@ impl<'a, R: Read> Reader<'a, R> {
     }
 
     // One byte further on. At the end of the input it stays.
-    pub fn step(&mut self)
+    pub(crate) fn step(&mut self)
         ensures { self.new.cursor.left ≤ self.old.cursor.left - 1 }
     {
         let left = self.cursor.left.saturating_sub(1);

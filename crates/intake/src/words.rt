@@ -1,5 +1,5 @@
 // A line's first word and its numbers, taken one after another.
-ghost use Rattle.std.specs.Prelude.{false, ◌≡◌, ◌≤◌, IfSome, IsNone};
+ghost use Rattle.std.specs.Prelude.{false, ◌≡◌, ◌≤◌, IfSome, IsNone, length};
 ghost use Rattle.intake.specs.Line.{at_byte};
 
 use crate::input::Reader;
@@ -27,7 +27,9 @@ impl<R: Read> Reader<'_, R> {
     }
 
     // A line's first word, or as much of it as the lent bytes hold.
-    pub fn word<'b>(&mut self, into: &'b mut [u8]) -> &'b [u8] {
+    pub fn word<'b>(&mut self, into: &'b mut [u8]) -> &'b [u8]
+        ensures { length result.now ≤ length into.old }
+    {
         for n in 0..into.len() {
             match self.cursor.now {
                 None | Some(b' ' | b'\n') => return &into[..n],

@@ -26,6 +26,7 @@ fn put_windows(words: &mut [u32], est: &[u32], lct: &[u32])
 
 // narrow CAP est lct dur dem log
 // check CAP COUNT est lct dur dem log
+// (Each array is the room of a copy: desk calls cannot fail, so there is no heap.)
 pub fn narrow_or_check(words: &mut [u32], task: Task, cap: u32, count: usize) -> Saying {
     let mut est = [0; JOBS];
     let mut lct = [0; JOBS];
@@ -74,6 +75,7 @@ pub fn overload(words: &[u32]) -> Saying
 }
 
 // head est lct dur
+// (Arrays as above.)
 pub fn sequence(words: &mut [u32]) -> Saying
     ensures { Sequenced words.old result words.new }
 {

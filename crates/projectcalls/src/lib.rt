@@ -22,6 +22,7 @@ pub struct Reading {
 
 // patterson RESOURCE HORIZON est lct dur dem jobs successors text
 // psplib RESOURCE HORIZON est lct dur dem jobs successors text
+// (Each array is the room of a copy: desk calls cannot fail, so there is no heap.)
 pub fn read(words: &mut [u32], task: Reading, text: &[u8]) -> Saying {
     let mut est = [0; JOBS];
     let mut lct = [0; JOBS];

@@ -12,7 +12,7 @@ use intake::Reader;
 pub use names::{Call, JOBS, Layout, PAIRS, TEXT, Task, WORDS};
 use std::io::Read;
 
-// Longer than any call's name, so that no longer word is taken for one.
+// Longer than any call's name, so that no longer word is taken for one; the word stands in an array of so many bytes, since there is no heap.
 const LETTERS: usize = 16;
 
 // The call that a line asks for, and the line behind its name.
