@@ -7,9 +7,10 @@ ghost use Rattle.joblist.specs.Limits.{most_time};
 ghost use Rattle.journal.specs.Journal.{rewritten};
 ghost use Rattle.timetable.specs.Table.{Good};
 ghost use Rattle.windows.specs.Sides.{side_is};
-ghost use Rattle.crowding.specs.Asked.{asked};
+ghost use Rattle.searches.specs.Listed.{asked_of};
 ghost use Rattle.noting.specs.Record.{members_of, record_of};
 
+use searches::JobList;
 use windows::Side;
 
 // Whether job k is one of 01's members of a record of job j at time t: another job with a demand whose sure part holds t.
@@ -22,18 +23,17 @@ fn is_member(k: usize, j: usize, e: u32, l: u32, p: u32, r: u32, t: u32) -> bool
 
 // The set of the jobs that a record of the job at time t names: 01's members, gone through by rising number, less each one without whom the demands still
 // named exceed the capacity.
-fn gather(
-    est: &[u32],
-    lct: &[u32],
-    dur: &[u32],
-    dem: &[u32],
-    cap: u32,
-    job: usize,
-    t: u32,
-) -> [u32; bits::WORDS]
-    requires { Good (asked est.now lct.now dur.now dem.now cap) × (job < length est.now) × (t ≤ most_time) }
-    ensures { result ≡ members_of (asked est.now lct.now dur.now dem.now cap) job t }
+fn gather(list: JobList<'_>, job: usize, t: u32) -> [u32; bits::WORDS]
+    requires { Good (asked_of list) × (job < length list.est.now) × (t ≤ most_time) }
+    ensures { result ≡ members_of (asked_of list.entry) job t }
 {
+    let JobList {
+        est,
+        lct,
+        dur,
+        dem,
+        cap,
+    } = list;
     let mut set = bits::empty();
     let mut left = crowding::load_at(est, lct, dur, dem, job, t) + dem[job];
     for k in 0..est.len() {
@@ -50,21 +50,10 @@ fn gather(
 }
 
 // Writes the record of the job's move at time t, as record k of the log; nothing where the log ends before it.
-pub fn note(
-    est: &[u32],
-    lct: &[u32],
-    dur: &[u32],
-    dem: &[u32],
-    cap: u32,
-    job: usize,
-    side: Side,
-    t: u32,
-    log: &mut [u32],
-    k: usize,
-)
-    requires { Good (asked est.now lct.now dur.now dem.now cap) × (job < length est.now) × (t ≤ most_time) }
-    ensures { log.new ≡ rewritten log.old k (record_of (asked est.now lct.now dur.now dem.now cap) job (side_is side) t) }
+pub fn note(list: JobList<'_>, job: usize, side: Side, t: u32, log: &mut [u32], k: usize)
+    requires { Good (asked_of list) × (job < length list.est.now) × (t ≤ most_time) }
+    ensures { log.new ≡ rewritten log.old k (record_of (asked_of list.entry) job (side_is side) t) }
 {
-    let set = gather(est, lct, dur, dem, cap, job, t);
+    let set = gather(list, job, t);
     logs::write(log, k, job as u32, u32::from(side), t, set);
 }

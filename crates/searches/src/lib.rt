@@ -4,16 +4,18 @@
 ghost use Rattle.std.specs.Prelude.{◌≡◌, ◌<◌, ◌≤◌, length};
 ghost use Rattle.narrowing.specs.Windows.{win};
 ghost use Rattle.profile.specs.Steps.{behind_all};
-ghost use Rattle.crowding.specs.Asked.{asked};
 ghost use Rattle.timetable.specs.Table.{Workable};
 ghost use Rattle.loads.specs.Loads.{Loaded};
 ghost use Rattle.windows.specs.Sides.{side_is};
 ghost use Rattle.windows.specs.Found.{as_option};
 ghost use Rattle.searches.specs.Found.{next_time};
+ghost use Rattle.searches.specs.Listed.{asked_of};
 ghost use Rattle.searches.specs.Busy.{LastBusy, FirstBusy};
 
+mod list; // list.rt: a job list, as it is lent
 mod load; // load.rt: the kept load, as it is lent
 
+pub use list::JobList;
 pub use load::Load;
 use windows::Side;
 
@@ -57,34 +59,25 @@ impl Load<'_> {
 }
 
 // The time at which a rule moves the job's side next: on side 0 the greatest crowded time of e .. e + p - 1, on side 1 the least of l - p .. l - 1.
-pub fn next_time(
-    est: &[u32],
-    lct: &[u32],
-    dur: &[u32],
-    dem: &[u32],
-    cap: u32,
-    job: usize,
-    side: Side,
-    load: Load<'_>,
-) -> Option<u32>
-    requires { Workable (asked est.now lct.now dur.now dem.now cap) × (job < length dur.now) × Loaded (win est.now lct.now) dur.now dem.now load.ts.now load.ld.now load.kept }
-    ensures { result ≡ as_option (next_time (asked est.now lct.now dur.now dem.now cap) job (side_is side)) }
+pub fn next_time(list: JobList<'_>, job: usize, side: Side, load: Load<'_>) -> Option<u32>
+    requires { Workable (asked_of list) × (job < length list.dur.now) × Loaded (win list.est.now list.lct.now) list.dur.now list.dem.now load.ts.now load.ld.now load.kept }
+    ensures { result ≡ as_option (next_time (asked_of list.entry) job (side_is side)) }
 {
-    let r = dem[job];
-    let p = dur[job];
+    let r = list.dem[job];
+    let p = list.dur[job];
     // for such a job no time is crowded
     if r == 0 || p == 0 {
         return None;
     }
-    let e = est[job];
-    let l = lct[job];
+    let e = list.est[job];
+    let l = list.lct[job];
     match side {
         Side::Start => {
-            let x = load.early(cap, r, e, l - p, e + p);
+            let x = load.early(list.cap, r, e, l - p, e + p);
             if e < x { Some(x - 1) } else { None }
         }
         Side::End => {
-            let y = load.late(cap, r, l - p, e + p, l);
+            let y = load.late(list.cap, r, l - p, e + p, l);
             if y < l { Some(y) } else { None }
         }
     }

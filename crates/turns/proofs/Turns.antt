@@ -1,10 +1,10 @@
 -- What a turn has from the search: the time that it found is within the limit, and with the record and the move made the place's side has moved.
 use Prim.Native.Nat.{ℕ, ◌≤◌, ◌<◌}
 use native.Mathlib.Omega.{arith}
-use mathlib.Core.Path.{◌≡◌, sym, ◌∙◌}
+use mathlib.Core.Path.{◌≡◌, sym}
 use mathlib.Core.List.{List}
 use mathlib.Core.Option.{some}
-use Rattle.std.specs.Prelude.{Option, Some}
+use Rattle.std.specs.Prelude.{Some}
 use Rattle.narrowing.specs.Windows.{Win, win, moved}
 use Rattle.joblist.specs.Limits.{most_time, jobs}
 use Rattle.journal.specs.Journal.{room_of, rewritten}
@@ -20,13 +20,13 @@ use Rattle.noting.specs.Record.{record_of}
 use Rattle.places.specs.declared.Place.{Place}
 use Rattle.turns.specs.Moves.{Moves}
 
-module _ (e l p r : List ℕ) (cap : ℕ) (log : List ℕ) (at : Place) (t : ℕ) (x : Option ℕ) where
+module _ (e l p r : List ℕ) (cap : ℕ) (log : List ℕ) (at : Place) (t : ℕ) where
   abbrev here : Call
   here = call (win e l) p r cap log
 
-  module _ (h : x ≡ as_option (next_time here at.job (side_is at.side))) (f : x ≡ Some t) where
-    found_time : next_time here at.job (side_is at.side) ≡ some t
-    found_time = found_some (next_time here at.job (side_is at.side)) t (sym h ∙ f)
+  module _ (x : Some t ≡ as_option (next_time here at.job (side_is at.side))) where
+    pub found_time : next_time here at.job (side_is at.side) ≡ some t
+    found_time = found_some (next_time here at.job (side_is at.side)) t (sym x)
 
     pub turn_time : Workable here → at.job < jobs here.win → t ≤ most_time
     turn_time w b =

@@ -9,7 +9,7 @@ ghost use Rattle.loads.specs.Loads.{Loaded};
 ghost use Rattle.turns.specs.Moves.{TurnSays};
 
 use places::Place;
-use searches::Load;
+use searches::{JobList, Load};
 
 // What a turn at a place comes to: its side rests, it moved from a bound, the move closed the window, or there is no room for its record.
 #[derive(Drop)]
@@ -37,14 +37,20 @@ pub fn take_turn(
 {
     let job = at.job;
     let side = at.side;
-    let found = searches::next_time(est, lct, dur, dem, cap, job, side, load);
-    let Some(t) = found else {
+    let list = JobList {
+        est,
+        lct,
+        dur,
+        dem,
+        cap,
+    };
+    let Some(t) = searches::next_time(list, job, side, load) else {
         return Turn::Rests;
     };
     if logs::room(log) <= count {
         return Turn::Full;
     }
-    noting::note(est, lct, dur, dem, cap, job, side, t, log, count);
+    noting::note(list, job, side, t, log, count);
     let old = windows::shift(est, lct, job, side, t);
     if windows::closed(est, lct, dur, job) {
         Turn::Closed

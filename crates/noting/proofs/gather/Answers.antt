@@ -18,10 +18,10 @@ use Rattle.noting.proofs.gather.Goals as goal
 use Rattle.noting.proofs.gather.Goals.{Start, then-is_member+then-cap-rest, then-is_member+else-cap-rest, else-is_member}
 
 abbrev theJobs : Start → Jobs
-theJobs s = let a = s.args in jobs_of (asked a.est.now a.lct.now a.dur.now a.dem.now a.cap)
+theJobs s = let a = s.args.list in jobs_of (asked a.est.now a.lct.now a.dur.now a.dem.now a.cap)
 
 abbrev theWindows : Start → Win
-theWindows s = let a = s.args in win a.est.now a.lct.now
+theWindows s = let a = s.args.list in win a.est.now a.lct.now
 
 pub load_at-requires : goal.load_at-requires
 load_at-requires c = (good_cap _ _ _ _ _ c.requires.0, c.requires.2)
@@ -36,10 +36,10 @@ overflow_add-left c =
 
 pub loop-k-init : goal.loop-k-init
 loop-k-init c =
-    let a = c.args in (
+    let a = c.args.list in (
       c.empty-set.ensures ∙ sym (below_none set_words _),
-      ap (λ (x : ℕ). x + a.dem.now ! a.job) c.load_at.ensures
-          ∙ still_first a.est.now a.lct.now a.dur.now a.dem.now a.cap a.job a.t,
+      ap (λ (x : ℕ). x + a.dem.now ! c.args.job) c.load_at.ensures
+          ∙ still_first a.est.now a.lct.now a.dur.now a.dem.now a.cap c.args.job c.args.t,
     )
 
 pub is_member-requires : goal.is_member-requires

@@ -3,11 +3,11 @@
 use mathlib.Core.Path.{◌≡◌}
 use Rattle.narrowing.specs.Windows.{win}
 use Rattle.timetable.specs.Table.{jobs_of}
-use Rattle.crowding.specs.Asked.{asked}
+use Rattle.searches.specs.Listed.{asked_of}
 use Rattle.noting.proofs.Named.{gathered, still}
 use Rattle.noting.proofs.gather.Given as goal
 
 abbrev pub invariant-loop-k : goal.invariant-loop-k
 invariant-loop-k l =
-    (l.set ≡ gathered (jobs_of (asked l.est l.lct l.dur l.dem l.cap)) (win l.est l.lct) l.job l.t l.k)
-    × (l.left ≡ still (jobs_of (asked l.est l.lct l.dur l.dem l.cap)) (win l.est l.lct) l.job l.t l.k)
+    (l.set ≡ gathered (jobs_of (asked_of l.list)) (win l.list.est.now l.list.lct.now) l.job l.t l.k)
+    × (l.left ≡ still (jobs_of (asked_of l.list)) (win l.list.est.now l.list.lct.now) l.job l.t l.k)

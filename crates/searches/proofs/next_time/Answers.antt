@@ -11,7 +11,7 @@ use Rattle.searches.proofs.next_time.Goals as goal
 use Rattle.searches.proofs.next_time.Goals.{Start}
 
 -- the job's earliest end, its latest end and the limit, in order
-within : (s : Start) → let a = s.args in ((a.est.now ! a.job + a.dur.now ! a.job ≤ a.lct.now ! a.job) × (a.lct.now ! a.job ≤ most_time))
+within : (s : Start) → let a = s.args.list in let j = s.args.job in ((a.est.now ! j + a.dur.now ! j ≤ a.lct.now ! j) × (a.lct.now ! j ≤ most_time))
 within s = window_within s.requires.0 s.args.job s.requires.1
 
 pub returns-then-r-eq0 : goal.returns-then-r-eq0

@@ -13,20 +13,20 @@ use Rattle.turns.proofs.take_turn.Goals.{After-shift-old, Else-room-count}
 
 -- a time is found and there is room for its record: the time is within the limit
 in-time : (d : Else-room-count) → d.in-Some.t ≤ most_time
-in-time d = turn_time _ _ _ _ _ d.args.log.now d.args.at _ _ d.next_time-found.ensures d.in-Some.is d.requires.0 d.requires.1
+in-time d = turn_time _ _ _ _ _ d.args.log.now d.args.at _ d.in-Some.ensures d.requires.0 d.requires.1
 
 -- its record is noted and the bound moved
 moves : (d : After-shift-old)
     → let a = d.args in
     Moves (call (win a.est.now a.lct.now) a.dur.now a.dem.now a.cap a.log.now) a.at a.count d.in-Some.t (win d.shift-old.new.est d.shift-old.new.lct) d.note.new.log
 moves d =
-    turn_moves _ _ _ _ _ _ _ _ _ d.next_time-found.ensures d.in-Some.is _ _ _
+    turn_moves _ _ _ _ _ _ _ _ d.in-Some.ensures _ _ _
     (omega (arith, d.room.ensures, d.if-room-count.false)) d.shift-old.ensures.0 d.note.ensures
 
 pub returns-then-room-count : goal.returns-then-room-count
 returns-then-room-count c =
     let t = c.in-Some.t in
-    (t, found_some _ t (sym c.next_time-found.ensures ∙ c.in-Some.is), omega (arith, c.room.ensures), refl, refl)
+    (t, found_some _ t (sym c.in-Some.ensures), omega (arith, c.room.ensures), refl, refl)
 
 pub note-requires : goal.note-requires
 note-requires c =
@@ -48,7 +48,7 @@ pub returns-then-closed : goal.returns-then-closed
 returns-then-closed c = (c.in-Some.t, moves (goal.at.returns-then-closed c).After-shift-old, sym c.closed.ensures ∙ c.if-closed.true)
 
 pub returns-in_default : goal.returns-in_default
-returns-in_default c = (found_none _ (sym c.next_time-found.ensures ∙ c.in_default.is), refl, refl)
+returns-in_default c = (found_none _ (sym c.in_default.ensures), refl, refl)
 
 pub returns-else-closed : goal.returns-else-closed
 returns-else-closed c = (c.in-Some.t, moves (goal.at.returns-else-closed c).After-shift-old, sym c.closed.ensures ∙ c.if-closed.false, c.shift-old.ensures.1)
