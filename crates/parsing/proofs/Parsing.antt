@@ -45,7 +45,7 @@ module _ (s : List ℕ) (res : ℕ) where
     unfolding patterson row row_in head_in
     parsed_rows c e = project_bad₂ (tokens s) (tokens (drop z.at s)) q.0 q.1 c (rw (q.2, q.3) (rows_bad z.n (Whole z.k) res (tokens (drop z.at s)) c e))
 
-    module _ (durs dems : List ℕ) (w : Walked) (f : WalkedSays (seeing z.n (Whole z.k) res 0 0 (tokens (drop z.at s))) s z.n durs dems (Ok w)) where
+    module _ (w : Walked) (f : WalkedSays (seeing z.n (Whole z.k) res 0 0 (tokens (drop z.at s))) s z.n (Ok w)) where
       pub parsed_over : none? (tokens (drop w.at s)) ≡ false → patterson s ≡ bad 30
       unfolding patterson row row_in head_in
       parsed_over h =
@@ -53,18 +53,19 @@ module _ (s : List ℕ) (res : ℕ) where
           let l = some_left (tokens (drop w.at s)) h in
           project_over (tokens s) (tokens (drop z.at s)) q.0 q.1 t.0 (tokens (drop w.at s)) (rw (q.2, q.3) t.1) l.0 l.1 l.2
 
-      pub parsed_whole : length durs ≡ most_jobs → none? (tokens (drop w.at s)) ≡ true
-          → ParsedSays (patterson s) s res durs dems (Ok (record { n = z.n; k = z.k; cap = z.cap; pairs = w.pairs; table = Whole z.k; at = z.at }))
+      pub parsed_whole : none? (tokens (drop w.at s)) ≡ true
+          → ParsedSays (patterson s) s res
+          (Ok (record { shape = record { n = z.n; k = z.k; cap = z.cap; pairs = w.pairs; table = Whole z.k; at = z.at }; dur = w.dur; dem = w.dem }))
       unfolding patterson row row_in head_in
-      parsed_whole l h =
+      parsed_whole h =
           let e = none_left (tokens (drop w.at s)) h in
           let t = rows_good z.n (Whole z.k) res (tokens (drop z.at s)) (tokens (drop w.at s)) f.0 f.1 in
-          let ds : durations t.0 ≡ take z.n durs = sym (ap (λ (y : Seen). y.durs) t.2) ∙ f.2 in
+          let ds : durations t.0 ≡ take z.n w.dur = sym (ap (λ (y : Seen). y.durs) t.2) ∙ f.2 in
           let said = project_good (tokens s) (tokens (drop z.at s)) q.0 q.1 t.0 (tokens (drop w.at s)) (rw (q.2, q.3) t.1) e in (
             record { capacities = q.0.capacities; rows = t.0 },
             said,
             record {
-              jobs = sym (length-map t.0 (λ (r : Row). r.duration)) ∙ ap length ds ∙ length-take-le z.n durs (omega (arith, q.5));
+              jobs = sym (length-map t.0 (λ (r : Row). r.duration)) ∙ ap length ds ∙ length-take-le z.n w.dur (omega (arith, q.5, f.6));
               resources = q.6;
               cap = q.4;
               durs_are = ds;
@@ -75,6 +76,9 @@ module _ (s : List ℕ) (res : ℕ) where
                   pairs_any z.n (Whole z.k) 0 res 0 0 (tokens (drop z.at s)) ∙ ap only_pairs f.1 ∙ ap (λ (y : Seen). good y.pairs (tokens (drop w.at s))) t.2
                   ∙ ap (λ (u : List Token). good (pairs_from 0 t.0) u) e;
               limits = (patterson_takes s [] _ said).within;
+              long_durs = f.6;
+              long_dems = f.7;
+              low = f.8;
             },
           )
 

@@ -3,7 +3,7 @@ use Rattle.std.specs.Prelude.{ℕ, ◌≤◌, ◌≡◌, List, [], length, drop,
 use Rattle.lists.specs.Lists.{◌!◌}
 use Rattle.answers.specs.declared.reasons.Refusal.{Refusal}
 use Rattle.answers.specs.Said.{number_of}
-use Rattle.joblist.specs.Limits.{most_jobs}
+use Rattle.joblist.specs.Limits.{most_time, most_jobs}
 use Rattle.texts.specs.Tokens.{Token, tokens}
 use Rattle.texts.specs.Readings.{Read, bad, good}
 use Rattle.projects.specs.Projects.{Project, pairs_of, durations, demands_on, WithinLimits}
@@ -11,6 +11,7 @@ use Rattle.projects.specs.Patterson.{Opening}
 use Rattle.walking.specs.Comes.{comes, rows_at}
 use Rattle.parsing.specs.declared.Opened.{Opened}
 use Rattle.parsing.specs.declared.Shape.{Shape}
+use Rattle.parsing.specs.declared.Parsed.{Parsed}
 
 -- the counts, and one of the capacities
 abbrev pub OpenSays : Read Opening → List ℕ → ℕ → Result Opened Refusal → Type 0
@@ -29,8 +30,11 @@ pub record Parsing (s : List ℕ) (res : ℕ) (durs dems : List ℕ) (z : Shape)
   pub end : List Token
   pub come : comes z.n z.table s (rows_at z.at) ≡ good (pairs_of x) end
   pub limits : WithinLimits x
+  pub long_durs : length durs ≡ most_jobs
+  pub long_dems : length dems ≡ most_jobs
+  pub low : (j : ℕ) → durs ! j ≤ most_time
 
 -- by the answer: the text says a project, or meets a refusal
-abbrev pub ParsedSays : Read Project → List ℕ → ℕ → List ℕ → List ℕ → Result Shape Refusal → Type 0
-ParsedSays r s res durs dems (Ok z) = (x : Project) × (r ≡ good x []) × Parsing s res durs dems z x
-ParsedSays r s res durs dems (Err c) = r ≡ bad (number_of c)
+abbrev pub ParsedSays : Read Project → List ℕ → ℕ → Result Parsed Refusal → Type 0
+ParsedSays r s res (Ok p) = (x : Project) × (r ≡ good x []) × Parsing s res p.dur p.dem p.shape x
+ParsedSays r s res (Err c) = r ≡ bad (number_of c)

@@ -1,15 +1,13 @@
 // A text of the Patterson layout read whole (document 01, 'Library layouts'; refusals of document 02, Item 1): its counts and capacities, then its rows.
 #![tactic(auto)]
 
-ghost use Rattle.std.specs.Prelude.{◌≡◌, ℕ, ◌≤◌, length};
-ghost use Rattle.lists.specs.Lists.{◌!◌};
-ghost use Rattle.joblist.specs.Limits.{most_time, most_jobs};
 ghost use Rattle.texts.specs.Tokens.{tokens};
 ghost use Rattle.projects.specs.Patterson.{opening, patterson};
 ghost use Rattle.parsing.specs.Parsed.{OpenSays, ParsedSays};
 
 use answers::Refusal;
 use rowheads::Table;
+use walking::Walked;
 
 // Job count, resource count, the chosen capacity (0 where there is no such resource) and the place of the rows.
 #[derive(Clone, Copy)]
@@ -29,6 +27,14 @@ pub struct Shape {
     pub pairs: usize,
     pub table: Table,
     pub at: usize,
+}
+
+// A text read whole, with its jobs' durations and their demands of one resource, each in its job's place.
+#[derive(Clone, Copy)]
+pub struct Parsed {
+    pub shape: Shape,
+    pub dur: [u32; screen::MOST_JOBS],
+    pub dem: [u32; screen::MOST_JOBS],
 }
 
 // The counts and the capacities.
@@ -57,28 +63,28 @@ fn open_text(text: &[u8], res: u32) -> Result<Opened, Refusal>
     })
 }
 
-// A whole text of the Patterson layout, durations and demands kept.
-pub fn parse(
-    text: &[u8],
-    res: u32,
-    dur: &mut [u32; screen::MOST_JOBS],
-    dem: &mut [u32; screen::MOST_JOBS],
-) -> Result<Shape, Refusal>
-    requires { (length dur.old ≡ most_jobs) × (length dem.old ≡ most_jobs) × ((j : ℕ) → dur.old ! j ≤ most_time) }
-    ensures { ParsedSays (patterson text.now) text.now res dur.new dem.new result × (length dur.new ≡ most_jobs) × (length dem.new ≡ most_jobs) × ((j : ℕ) → dur.new ! j ≤ most_time) }
+// A whole text of the Patterson layout.
+pub fn parse(text: &[u8], res: u32) -> Result<Parsed, Refusal>
+    ensures { ParsedSays (patterson text.now) text.now res result }
 {
     let opened = open_text(text, res)?;
     let table = Table::Whole(opened.k);
-    let walked = walking::validate(text, opened.at, opened.n, table, res, dur, dem)?;
-    if !scanner::is_over(text, walked.at) {
+    let Walked {
+        dur,
+        dem,
+        pairs,
+        at,
+    } = walking::validate(text, opened.at, opened.n, table, res)?;
+    if !scanner::is_over(text, at) {
         return Err(Refusal::NoNumber);
     }
-    Ok(Shape {
+    let shape = Shape {
         n: opened.n,
         k: opened.k,
         cap: opened.cap,
-        pairs: walked.pairs,
+        pairs,
         table,
         at: opened.at,
-    })
+    };
+    Ok(Parsed { shape, dur, dem })
 }

@@ -6,7 +6,7 @@ use mathlib.Core.List.{List, [], map}
 use lib.ListN.{length, drop, take}
 use Rattle.std.specs.Prelude.{Ok}
 use Rattle.lists.specs.Lists.{◌!◌}
-use Rattle.joblist.specs.Limits.{most_demand, most_jobs, most_resources}
+use Rattle.joblist.specs.Limits.{most_time, most_demand, most_jobs, most_resources}
 use Rattle.texts.specs.Tokens.{Token, tokens}
 use Rattle.texts.specs.Readings.{bad, good, in_turn, numbers_up_to}
 use Rattle.texts.proofs.Readings.{said_good, said_bad, numbers_takes}
@@ -40,13 +40,16 @@ pub record Requested (n k res : ℕ) (requests durs dems : List ℕ) : Type 0 wh
   pub read : in_turn (request k) 0 n (tokens (behind_lines 3 requests)) ≡ good qs end
   pub durs_are : durations (map needed qs) ≡ take n durs
   pub dems_are : demands_on res (map needed qs) ≡ take n dems
+  pub long_durs : length durs ≡ most_jobs
+  pub long_dems : length dems ≡ most_jobs
+  pub low : (j : ℕ) → durs ! j ≤ most_time
 
 module _ (n res : ℕ) (s relations : List ℕ) (at : ℕ) (here : drop at s ≡ behind_lines 2 relations) where
   no_relation : (c : ℕ) → seeing n Relations res 0 0 (tokens (drop at s)) ≡ bad c → in_turn (relation n) 0 n (tokens (behind_lines 2 relations)) ≡ bad c
   no_relation c e = said_bad (map linked) _ c (sym (relations_said n (tokens (behind_lines 2 relations))) ∙ rw (← here) (rows_bad n Relations res (tokens (drop at s)) c e))
 
-  pub relations_read : (durs dems : List ℕ) (w : Walked) → WalkedSays (seeing n Relations res 0 0 (tokens (drop at s))) s n durs dems (Ok w) → Related n s relations at w.pairs
-  relations_read durs dems w f =
+  pub relations_read : (w : Walked) → WalkedSays (seeing n Relations res 0 0 (tokens (drop at s))) s n (Ok w) → Related n s relations at w.pairs
+  relations_read w f =
       let t = rows_good n Relations res (tokens (drop at s)) (tokens (drop w.at s)) f.0 f.1 in
       let q = said_good (map linked) (in_turn (relation n) 0 n (tokens (drop at s))) t.0 (tokens (drop w.at s)) (sym (relations_said n (tokens (drop at s))) ∙ t.1) in
       let v : f.0 ≡ viewed res (map linked q.0) = t.2 ∙ ap (viewed res) q.2 in
@@ -62,9 +65,8 @@ module _ (n k res : ℕ) (s requests : List ℕ) (to : ℕ) (here : drop to s �
   no_request : (c : ℕ) → seeing n (Requests k) res 0 0 (tokens (drop to s)) ≡ bad c → in_turn (request k) 0 n (tokens (behind_lines 3 requests)) ≡ bad c
   no_request c e = said_bad (map needed) _ c (sym (requests_said n k (tokens (behind_lines 3 requests))) ∙ rw (← here) (rows_bad n (Requests k) res (tokens (drop to s)) c e))
 
-  pub requests_read : (durs dems : List ℕ) (w : Walked) → WalkedSays (seeing n (Requests k) res 0 0 (tokens (drop to s))) s n durs dems (Ok w)
-      → Requested n k res requests durs dems
-  requests_read durs dems w f =
+  pub requests_read : (w : Walked) → WalkedSays (seeing n (Requests k) res 0 0 (tokens (drop to s))) s n (Ok w) → Requested n k res requests w.dur w.dem
+  requests_read w f =
       let t = rows_good n (Requests k) res (tokens (drop to s)) (tokens (drop w.at s)) f.0 f.1 in
       let q = said_good (map needed) (in_turn (request k) 0 n (tokens (drop to s))) t.0 (tokens (drop w.at s)) (sym (requests_said n k (tokens (drop to s))) ∙ t.1) in
       let v : f.0 ≡ viewed res (map needed q.0) = t.2 ∙ ap (viewed res) q.2 in
@@ -74,6 +76,9 @@ module _ (n k res : ℕ) (s requests : List ℕ) (to : ℕ) (here : drop to s �
         read = rw (← here) q.1;
         durs_are = sym (ap (λ (y : Seen). y.durs) v) ∙ f.2;
         dems_are = sym (ap (λ (y : Seen). y.dems) v) ∙ f.3;
+        long_durs = f.6;
+        long_dems = f.7;
+        low = f.8;
       }
 
 module _ (n k res : ℕ) (s relations requests capacities : List ℕ) where
@@ -100,7 +105,7 @@ module _ (n k res : ℕ) (s relations requests capacities : List ℕ) where
           rw (r.read, q.read, p)
 
       pub tables_read : (cs : List ℕ) (rest : List Token) (cap : ℕ) → n ≤ most_jobs → numbers_up_to most_demand k (tokens (drop from s)) ≡ good cs rest → cs ! res ≡ cap
-          → ParsedSays (tables n k relations requests capacities) s res durs dems (Ok (record { n = n; k = k; cap = cap; pairs = pairs; table = Relations; at = at }))
+          → ParsedSays (tables n k relations requests capacities) s res (Ok (record { shape = record { n = n; k = k; cap = cap; pairs = pairs; table = Relations; at = at }; dur = durs; dem = dems }))
       unfolding tables
       tables_read cs rest cap few e picked =
           let long : length r.sss ≡ n = (relations_take n _ r.end r.sss r.read).0 in
@@ -116,6 +121,9 @@ module _ (n k res : ℕ) (s relations requests capacities : List ℕ) where
               count = ap length (join_pairs 0 r.sss q.qs even) ∙ r.count;
               end = r.end;
               come = r.come ∙ ap (λ ps. good ps r.end) (sym (join_pairs 0 r.sss q.qs even));
+              long_durs = q.long_durs;
+              long_dems = q.long_dems;
+              low = q.low;
               limits = tables_take n k relations requests capacities made [] few said;
             },
           )

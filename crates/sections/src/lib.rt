@@ -2,15 +2,15 @@
 // its three tables.
 #![tactic(auto)]
 
-ghost use Rattle.std.specs.Prelude.{◌≡◌, ℕ, ◌≤◌, length, drop};
-ghost use Rattle.lists.specs.Lists.{◌!◌};
-ghost use Rattle.joblist.specs.Limits.{most_time, most_jobs};
+ghost use Rattle.std.specs.Prelude.{◌≤◌, drop};
+ghost use Rattle.joblist.specs.Limits.{most_jobs};
 ghost use Rattle.parsing.specs.Parsed.{ParsedSays};
 ghost use Rattle.psplib.specs.Psplib.{tables, psplib};
 
 use answers::Refusal;
-use parsing::Shape;
+use parsing::{Parsed, Shape};
 use rowheads::Table;
+use walking::Walked;
 
 // How many lines a table's rows stand behind: the heading's and the column names'; for the requests a line of hyphens too.
 const BEHIND_NAMES: u32 = 2;
@@ -25,15 +25,9 @@ struct Tables {
     capacities: usize,
 }
 
-// The whole text, durations and demands kept.
-pub fn parse(
-    text: &[u8],
-    res: u32,
-    dur: &mut [u32; screen::MOST_JOBS],
-    dem: &mut [u32; screen::MOST_JOBS],
-) -> Result<Shape, Refusal>
-    requires { (length dur.old ≡ most_jobs) × (length dem.old ≡ most_jobs) × ((j : ℕ) → dur.old ! j ≤ most_time) }
-    ensures { ParsedSays (psplib text.now) text.now res dur.new dem.new result × (length dur.new ≡ most_jobs) × (length dem.new ≡ most_jobs) × ((j : ℕ) → dur.new ! j ≤ most_time) }
+// The whole text.
+pub fn parse(text: &[u8], res: u32) -> Result<Parsed, Refusal>
+    ensures { ParsedSays (psplib text.now) text.now res result }
 {
     let places = seeker::find(text).ok_or(Refusal::Headings)?;
     let n = linewise::count_at(text, places[0], screen::MOST_JOBS as u32)?;
@@ -43,34 +37,27 @@ pub fn parse(
         requests: places[3],
         capacities: places[4],
     };
-    read_tables(text, n, k, from, res, dur, dem)
+    read_tables(text, n, k, from, res)
 }
 
-// The three tables of n jobs on k resources. The relations are read first: they leave zeros in the arrays, which the requests fill.
-fn read_tables(
-    text: &[u8],
-    n: u32,
-    k: u32,
-    from: Tables,
-    res: u32,
-    dur: &mut [u32; screen::MOST_JOBS],
-    dem: &mut [u32; screen::MOST_JOBS],
-) -> Result<Shape, Refusal>
-    requires { (n ≤ most_jobs) × (length dur.old ≡ most_jobs) × (length dem.old ≡ most_jobs) × ((j : ℕ) → dur.old ! j ≤ most_time) }
-    ensures { ParsedSays (tables n k (drop from.relations text.now) (drop from.requests text.now) (drop from.capacities text.now)) text.now res dur.new dem.new result × (length dur.new ≡ most_jobs) × (length dem.new ≡ most_jobs) × ((j : ℕ) → dur.new ! j ≤ most_time) }
+// The three tables of n jobs on k resources: the pairs are those of the relations, durations and demands those of the requests.
+fn read_tables(text: &[u8], n: u32, k: u32, from: Tables, res: u32) -> Result<Parsed, Refusal>
+    requires { n ≤ most_jobs }
+    ensures { ParsedSays (tables n k (drop from.relations text.now) (drop from.requests text.now) (drop from.capacities text.now)) text.now res result }
 {
     let at = linewise::behind_lines(text, from.relations, BEHIND_NAMES);
-    let walked = walking::validate(text, at, n, Table::Relations, res, dur, dem)?;
+    let related = walking::validate(text, at, n, Table::Relations, res)?;
     let requests = linewise::behind_lines(text, from.requests, BEHIND_HYPHENS);
-    walking::validate(text, requests, n, Table::Requests(k), res, dur, dem)?;
+    let Walked { dur, dem, .. } = walking::validate(text, requests, n, Table::Requests(k), res)?;
     let capacities = linewise::behind_lines(text, from.capacities, BEHIND_NAMES);
     let capacity = rowheads::read_numbers(text, capacities, k, screen::MOST_DEMAND, res)?;
-    Ok(Shape {
+    let shape = Shape {
         n,
         k,
         cap: capacity.value,
-        pairs: walked.pairs,
+        pairs: related.pairs,
         table: Table::Relations,
         at,
-    })
+    };
+    Ok(Parsed { shape, dur, dem })
 }

@@ -4,12 +4,13 @@ use native.Mathlib.Omega.{arith}
 use mathlib.Core.Path.{◌≡◌, refl, sym, ap, ◌∙◌}
 use mathlib.Core.List.{List, [], ◌∷◌, ◌++◌, append_assoc}
 use mathlib.Core.Logic.{inl, inr}
-use lib.ListN.{length, take, length-append}
+use lib.ListN.{length, drop, take, length-append, replicate}
+use Rattle.lists.proofs.Lists.{replicate_low}
 use Rattle.lists.specs.Lists.{◌!◌}
 use Rattle.std.specs.Prelude.{Ok}
 use Rattle.joblist.specs.Limits.{most_time, most_jobs}
 use Rattle.chains.specs.Paths.{Pair, pair, Precedes, Below}
-use Rattle.texts.specs.Tokens.{Token}
+use Rattle.texts.specs.Tokens.{Token, tokens}
 use Rattle.texts.specs.Readings.{Read, bad, good}
 use Rattle.walking.specs.Walk.{Seen, seeing, add_pair, add_row, see, Fit, StepSays}
 use Rattle.walking.specs.declared.Walk.{Walk}
@@ -51,6 +52,19 @@ pub record Checking (n : ℕ) (table : Table) (res : ℕ) (t₀ : List Token) (s
   pub same : seeing n table res 0 0 t₀ ≡ behind (take w.next durs) (take w.next dems) ps (see n table res s w)
 
 module _ (n : ℕ) (table : Table) (res : ℕ) (s : List ℕ) where
+  pub checking_start : (at : ℕ) → Checking n table res (tokens (drop at s)) s (replicate most_jobs 0) (replicate most_jobs 0) (record { next = 0; left = 0; at = at }) 0
+  checking_start at = record {
+    fit = record { begun = omega arith; owned = omega arith };
+    room = omega arith;
+    ps = [];
+    count = refl;
+    range = λ a b r. absurd r;
+    long_durs = refl;
+    long_dems = refl;
+    low = λ j. replicate_low most_jobs 0 most_time j (omega arith);
+    same = sym (behind-nil (seeing n table res 0 0 (tokens (drop at s))));
+  }
+
   module _ (t₀ : List Token) (durs dems : List ℕ) (w : Walk) (pairs : ℕ) (g : Checking n table res t₀ s durs dems w pairs) where
     pub checking_successor : (v : ℕ) (u : Walk) → StepSays n table res s w (Ok (Successor v u)) → Checking n table res t₀ s durs dems u (pairs + 1)
     checking_successor v u t =

@@ -1,6 +1,7 @@
 -- The rows of a text as code walks them: what is left at a place among them, and what the functions of this crate say. Durations and demands are
 -- kept in arrays for one resource; pairs are met one by one.
 use Rattle.std.specs.Prelude.{ℕ, ◌+◌, ◌-◌, ◌*◌, ◌≤◌, ◌<◌, ◌≡◌, List, [], ◌∷◌, ◌++◌, length, drop, take, Result, Ok, Err}
+use Rattle.lists.specs.Lists.{◌!◌}
 use Rattle.answers.specs.declared.reasons.Refusal.{Refusal}
 use Rattle.answers.specs.Said.{number_of}
 use Rattle.joblist.specs.Limits.{most_time, most_jobs}
@@ -60,8 +61,9 @@ StepSays n table res s w (Ok (Begun d q u)) =
 StepSays n table res s w (Ok Done) = (see n table res s w ≡ good (record { durs = []; dems = []; pairs = [] }) (tokens (drop w.at s))) × (w.next ≡ n)
 StepSays n table res s w (Err c) = see n table res s w ≡ bad (number_of c)
 
--- the rows checked: durations and demands stand in the first n places
-abbrev pub WalkedSays : Read Seen → List ℕ → ℕ → List ℕ → List ℕ → Result Walked Refusal → Type 0
-WalkedSays r s n durs dems (Ok walked) =
-    (x : Seen) × (r ≡ good x (tokens (drop walked.at s))) × (x.durs ≡ take n durs) × (x.dems ≡ take n dems) × (length x.pairs ≡ walked.pairs) × Below n (Precedes x.pairs)
-WalkedSays r s n durs dems (Err c) = r ≡ bad (number_of c)
+-- the rows read: durations and demands stand in the first n places, and nowhere is a duration above its limit
+abbrev pub WalkedSays : Read Seen → List ℕ → ℕ → Result Walked Refusal → Type 0
+WalkedSays r s n (Ok w) =
+    (x : Seen) × (r ≡ good x (tokens (drop w.at s))) × (x.durs ≡ take n w.dur) × (x.dems ≡ take n w.dem) × (length x.pairs ≡ w.pairs) × Below n (Precedes x.pairs)
+    × (length w.dur ≡ most_jobs) × (length w.dem ≡ most_jobs) × ((j : ℕ) → w.dur ! j ≤ most_time)
+WalkedSays r s n (Err c) = r ≡ bad (number_of c)

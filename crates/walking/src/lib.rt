@@ -2,9 +2,8 @@
 // them checked.
 #![tactic(auto)]
 
-ghost use Rattle.std.specs.Prelude.{◌≡◌, ℕ, ◌≤◌, length, drop};
-ghost use Rattle.lists.specs.Lists.{◌!◌};
-ghost use Rattle.joblist.specs.Limits.{most_time, most_jobs};
+ghost use Rattle.std.specs.Prelude.{◌≤◌, drop};
+ghost use Rattle.joblist.specs.Limits.{most_jobs};
 ghost use Rattle.texts.specs.Tokens.{tokens};
 ghost use Rattle.walking.specs.Walk.{Fit, StepSays, WalkedSays, seeing};
 
@@ -27,9 +26,12 @@ pub enum Step {
     Done,
 }
 
-// The number of pairs and the place behind the rows.
+// The rows read: the jobs' durations and their demands of one resource, each in its job's place, and zeros behind them; the number of pairs; and the place
+// behind the rows.
 #[derive(Clone, Copy)]
 pub struct Walked {
+    pub dur: [u32; screen::MOST_JOBS],
+    pub dem: [u32; screen::MOST_JOBS],
     pub pairs: usize,
     pub at: usize,
 }
@@ -60,19 +62,13 @@ pub fn advance(text: &[u8], n: u32, table: Table, res: u32, w: Walk) -> Result<S
     }
 }
 
-// All rows from `at` on, durations and demands kept. Each turn takes a token.
-pub fn validate(
-    text: &[u8],
-    at: usize,
-    n: u32,
-    table: Table,
-    res: u32,
-    dur: &mut [u32; screen::MOST_JOBS],
-    dem: &mut [u32; screen::MOST_JOBS],
-) -> Result<Walked, Refusal>
-    requires { (n ≤ most_jobs) × (length dur.old ≡ most_jobs) × (length dem.old ≡ most_jobs) × ((j : ℕ) → dur.old ! j ≤ most_time) }
-    ensures { WalkedSays (seeing n table res 0 0 (tokens (drop at text.now))) text.now n dur.new dem.new result × (length dur.new ≡ most_jobs) × (length dem.new ≡ most_jobs) × ((j : ℕ) → dur.new ! j ≤ most_time) }
+// All rows from `at` on. Each turn takes a token.
+pub fn validate(text: &[u8], at: usize, n: u32, table: Table, res: u32) -> Result<Walked, Refusal>
+    requires { n ≤ most_jobs }
+    ensures { WalkedSays (seeing n table res 0 0 (tokens (drop at text.now))) text.now n result }
 {
+    let mut dur = [0; screen::MOST_JOBS];
+    let mut dem = [0; screen::MOST_JOBS];
     let mut w = Walk {
         next: 0,
         left: 0,
@@ -92,7 +88,12 @@ pub fn validate(
                 w = u;
             }
             Step::Done => {
-                return Ok(Walked { pairs, at: w.at });
+                return Ok(Walked {
+                    dur,
+                    dem,
+                    pairs,
+                    at: w.at,
+                });
             }
         }
     }

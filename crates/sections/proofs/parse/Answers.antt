@@ -16,30 +16,26 @@ found h = rw h.in_ok-places.ensures.ok_part at h.find.ensures
 pub returns-in_err-places : goal.returns-in_err-places
 returns-in_err-places c =
     let p = err_from_is_err_and c.from_residual.result c.from_residual.ensures.1 in
-    let q = c.requires in
     let v = rw c.in_err-places.ensures.ok_part at c.in_err-places.ensures.value in
     let e : c.in_err-places.field-0.0 ≡ Refusal.Headings = cc in
-    rw (p.1, p.2, e) (no_headings _ (rw c.in_err-places.ensures.ok_part at c.find.ensures), q.0, q.1, q.2)
+    rw (p.1, p.2, e) (no_headings _ (rw c.in_err-places.ensures.ok_part at c.find.ensures))
 
 pub returns-in_err-n : goal.returns-in_err-n
 returns-in_err-n c =
     let p = err_from_is_err_and c.from_residual-in_err-n.result c.from_residual-in_err-n.ensures.1 in
-    let q = c.requires in
     let f = found (goal.at.returns-in_err-n c).In_ok-places in
-    rw (p.1, p.2) (no_jobs _ f.0 _ (rw (f.1 0 (omega arith)) c.in_err-n.ensures), q.0, q.1, q.2)
+    rw (p.1, p.2) (no_jobs _ f.0 _ (rw (f.1 0 (omega arith)) c.in_err-n.ensures))
 
 pub returns-in_err-k : goal.returns-in_err-k
 returns-in_err-k c =
     let p = err_from_is_err_and c.from_residual-in_err-k.result c.from_residual-in_err-k.ensures.1 in
-    let q = c.requires in
     let f = found (goal.at.returns-in_err-k c).In_ok-places in
     let n = c.in_ok-n.ensures in
-    rw (p.1, p.2) (no_resources _ f.0 c.in_ok-n.n n.0 (rw (f.1 0 (omega arith)) n.1) _ (rw (f.1 1 (omega arith)) c.in_err-k.ensures), q.0, q.1, q.2)
+    rw (p.1, p.2) (no_resources _ f.0 c.in_ok-n.n n.0 (rw (f.1 0 (omega arith)) n.1) _ (rw (f.1 1 (omega arith)) c.in_err-k.ensures))
 
 pub read_tables-requires : goal.read_tables-requires
 read_tables-requires c =
-    let q = c.requires in
-    (counted_takes _ _ _ _ c.in_ok-n.ensures.1, q.0, q.1, q.2)
+    (counted_takes _ _ _ _ c.in_ok-n.ensures.1)
 
 pub returns : goal.returns
 returns c =

@@ -1,5 +1,8 @@
-use Rattle.walking.proofs.Checking.{checking_successor}
+use Rattle.walking.proofs.Checking.{checking_start, checking_successor}
 use Rattle.walking.proofs.validate.Goals as goal
+
+pub loop-u-init : goal.loop-u-init
+loop-u-init c = checking_start _ _ _ _ _
 
 pub loop-u-preserved-in-Successor : goal.loop-u-preserved-in-Successor
 loop-u-preserved-in-Successor c =
