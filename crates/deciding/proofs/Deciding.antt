@@ -7,7 +7,7 @@ use mathlib.Core.List.{List, []}
 use mathlib.Core.Logic.{inl, inr}
 use lib.ListN.{length}
 use lib.Seq.{get_or-take}
-use Rattle.std.specs.Prelude.{Result, Ok, Err}
+use Rattle.std.specs.Prelude.{Result, Err}
 use Rattle.lists.specs.Lists.{◌!◌}
 use Rattle.answers.specs.declared.reasons.Refusal as reasons
 use Rattle.answers.specs.Said.{number_of}
@@ -17,7 +17,7 @@ use Rattle.chains.proofs.Chains.{chain_map}
 use Rattle.texts.specs.Tokens.{Token}
 use Rattle.texts.specs.Readings.{Read, bad, good}
 use Rattle.projects.specs.Projects.{Project, pairs_of}
-use Rattle.parsing.specs.Parsed.{Parsing, ParsedSays}
+use Rattle.parsing.specs.Parsed.{Parsing}
 use Rattle.parsing.specs.declared.Shape.{Shape}
 use Rattle.parsing.proofs.Parsing.{parsing_range}
 use Rattle.walking.specs.Comes.{rows_at}
@@ -70,7 +70,7 @@ module _ (s : List ℕ) (res : ℕ) (durs dems : List ℕ) (z : Shape) (x : Proj
 
 -- the tests of such a text, in lists of these lengths
 module _ (t : Read Project) (res h : ℕ) (L : Lent) (m : Sizes) (long : LongAs L m) (near : h ≤ most_time) (s durs dems : List ℕ) (z : Shape)
-    (u : ParsedSays t s res durs dems (Ok z)) where
+    (u : (x : Project) × (t ≡ good x []) × Parsing s res durs dems z x) where
   abbrev x : Project
   x = u.0
 

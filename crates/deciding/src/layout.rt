@@ -1,26 +1,18 @@
 // The layouts of project texts: what a text says by its layout, and its parser.
-ghost use Rattle.std.specs.Prelude.{◌≡◌, ℕ, List, ◌≤◌, length};
-ghost use Rattle.lists.specs.Lists.{◌!◌};
-ghost use Rattle.joblist.specs.Limits.{most_time, most_jobs};
+ghost use Rattle.std.specs.Prelude.{ℕ, List};
 ghost use Rattle.texts.specs.Readings.{Read};
 ghost use Rattle.projects.specs.Projects.{Project};
 ghost use Rattle.parsing.specs.Parsed.{ParsedSays};
 
 use answers::Refusal;
-use parsing::Shape;
+use parsing::Parsed;
 
 pub trait Layout {
     ghost says: { List ℕ → Read Project };
 
-    // A whole text, durations and demands kept.
-    fn parse(
-        text: &[u8],
-        res: u32,
-        dur: &mut [u32; screen::MOST_JOBS],
-        dem: &mut [u32; screen::MOST_JOBS],
-    ) -> Result<Shape, Refusal>
-        requires { (length dur.old ≡ most_jobs) × (length dem.old ≡ most_jobs) × ((j : ℕ) → dur.old ! j ≤ most_time) }
-        ensures { ParsedSays (says text.now) text.now res dur.new dem.new result × (length dur.new ≡ most_jobs) × (length dem.new ≡ most_jobs) × ((j : ℕ) → dur.new ! j ≤ most_time) };
+    // A whole text.
+    fn parse(text: &[u8], res: u32) -> Result<Parsed, Refusal>
+        ensures { ParsedSays (says text.now) text.now res result };
 }
 
 pub struct Patterson;
@@ -30,13 +22,8 @@ impl Layout for Patterson {
 
     ghost says = { patterson };
 
-    fn parse(
-        text: &[u8],
-        res: u32,
-        dur: &mut [u32; screen::MOST_JOBS],
-        dem: &mut [u32; screen::MOST_JOBS],
-    ) -> Result<Shape, Refusal> {
-        parsing::parse(text, res, dur, dem)
+    fn parse(text: &[u8], res: u32) -> Result<Parsed, Refusal> {
+        parsing::parse(text, res)
     }
 }
 
@@ -47,12 +34,7 @@ impl Layout for Psplib {
 
     ghost says = { psplib };
 
-    fn parse(
-        text: &[u8],
-        res: u32,
-        dur: &mut [u32; screen::MOST_JOBS],
-        dem: &mut [u32; screen::MOST_JOBS],
-    ) -> Result<Shape, Refusal> {
-        sections::parse(text, res, dur, dem)
+    fn parse(text: &[u8], res: u32) -> Result<Parsed, Refusal> {
+        sections::parse(text, res)
     }
 }

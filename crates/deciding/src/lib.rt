@@ -11,7 +11,7 @@ ghost use Rattle.deciding.specs.Decided.{LongAs, DecidedSays};
 use answers::Refusal;
 pub use layout::{Layout, Patterson, Psplib};
 use lent::{Draft, Sizes};
-use parsing::Shape;
+use parsing::{Parsed, Shape};
 use precedence::TextPairs;
 
 // A text that is taken: how it was read, and what the lists are filled from.
@@ -35,9 +35,7 @@ pub fn decide<L: Layout>(
     if screen::MOST_TIME < horizon {
         return Err(Refusal::AboveLimit);
     }
-    let mut dur = [0u32; screen::MOST_JOBS];
-    let mut dem = [0u32; screen::MOST_JOBS];
-    let shape = L::parse(text, resource, &mut dur, &mut dem)?;
+    let Parsed { shape, dur, dem } = L::parse(text, resource)?;
     if shape.k <= resource {
         return Err(Refusal::Resource);
     }
