@@ -1,16 +1,9 @@
 -- The points in order, and the piece of a time found by halving.
-use Prim.Native.Nat.{ℕ, zero, suc, ◌+◌, ◌-◌, ◌≤◌, ◌<◌}
+use Prim.Native.Nat.{ℕ, zero, suc, ◌+◌, ◌-◌, ◌/◌, ◌≤◌, ◌<◌}
 use native.Mathlib.Omega.{arith}
 use native.Mathlib.Decide.{dec_le}
 use mathlib.Core.Path.{◌≡◌}
 use mathlib.Core.List.{List}
-use mathlib.Core.Bool.{true, false}
-use lib.Dec.{leb}
-use lib.ListN.{length, take}
-use borrow.Author.Tests.{leb-true, leb-false}
-use Rattle.std.proofs.lemmas.List.{get_or-take, length-take}
-use Rattle.std.specs.List.Sorted.{IsPartitionedBy, IsPartitionPoint}
-use Rattle.std.proofs.lemmas.List.Sorted.{IsPartitionedBy-leb, IsNonDecreasingBy-from_default}
 use Rattle.lists.specs.Lists.{◌!◌}
 use Rattle.profile.specs.Steps.{Grid, behind_all, Piece}
 
@@ -24,43 +17,31 @@ ordered {ts} P i (suc d) h =
 pub in_order : {ts : List ℕ} {m : ℕ} → Grid ts m → (i k : ℕ) → i ≤ k → k ≤ m → ts ! i ≤ ts ! k
 in_order {ts} P i k a b = let e : k ≡ i + (k - i) = omega arith in rw e (ordered P i (k - i) (omega arith))
 
--- the points up to the end are in order, and so are their tests against x
-pub points_parted : {ts : List ℕ} {m : ℕ} → Grid ts m → (x : ℕ) → IsPartitionedBy (λ y. leb y x) (take m ts)
-points_parted {ts} {m} P x =
-    IsPartitionedBy-leb (λ y. y) (take m ts) x
-    (
-    IsNonDecreasingBy-from_default (λ y. y) (take m ts) 0
-    (λ i j a b.
-    let l : j < m = omega (arith, length-take m ts) in
-    rw (get_or-take m ts i 0 (omega arith), get_or-take m ts j 0 l) (in_order P i j a (omega arith)))
-    )
+-- x lies between the point `base` and the one `size` further
+pub record Halving (ts : List ℕ) (m x base size : ℕ) : Type 0 where
+  pub grid : Grid ts m
+  pub some : 1 ≤ size
+  pub within : base + size ≤ m
+  pub from : ts ! base ≤ x
+  pub to : x < ts ! (base + size)
 
--- the last point that is not behind x
-pub piece_before : {ts : List ℕ} {m x : ℕ} → Grid ts m → x < behind_all → (r : ℕ) → r ≤ length (take m ts)
-    → IsPartitionPoint (λ y. leb y x ≡ true) (λ y. leb y x ≡ false) (take m ts) r → (1 ≤ r) × Piece ts m x (r - 1)
-piece_before {ts} {m} {x} P h r b p = (some, record { listed = omega (arith, n); from = from; to = to })
-  where
-    n : length (take m ts) ≡ m
-    n = omega (arith, length-take m ts, P.inside)
+pub halving_start : {ts : List ℕ} {m x : ℕ} → Grid ts m → x < behind_all → Halving ts m x 0 m
+halving_start {ts} {m} P h =
+    record { grid = P; some = P.some; within = omega arith; from = omega (arith, P.start); to = let e : 0 + m ≡ m = omega arith in rw e (omega (arith, P.end)) }
 
-    at : (k : ℕ) → k < m → take m ts ! k ≡ ts ! k
-    at k l = get_or-take m ts k 0 l
+pub halving_step : {ts : List ℕ} {m x base size : ℕ} → Halving ts m x base size → 1 < size → (b : ℕ)
+    → (ts ! (base + size / 2) ≤ x → b ≡ base + size / 2) → (x < ts ! (base + size / 2) → b ≡ base) → Halving ts m x b (size - size / 2)
+halving_step {ts} {m} {x} {base} {size} H g b up down =
+    elim (dec_le (ts ! (base + size / 2)) x) [
+      | yes q ↦
+          let e : base + size / 2 + (size - size / 2) ≡ base + size = omega arith in
+          rw (up q) record { grid = H.grid; some = omega arith; within = omega (arith, H.within); from = q; to = rw e H.to }
+      | no q ↦
+          let o = in_order H.grid (base + size / 2) (base + (size - size / 2)) (omega arith) (omega (arith, H.within)) in
+          rw (down (omega arith)) record { grid = H.grid; some = omega arith; within = omega (arith, H.within); from = H.from; to = omega arith }
+    ]
 
-    some : 1 ≤ r
-    some =
-        elim (dec_le 1 r) [
-          | yes q ↦ q
-          | no q ↦ absurd (omega (arith, leb-false _ _ (p.1 0 0 (omega arith) (omega (arith, n, P.some))), at 0 (omega (arith, P.some)), P.start))
-        ]
-
-    from : ts ! (r - 1) ≤ x
-    from = omega (arith, some, n, leb-true _ _ (p.0 (r - 1) 0 (omega arith) (omega (arith, some))), at (r - 1) (omega (arith, some, n)))
-
-    to : x < ts ! (r - 1 + 1)
-    to =
-        let e : r - 1 + 1 ≡ r = omega (arith, some) in
-        rw e
-        (elim (dec_le m r) [
-          | yes q ↦ let z : r ≡ m = omega (arith, n) in rw z (omega (arith, P.end))
-          | no q ↦ omega (arith, leb-false _ _ (p.1 r 0 (omega arith) (omega (arith, n))), at r (omega arith))
-        ])
+pub halving_end : {ts : List ℕ} {m x base size : ℕ} → Halving ts m x base size → size ≤ 1 → Piece ts m x base
+halving_end {ts} {m} {x} {base} {size} H g =
+    let e : size ≡ 1 = omega (arith, H.some) in
+    record { listed = omega (arith, H.within); from = H.from; to = rw e at H.to }
