@@ -18,7 +18,8 @@ pub enum Turn {
     Closed,
 }
 
-// One turn on side 0 of the windows with these starts, and these ends counted back. The order by rising start is kept.
+// One turn on side 0 of the windows with these starts, and these ends counted back. The order by rising start is kept. The lists are no fields of a struct,
+// since `take_turn` lends them the other way round for side 1.
 fn turn_on(
     starts: &mut [u32],
     ends: &[u32],

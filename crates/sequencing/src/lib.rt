@@ -56,6 +56,7 @@ pub fn work(est: &mut [u32], lct: &mut [u32], dur: &[u32]) -> Answer
     requires { GoodHead (win est.old lct.old) dur.now × Long (length est.old) dur.now (win est.old lct.old) }
     ensures { Works (win est.old lct.old) dur.now result (win est.new lct.new) }
 {
+    // The memory is fixed, since a call cannot fail, so that no Vec holds them.
     let mut fore = [0usize; MOST_JOBS];
     let mut rear = [0usize; MOST_JOBS];
     mirrors::count_back(lct);

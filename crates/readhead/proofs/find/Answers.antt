@@ -3,15 +3,12 @@ use Rattle.readhead.proofs.find.Goals as goal
 
 pub sweep-requires : goal.sweep-requires
 sweep-requires c =
-    let placed = c in
-    let started = placed in
-    let stopped = started in
-    let g = stopped.requires in
+    let g = c.requires in
     record {
       good = g;
-      placed = placed.places.ensures.0;
-      by_start = started.order-2.ensures.ordered.0;
-      by_stop = rw g.sized.1.0 at stopped.order.ensures.ordered.0;
-      starts_long = started.order-2.ensures.ordered.1;
-      stops_long = stopped.order.ensures.ordered.1;
+      placed = c.places.ensures.0;
+      by_start = c.order-2.ensures.ordered.0;
+      by_stop = rw g.sized.1.0 at c.order.ensures.ordered.0;
+      starts_long = c.order-2.ensures.ordered.1;
+      stops_long = c.order.ensures.ordered.1;
     }
