@@ -25,6 +25,7 @@ pub fn narrow(
     if let Some(short) = windows::lowest_too_short(est, lct, dur) {
         return Answer::Clash(0, short);
     }
+    // the copies are arrays of the most jobs: the memory is fixed, since a call cannot fail, so that no Vec holds them
     let n = est.len();
     let mut e = [0u32; screen::MOST_JOBS];
     let mut l = [0u32; screen::MOST_JOBS];

@@ -39,7 +39,8 @@ impl Load<'_> {
         }
     }
 
-    // Side 1: the first time from s up to l that is crowded for a job of demand r, and l where there is none. Its sure part is from s up to f.
+    // Side 1: the first time from s up to l that is crowded for a job of demand r, and l where there is none. Its sure part is from s up to f. It mirrors
+    // `early` in each step (greatest for least, behind for before), so that one function for both would ask the side at each.
     fn late(self, cap: u32, r: u32, s: u32, f: u32, l: u32) -> u32
         requires { (s ≤ l) × (f ≤ l) × (l < behind_all) }
         ensures { FirstBusy self.entry cap r s f s l result }

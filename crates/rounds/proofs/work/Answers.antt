@@ -13,7 +13,7 @@ use Rattle.turns.specs.declared.Turn.{Turn}
 use Rattle.places.specs.Places.{place}
 use Rattle.turns.specs.Moves.{TurnSays}
 use Rattle.places.proofs.Going.{weight, weight_move, weight_rest}
-use Rattle.rounds.proofs.Reached.{on, Reached, moves_room, moves_few, reached_start, reached_end, reached_rest, reached_full, reached_closed, reached_moved}
+use Rattle.rounds.proofs.Reached.{on, Reached, size, moves_room, moves_few, reached_start, reached_end, reached_rest, reached_full, reached_closed, reached_moved}
 use Rattle.rounds.proofs.Follows.{workable_free, follow_ready}
 use Rattle.rounds.proofs.work.Goals as goal
 use Rattle.rounds.proofs.work.Goals.{After-take_turn}
@@ -58,10 +58,7 @@ loop-at-init c = (refl, rw c.first-at.ensures (reached_start _ c.requires), c.bu
 pub take_turn-requires : goal.take_turn-requires
 take_turn-requires c =
     let i = c.loop-at.invariant in
-    (i.1.workable, omega (arith, i.1.size), i.2)
-
-pub onward-at-requires : goal.onward-at-requires
-onward-at-requires c = omega arith
+    (i.1.workable, omega (arith, size _ _ _ _ _ i.1), i.2)
 
 pub loop-at-smaller-in-Rests : goal.loop-at-smaller-in-Rests
 loop-at-smaller-in-Rests c =
@@ -81,7 +78,7 @@ pub follow-kept-requires : goal.follow-kept-requires
 follow-kept-requires c =
     let d = (goal.at.follow-kept-requires c).After-take_turn in
     let q = c.loop-at in
-    follow_ready (here d) q.at q.count _ (winThen d) (logThen d) (says d _ c.in-Moved.is) q.invariant.1.workable (omega (arith, q.invariant.1.size, job-left d))
+    follow_ready (here d) q.at q.count _ (winThen d) (logThen d) (says d _ c.in-Moved.is) q.invariant.1.workable (omega (arith, size _ _ _ _ _ q.invariant.1, job-left d))
     (moved_on d _ c.in-Moved.is).workable q.invariant.2
 
 pub overflow_add-count : goal.overflow_add-count
