@@ -1,11 +1,10 @@
 // The lines of the jobs. The pairs are passed over once: as they rise, those of a job stand side by side.
 ghost use Rattle.std.specs.Prelude.{◌∷◌, ◌-◌, ◌≤◌, length};
-ghost use Rattle.chains.specs.Listed.{paired};
 ghost use Rattle.projects.specs.Form.{line_of, job_lines};
-ghost use Rattle.projects.specs.Made.{rows_from};
+ghost use Rattle.scribe.specs.Said.{said_by};
 ghost use Rattle.scribe.specs.Says.{Takes, Sent, RunEnds, Marked, rest_of, from_one, Stretch};
-ghost use Rattle.scribe.specs.Writing.{Ready};
 
+use crate::Project;
 use crate::marks::put;
 use crate::sinks::Sink;
 
@@ -51,10 +50,17 @@ fn put_job<S: Sink>(sink: &mut S, d: u32, q: u32, successors: &[u32], from: usiz
 }
 
 // A line for each job.
-pub fn put_jobs<S: Sink>(sink: &mut S, dur: &[u32], dem: &[u32], jobs: &[u32], successors: &[u32])
-    requires { Ready dur.now dem.now jobs.now successors.now × Takes S.dry (job_lines (rows_from 0 dur.now dem.now (paired jobs.now successors.now))) (S.held sink.old) }
-    ensures { Sent S.dry (job_lines (rows_from 0 dur.now dem.now (paired jobs.now successors.now))) (S.held sink.old) (S.held sink.new) }
+pub fn put_jobs<S: Sink>(sink: &mut S, project: &Project<'_>)
+    requires { Takes S.dry (job_lines (said_by project.now).rows) (S.held sink.old) }
+    ensures { Sent S.dry (job_lines (said_by project.now).rows) (S.held sink.old) (S.held sink.new) }
 {
+    let Project {
+        dur,
+        dem,
+        jobs,
+        successors,
+        ..
+    } = *project;
     let mut i = 0;
     for j in 0..dur.len() {
         let end = run_end(jobs, j as u32, i);

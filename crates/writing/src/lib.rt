@@ -6,6 +6,7 @@ ghost use Rattle.exchange.specs.Write.{Writes};
 
 use answers::Refusal;
 use listed::Listed;
+use scribe::Project;
 
 // Writes a project of one resource into the buffer, in our form of the Patterson layout.
 pub fn write_patterson(
@@ -31,5 +32,12 @@ pub fn write_patterson(
     if pairs.has_cycle(n) {
         return Err(Refusal::Cycle);
     }
-    scribe::write(cap, dur, dem, jobs, successors, buffer).ok_or(Refusal::Buffer)
+    let project = Project {
+        cap,
+        dur,
+        dem,
+        jobs,
+        successors,
+    };
+    scribe::write(&project, buffer).ok_or(Refusal::Buffer)
 }

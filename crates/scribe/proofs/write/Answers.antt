@@ -13,14 +13,14 @@ same_name : {x y : GName} → Some x ≡ Some y → x ≡ y
 same_name e = cc
 
 pub put_project-requires : goal.put_project-requires
-put_project-requires c = record { ready = c.requires; start = refl; successors_in_bounds = λ e. clash true refl e }
+put_project-requires c = record { start = refl; successors_in_bounds = λ e. clash true refl e }
 
 pub returns-then-buffer-bytes : goal.returns-then-buffer-bytes
 returns-then-buffer-bytes c = (omega (arith, c.put_project.ensures.ran.count, c.if-buffer-bytes.true), refl)
 
 pub put_project-requires-2 : goal.put_project-requires-2
 put_project-requires-2 c =
-    record { ready = c.requires; start = refl; successors_in_bounds = λ e. omega (arith, c.put_project.ensures.ran.count, c.if-buffer-bytes.false) }
+    record { start = refl; successors_in_bounds = λ e. omega (arith, c.put_project.ensures.ran.count, c.if-buffer-bytes.false) }
 
 pub returns : goal.returns
 returns c = (omega (arith, c.put_project.ensures.ran.count, c.if-buffer-bytes.false), c.put_project-2.ensures.ran.count, let k = same_name c.put_project-2.ensures.same in let e = c.put_project-2.ensures.ran.bytes in search rules)

@@ -65,11 +65,14 @@ returns-then-has_cycle c =
     let f = rw c.if-has_cycle.true at c.has_cycle.ensures in
     cyclic _ _ refl c.in_ok-refusal_of_two.ensures (even e) (rw ((same e).0, (same e).1) at (rise (goal.at.returns-then-has_cycle c).Else-not-rising)) (rw ((same e).0, (same e).1) at f)
 
-pub write-requires : goal.write-requires
-write-requires c =
-    let e = (goal.at.write-requires c).In-Some in
-    let g = good_lists (goal.at.write-requires c).In_ok-refusal_of_two in
-    record { demands = g.sized.1.0; few = g.few; pairs = even e; rising = rw ((same e).0, (same e).1) at (rise (goal.at.write-requires c).Else-not-rising) }
+pub invariant_of-project : goal.invariant_of-project
+invariant_of-project c =
+    let e = (goal.at.invariant_of-project c).In-Some in
+    let g = good_lists (goal.at.invariant_of-project c).In_ok-refusal_of_two in
+    record {
+      ready = record { demands = g.sized.1.0; few = g.few; pairs = even e; rising = rw ((same e).0, (same e).1) at (rise (goal.at.invariant_of-project c).Else-not-rising) };
+      words = ((λ i. (c.type_inv.dur i).fits), (λ i. (c.type_inv.dem i).fits));
+    }
 
 -- the text is written, or the buffer is too short
 module _ (c : WriteCall) (tested : 0 ≡ refusal (length c.dur) (write_columns c) (alone c)) (even : length c.successors ≡ length c.jobs) (rising : Rising (length c.dur) c.jobs c.successors)

@@ -9,29 +9,29 @@ pub loop-j-init : goal.loop-j-init
 loop-j-init g c = record { passed = passed_start _; put = going_start _ _ _ _; same = refl }
 
 pub overflow_cast-j : goal.overflow_cast-j
-overflow_cast-j g c = omega (arith, c.requires.0.few, c.loop-j-test.true)
+overflow_cast-j g c = omega (arith, c.args.project.now.ready.few, c.loop-j-test.true)
 
 pub run_end-end-requires : goal.run_end-end-requires
 run_end-end-requires g c = c.loop-j.invariant.passed.within
 
 pub bounds-dem-j : goal.bounds-dem-j
-bounds-dem-j g c = omega (arith, c.requires.0.demands, c.loop-j-test.true)
+bounds-dem-j g c = omega (arith, c.args.project.now.ready.demands, c.loop-j-test.true)
 
 pub put_job-requires : goal.put_job-requires
 put_job-requires g c =
     let l = c.loop-j.invariant in
     let p = c.requires in
-    let line = lines_step p.0 l.passed c.run_end-end.ensures c.loop-j-test.true in
-    (stretch p.0 l.passed c.run_end-end.ensures, room_same (going_room _ _ line p.1 l.put) (omega arith) (job_same _ (omega arith) (omega arith) (omega arith)))
+    let line = lines_step c.args.project.now.ready l.passed c.run_end-end.ensures c.loop-j-test.true in
+    (stretch c.args.project.now.ready l.passed c.run_end-end.ensures, room_same (going_room _ _ line c.requires l.put) (omega arith) (job_same _ (omega arith) (omega arith) (omega arith)))
 
 pub loop-j-preserved : goal.loop-j-preserved
 loop-j-preserved g c =
     let l = c.loop-j.invariant in
     let p = c.requires in
-    let line = lines_step p.0 l.passed c.run_end-end.ensures c.loop-j-test.true in
+    let line = lines_step c.args.project.now.ready l.passed c.run_end-end.ensures c.loop-j-test.true in
     record {
-      passed = passed_step p.0 l.passed c.run_end-end.ensures;
-      put = going_step _ _ line p.1 l.put c.put_job.ensures.put;
+      passed = passed_step c.args.project.now.ready l.passed c.run_end-end.ensures;
+      put = going_step _ _ line c.requires l.put c.put_job.ensures.put;
       same = c.put_job.ensures.same ∙ l.same;
     }
 
