@@ -30,12 +30,13 @@ pub fn parse(text: &[u8], res: u32) -> Result<Parsed, Refusal>
     ensures { ParsedSays (psplib text.now) text.now res result }
 {
     let places = seeker::find(text).ok_or(Refusal::Headings)?;
-    let n = linewise::count_at(text, places[0], screen::MOST_JOBS as u32)?;
-    let k = linewise::count_at(text, places[1], screen::MOST_RESOURCES)?;
+    let [jobs, resources, relations, requests, capacities] = places;
+    let n = linewise::count_at(text, jobs, screen::MOST_JOBS as u32)?;
+    let k = linewise::count_at(text, resources, screen::MOST_RESOURCES)?;
     let from = Tables {
-        relations: places[2],
-        requests: places[3],
-        capacities: places[4],
+        relations,
+        requests,
+        capacities,
     };
     read_tables(text, n, k, from, res)
 }
