@@ -7,7 +7,7 @@ ghost use Rattle.places.specs.Places.{first_place, onward_of};
 use windows::Side;
 
 // A place of a round: a job, its side, and whether the round has moved a bound so far.
-#[derive(Clone, Copy)]
+#[derive(Clone, Copy, Debug, PartialEq, Eq)]
 pub struct Place {
     pub job: usize,
     pub side: Side,
@@ -27,7 +27,7 @@ impl Place {
     }
 
     // The place after one that rests: side 1 after side 0, the next job's side 0 after side 1. After the last one comes a new round, or the
-    // place past all jobs where the round has changed nothing.
+    // place past all jobs where the round has changed nothing: it ends the rounds as an index past the last one ends a list, and no loop needs an Option for it.
     pub fn onward(self, n: usize) -> Place
         requires { self.job < n }
         ensures { result ≡ onward_of self n }

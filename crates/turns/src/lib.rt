@@ -12,7 +12,7 @@ use places::Place;
 use searches::{JobList, Load};
 
 // What a turn at a place comes to: its side rests, it moved from a bound, the move closed the window, or there is no room for its record.
-#[derive(Drop)]
+#[derive(Clone, Copy, Debug, PartialEq, Eq)]
 pub enum Turn {
     Rests,
     Moved(u32),
