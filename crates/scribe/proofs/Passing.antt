@@ -8,13 +8,15 @@ use mathlib.Core.Path.{◌≡◌, refl, sym, ◌∙◌}
 use mathlib.Core.List.{List, [], ◌∷◌, ◌++◌, map}
 use mathlib.Core.Logic.{inl, inr}
 use lib.ListN.{length, drop, drop_of_length-le}
-use lib.Seq.{slice, length-slice, drop-cons}
+use lib.Seq.{drop-cons}
+use Rattle.std.proofs.Common.{slice_range, length-take, length-drop, get_or-take, get_or-drop}
+use Rattle.std.proofs.lemmas.List.{drop-take}
 use Rattle.lists.specs.Lists.{◌!◌}
 use Rattle.chains.specs.Paths.{Pair}
 use Rattle.chains.specs.Listed.{InOrder, paired, Rising}
 use Rattle.projects.specs.Form.{line_of, job_lines}
 use Rattle.projects.specs.Made.{successors_of, rows_from}
-use Rattle.scribe.specs.Says.{RunEnds, from_one, Stretch}
+use Rattle.scribe.specs.Says.{RunEnds, OwnJobs}
 use Rattle.scribe.specs.Writing.{Ready}
 use Rattle.scribe.proofs.Pairs.{rising_few}
 use Rattle.scribe.proofs.Steps.{stretch_of}
@@ -53,18 +55,25 @@ module _ {durs dems js ss : List ℕ} (g : Ready durs dems js ss) {j i r : ℕ} 
         higher = λ k h l. omega (arith, above k h l);
       }
 
-  pub stretch : Stretch ss i r
-  stretch =
+  -- the successors of job j stand from place i to place r
+  pub within : r ≤ length ss
+  within = omega (arith, e.within, g.pairs)
+
+  long : length (slice_range ss i r) ≡ r - i
+  long = simp (length-take, length-drop) (omega (arith, within, e.from))
+
+  pub own : OwnJobs (slice_range ss i r)
+  own =
       let few = rising_few (length durs) js ss g.rising (sym g.pairs) in
       record {
-        order = e.from;
-        within = omega (arith, e.within, g.pairs);
-        few = omega (arith, e.within, few, mul-le-mul g.few g.few);
-        below = λ k h. omega (arith, (g.rising.range k (omega (arith, e.within))).1, g.few);
+        few = omega (arith, long, e.within, few, mul-le-mul g.few g.few);
+        below = λ k h. let m : k < r - i = omega (arith, long) in rw (get_or-take, get_or-drop) (omega (arith, (g.rising.range (i + k) (omega (arith, long, e.within, e.from))).1, g.few));
       }
 
-  run_is : successors_of j (paired js ss) ≡ slice i r ss
-  run_is = stretch_of j js ss i r (sym g.pairs) e.from (λ k h l. p.lower k h) e.same above
+  run_is : successors_of j (paired js ss) ≡ slice_range ss i r
+  run_is =
+      let z : i + (r - i) ≡ r = omega (arith, e.from) in
+      stretch_of j js ss i r (sym g.pairs) e.from (λ k h l. p.lower k h) e.same above ∙ rw z at (drop-take i (r - i) ss)
 
 pub jobs_cons : (j d q : ℕ) (ds qs : List ℕ) (ps : List Pair)
     → job_lines (rows_from j (d ∷ ds) (q ∷ qs) ps) ≡ line_of (d ∷ q ∷ length (successors_of j ps) ∷ map suc (successors_of j ps)) ++ job_lines (rows_from (suc j) ds qs ps)
@@ -78,11 +87,11 @@ jobs_none j qs ps = refl
 -- the lines from job j on: its own, then those from the next one on
 pub lines_step : {durs dems js ss : List ℕ} → Ready durs dems js ss → {j i r : ℕ} → Passed js j i → RunEnds js j i r → j < length durs
     → job_lines (rows_from j (drop j durs) (drop j dems) (paired js ss))
-    ≡ line_of (durs ! j ∷ dems ! j ∷ (r - i) ∷ from_one ss i r) ++ job_lines (rows_from (j + 1) (drop (j + 1) durs) (drop (j + 1) dems) (paired js ss))
+    ≡ line_of (durs ! j ∷ dems ! j ∷ length (slice_range ss i r) ∷ map suc (slice_range ss i r)) ++ job_lines (rows_from (j + 1) (drop (j + 1) durs) (drop (j + 1) dems) (paired js ss))
 lines_step {durs} {dems} {js} {ss} g {j} {i} {r} p e h =
     rw (add-one j, drop-cons durs j 0 h, drop-cons dems j 0 (omega (arith, g.demands)))
     (jobs_cons j (durs ! j) (dems ! j) (drop (suc j) durs) (drop (suc j) dems) (paired js ss)
-    ∙ rw (run_is g p e, length-slice i r ss (stretch g p e).within))
+    ∙ rw (run_is g p e))
 
 -- none are left
 pub lines_end : (durs dems : List ℕ) (ps : List Pair) (j : ℕ) → length durs ≤ j → job_lines (rows_from j (drop j durs) (drop j dems) ps) ≡ []

@@ -1,19 +1,19 @@
 -- The lines of a text, number by number and job by job, as the code puts them.
-use Prim.Native.Nat.{ℕ, zero, suc, ◌+◌, ◌-◌, ◌≤◌, ◌<◌}
+use Prim.Native.Nat.{ℕ, zero, suc, ◌+◌, ◌≤◌, ◌<◌}
 use native.Mathlib.Numerals.{add-one}
 use native.Mathlib.Omega.{arith}
 use mathlib.Core.Path.{◌≡◌, refl, sym, ap, ◌∙◌}
 use mathlib.Core.Bool.{Bool, true, false, cond}
-use mathlib.Core.List.{List, [], ◌∷◌, ◌++◌, append_assoc, append-nil}
+use mathlib.Core.List.{List, [], ◌∷◌, ◌++◌, map, append_assoc, append-nil}
 use lib.Dec.{ltb}
-use lib.ListN.{length, take, drop_of_length-le}
-use lib.Seq.{slice, slice-cons, drop-nil, length-take-le}
+use lib.ListN.{length, drop, drop_of_length-le}
+use lib.Seq.{slice, drop-nil, drop-cons}
 use borrow.Author.Tests.{ltb-true, ltb-false, eq-eqb, ne_eqb}
 use Rattle.lists.specs.Lists.{◌!◌}
 use Rattle.chains.specs.Listed.{paired}
 use Rattle.projects.specs.Form.{decimal, line_of}
 use Rattle.projects.specs.Made.{successors_of}
-use Rattle.scribe.specs.Says.{Marked, rest_of, from_one}
+use Rattle.scribe.specs.Says.{Marked, rest_of}
 use Rattle.scribe.proofs.Puts.{Parts}
 
 -- ---- a number
@@ -25,9 +25,9 @@ number_same p q = rw (p, q)
 pub byte_same : {a b m : ℕ} (i to : ℕ) → Marked a b m → a ≡ i → b ≡ to → m ≡ cond (ltb i to) 32 10
 byte_same i to h p q = h.byte ∙ rw (p, q)
 
--- the same duration, demand and number of successors
-pub job_same : {d d' q q' c c' : ℕ} (ns : List ℕ) → d' ≡ d → q' ≡ q → c' ≡ c → line_of (d' ∷ q' ∷ c' ∷ ns) ≡ line_of (d ∷ q ∷ c ∷ ns)
-job_same ns x y z = rw (x, y, z)
+-- the same duration and demand
+pub job_same : {d d' q q' : ℕ} (ns : List ℕ) → d' ≡ d → q' ≡ q → line_of (d' ∷ q' ∷ ns) ≡ line_of (d ∷ q ∷ ns)
+job_same ns x y = rw (x, y)
 
 -- the byte behind a number, by the numbers that are left on the line
 abbrev pub mark : List ℕ → ℕ
@@ -41,23 +41,27 @@ line_step v (w ∷ vs) = sym (append_assoc (decimal v) (32 ∷ []) (line_of (w �
 
 -- ---- a successor
 
-module _ (ss : List ℕ) (i to : ℕ) where
-  pub numbered_none : to ≤ i → to ≤ length ss → from_one ss i to ≡ []
-  numbered_none h k = let l : length (take to ss) ≤ i = omega (arith, length-take-le to ss k) in rw (drop_of_length-le (take to ss) l)
+-- the numbers on the line from place i on
+abbrev pub numbered : List ℕ → ℕ → List ℕ
+numbered own i = map suc (drop i own)
 
-  numbered_step : i < to → to ≤ length ss → from_one ss i to ≡ (ss ! i + 1) ∷ from_one ss (i + 1) to
-  numbered_step h k = rw (slice-cons i to ss 0 h k, add-one (ss ! i), add-one i)
+module _ (own : List ℕ) (i : ℕ) where
+  pub numbered_none : length own ≤ i → numbered own i ≡ []
+  numbered_none h = rw (drop_of_length-le own h)
 
-  mark-is : to ≤ length ss → mark (from_one ss i to) ≡ cond (ltb i to) 32 10
-  mark-is k = go (ltb i to) refl
+  numbered_step : i < length own → numbered own i ≡ (own ! i + 1) ∷ numbered own (i + 1)
+  numbered_step h = rw (drop-cons own i 0 h, add-one (own ! i), add-one i)
+
+  mark-is : mark (numbered own i) ≡ cond (ltb i (length own)) 32 10
+  mark-is = go (ltb i (length own)) refl
     where
-      go : (t : Bool) → ltb i to ≡ t → mark (from_one ss i to) ≡ cond t 32 10
-      go true e = rw (numbered_step (ltb-true i to e) k)
-      go false e = rw (numbered_none (ltb-false i to e) k)
+      go : (t : Bool) → ltb i (length own) ≡ t → mark (numbered own i) ≡ cond t 32 10
+      go true e = rw (numbered_step (ltb-true i (length own) e))
+      go false e = rw (numbered_none (ltb-false i (length own) e))
 
-pub successors_step : (ss : List ℕ) (i to : ℕ) → i < to → to ≤ length ss
-    → rest_of (from_one ss i to) ≡ (decimal (ss ! i + 1) ++ cond (ltb (i + 1) to) 32 10 ∷ []) ++ rest_of (from_one ss (i + 1) to)
-successors_step ss i to h k = rw (numbered_step ss i to h k, ← mark-is ss (i + 1) to k) (line_step (ss ! i + 1) (from_one ss (i + 1) to))
+pub successors_step : (own : List ℕ) (i : ℕ) → i < length own
+    → rest_of (numbered own i) ≡ (decimal (own ! i + 1) ++ cond (ltb (i + 1) (length own)) 32 10 ∷ []) ++ rest_of (numbered own (i + 1))
+successors_step own i h = rw (numbered_step own i h, ← mark-is own (i + 1)) (line_step (own ! i + 1) (numbered own (i + 1)))
 
 -- ---- a job
 
@@ -84,14 +88,14 @@ stretch_of j (a ∷ js) (s ∷ ss) zero zero e o low same high =
     (stretch_of j js ss 0 0 (omega arith) (omega arith) (λ k l m. absurd (omega arith)) (λ k l m. absurd (omega arith)) (λ k l m. high (suc k) (omega arith) (omega arith)))
 
 -- the line of a job: duration, demand, how many successors, and these
-pub job_parts : (d q : ℕ) (ss : List ℕ) (from to : ℕ) → to ≤ length ss
-    → Parts (decimal d ++ 32 ∷ []) (decimal q ++ 32 ∷ []) (decimal (to - from) ++ cond (ltb from to) 32 10 ∷ []) (rest_of (from_one ss from to)) (line_of (d ∷ q ∷ (to - from) ∷ from_one ss from to))
-job_parts d q ss from to k =
+pub job_parts : (d q : ℕ) (own : List ℕ)
+    → Parts (decimal d ++ 32 ∷ []) (decimal q ++ 32 ∷ []) (decimal (length own) ++ cond (ltb 0 (length own)) 32 10 ∷ []) (rest_of (map suc own)) (line_of (d ∷ q ∷ length own ∷ map suc own))
+job_parts d q own =
     record {
       joined =
-          line_step d (q ∷ (to - from) ∷ from_one ss from to)
+          line_step d (q ∷ length own ∷ map suc own)
           ∙ ap (λ (t : List ℕ). (decimal d ++ 32 ∷ []) ++ t)
-          (line_step q ((to - from) ∷ from_one ss from to)
+          (line_step q (length own ∷ map suc own)
           ∙ ap (λ (t : List ℕ). (decimal q ++ 32 ∷ []) ++ t)
-          (line_step (to - from) (from_one ss from to) ∙ ap (λ (m : ℕ). (decimal (to - from) ++ m ∷ []) ++ rest_of (from_one ss from to)) (mark-is ss from to k)));
+          (line_step (length own) (map suc own) ∙ ap (λ (m : ℕ). (decimal (length own) ++ m ∷ []) ++ rest_of (map suc own)) (mark-is own 0)));
     }

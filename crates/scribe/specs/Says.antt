@@ -1,8 +1,7 @@
 -- What the writer's inner functions say: bytes put into a sink from a place on, and the pairs passed over job by job. A sink can run dry: nothing is
 -- written then, and all is counted.
-use Rattle.std.specs.Prelude.{ℕ, suc, ◌+◌, ◌*◌, ◌≤◌, ◌<◌, ◌≡◌, Bool, false, cond, List, [], ◌∷◌, ◌++◌, map, ltb, length, take, drop, Option}
+use Rattle.std.specs.Prelude.{ℕ, ◌+◌, ◌*◌, ◌≤◌, ◌<◌, ◌≡◌, Bool, false, cond, List, [], ◌∷◌, ◌++◌, ltb, length, take, drop, Option}
 use Rattle.std.specs.Borrow.{GName}
-use Rattle.std.proofs.Math.Seq.{slice}
 use Rattle.lists.specs.Lists.{◌!◌}
 use Rattle.joblist.specs.Limits.{most_jobs}
 use Rattle.projects.specs.Form.{line_of}
@@ -56,13 +55,7 @@ abbrev pub rest_of : List ℕ → List ℕ
 rest_of [] = []
 rest_of (v ∷ vs) = line_of (v ∷ vs)
 
--- the successors from one place of their list to another, numbered from 1
-abbrev pub from_one : List ℕ → ℕ → ℕ → List ℕ
-from_one ss from to = map suc (slice from to ss)
-
--- a part of the list of successors: there are not too many to be counted, and each is a job's number
-pub record Stretch (ss : List ℕ) (from to : ℕ) : Type 0 where
-  pub order : from ≤ to
-  pub within : to ≤ length ss
-  pub few : to ≤ most_jobs * most_jobs
-  pub below : (k : ℕ) → k < to → ss ! k < most_jobs
+-- one job's successors: there are not too many to be counted, and each is a job's number
+pub record OwnJobs (own : List ℕ) : Type 0 where
+  pub few : length own ≤ most_jobs * most_jobs
+  pub below : (k : ℕ) → k < length own → own ! k < most_jobs

@@ -1,8 +1,8 @@
 // The lines of the jobs. The pairs are passed over once: as they rise, those of a job stand side by side.
-ghost use Rattle.std.specs.Prelude.{◌∷◌, ◌-◌, ◌≤◌, length};
+ghost use Rattle.std.specs.Prelude.{suc, ◌∷◌, ◌≤◌, map, length};
 ghost use Rattle.projects.specs.Form.{line_of, job_lines};
 ghost use Rattle.scribe.specs.Said.{said_by};
-ghost use Rattle.scribe.specs.Says.{Takes, Sent, RunEnds, Marked, rest_of, from_one, Stretch};
+ghost use Rattle.scribe.specs.Says.{Takes, Sent, RunEnds, Marked, rest_of, OwnJobs};
 
 use crate::Project;
 use crate::marks::put;
@@ -29,24 +29,24 @@ fn mark_of(i: usize, to: usize) -> u8
 }
 
 // The successors of a job, numbered from 1, up to the end of its line.
-fn put_successors<S: Sink>(sink: &mut S, successors: &[u32], from: usize, to: usize)
-    requires { Stretch successors.now from to × Takes S.dry (rest_of (from_one successors.now from to)) (S.held sink.old) }
-    ensures { Sent S.dry (rest_of (from_one successors.now from to)) (S.held sink.old) (S.held sink.new) }
+fn put_successors<S: Sink>(sink: &mut S, own: &[u32])
+    requires { OwnJobs own.now × Takes S.dry (rest_of (map suc own.now)) (S.held sink.old) }
+    ensures { Sent S.dry (rest_of (map suc own.now)) (S.held sink.old) (S.held sink.new) }
 {
-    for i in from..to {
-        put(sink, successors[i] + 1, mark_of(i + 1, to));
+    for (i, successor) in own.iter().enumerate() {
+        put(sink, *successor + 1, mark_of(i + 1, own.len()));
     }
 }
 
-// The line of a job whose successors stand from place `from` to place `to`.
-fn put_job<S: Sink>(sink: &mut S, d: u32, q: u32, successors: &[u32], from: usize, to: usize)
-    requires { Stretch successors.now from to × Takes S.dry (line_of (d ∷ q ∷ (to - from) ∷ from_one successors.now from to)) (S.held sink.old) }
-    ensures { Sent S.dry (line_of (d ∷ q ∷ (to - from) ∷ from_one successors.now from to)) (S.held sink.old) (S.held sink.new) }
+// The line of a job with its own successors.
+fn put_job<S: Sink>(sink: &mut S, d: u32, q: u32, own: &[u32])
+    requires { OwnJobs own.now × Takes S.dry (line_of (d ∷ q ∷ length own.now ∷ map suc own.now)) (S.held sink.old) }
+    ensures { Sent S.dry (line_of (d ∷ q ∷ length own.now ∷ map suc own.now)) (S.held sink.old) (S.held sink.new) }
 {
     put(sink, d, b' ');
     put(sink, q, b' ');
-    put(sink, (to - from) as u32, mark_of(from, to));
-    put_successors(sink, successors, from, to);
+    put(sink, own.len() as u32, mark_of(0, own.len()));
+    put_successors(sink, own);
 }
 
 // A line for each job.
@@ -64,7 +64,7 @@ pub fn put_jobs<S: Sink>(sink: &mut S, project: &Project<'_>)
     let mut i = 0;
     for j in 0..dur.len() {
         let end = run_end(jobs, j as u32, i);
-        put_job(sink, dur[j], dem[j], successors, i, end);
+        put_job(sink, dur[j], dem[j], &successors[i..end]);
         i = end;
     }
 }

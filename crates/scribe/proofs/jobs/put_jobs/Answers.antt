@@ -2,7 +2,7 @@ use native.Mathlib.Omega.{arith}
 use mathlib.Core.Path.{refl, ◌∙◌}
 use Rattle.scribe.proofs.Puts.{room_same, going_start, going_room, going_step, going_end}
 use Rattle.scribe.proofs.Steps.{job_same}
-use Rattle.scribe.proofs.Passing.{passed_start, passed_step, stretch, lines_step, lines_end}
+use Rattle.scribe.proofs.Passing.{passed_start, passed_step, own, lines_step, lines_end}
 use Rattle.scribe.proofs.jobs.put_jobs.Goals as goal
 
 pub loop-j-init : goal.loop-j-init
@@ -20,14 +20,12 @@ bounds-dem-j g c = omega (arith, c.args.project.now.ready.demands, c.loop-j-test
 pub put_job-requires : goal.put_job-requires
 put_job-requires g c =
     let l = c.loop-j.invariant in
-    let p = c.requires in
     let line = lines_step c.args.project.now.ready l.passed c.run_end-end.ensures c.loop-j-test.true in
-    (stretch c.args.project.now.ready l.passed c.run_end-end.ensures, room_same (going_room _ _ line c.requires l.put) (omega arith) (job_same _ (omega arith) (omega arith) (omega arith)))
+    (own c.args.project.now.ready l.passed c.run_end-end.ensures, room_same (going_room _ _ line c.requires l.put) (omega arith) (job_same _ (omega arith) (omega arith)))
 
 pub loop-j-preserved : goal.loop-j-preserved
 loop-j-preserved g c =
     let l = c.loop-j.invariant in
-    let p = c.requires in
     let line = lines_step c.args.project.now.ready l.passed c.run_end-end.ensures c.loop-j-test.true in
     record {
       passed = passed_step c.args.project.now.ready l.passed c.run_end-end.ensures;
