@@ -1,11 +1,11 @@
 // The record of a move (document 01, 'Log records'; document 02, Item 7): the members that the writer names, and the words in the log.
 #![tactic(auto)]
 
-ghost use Rattle.std.specs.Prelude.{◌≡◌, not, ◌+◌, ◌≤◌, ◌<◌, length, leb, ltb, eqb};
-ghost use Rattle.lists.specs.Tests.{both};
+ghost use Rattle.std.specs.Prelude.{◌≡◌, ◌≤◌, ◌<◌, length};
 ghost use Rattle.joblist.specs.Limits.{most_time};
 ghost use Rattle.journal.specs.Journal.{rewritten};
-ghost use Rattle.timetable.specs.Table.{Good};
+ghost use Rattle.timetable.specs.Search.{member};
+ghost use Rattle.timetable.specs.Table.{Good, jobs_of};
 ghost use Rattle.windows.specs.Sides.{side_is};
 ghost use Rattle.searches.specs.Listed.{asked_of};
 ghost use Rattle.noting.specs.Record.{members_of, record_of};
@@ -14,11 +14,11 @@ use searches::JobList;
 use windows::Side;
 
 // Whether job k is one of 01's members of a record of job j at time t: another job with a demand whose sure part holds t.
-fn is_member(k: usize, j: usize, e: u32, l: u32, p: u32, r: u32, t: u32) -> bool
-    requires { (e ≤ most_time) × (p ≤ most_time) × (t ≤ most_time) }
-    ensures { result ≡ both (not (eqb k j)) (both (leb 1 r) (both (leb l (t + p)) (ltb t (e + p)))) }
+fn is_member(list: JobList<'_>, k: usize, j: usize, t: u32) -> bool
+    requires { Good (asked_of list) × (k < length list.est.now) × (t ≤ most_time) }
+    ensures { result ≡ member (jobs_of (asked_of list.entry)) (asked_of list.entry).win j t k }
 {
-    k != j && r != 0 && windows::sure(e, l, p, t)
+    k != j && list.dem[k] != 0 && windows::sure(list.est[k], list.lct[k], list.dur[k], t)
 }
 
 // The set of the jobs that a record of the job at time t names: 01's members, gone through by rising number, less each one without whom the demands still
@@ -27,19 +27,13 @@ fn gather(list: JobList<'_>, job: usize, t: u32) -> [u32; bits::WORDS]
     requires { Good (asked_of list) × (job < length list.est.now) × (t ≤ most_time) }
     ensures { result ≡ members_of (asked_of list.entry) job t }
 {
-    let JobList {
-        est,
-        lct,
-        dur,
-        dem,
-        cap,
-    } = list;
     let mut set = bits::empty();
-    let mut left = crowding::load_at(est, lct, dur, dem, job, t) + dem[job];
-    for k in 0..est.len() {
-        if is_member(k, job, est[k], lct[k], dur[k], dem[k], t) {
-            let rest = left - dem[k];
-            if cap < rest {
+    let mut left = crowding::load_at(list.est, list.lct, list.dur, list.dem, job, t)
+        + list.dem[job];
+    for k in 0..list.est.len() {
+        if is_member(list, k, job, t) {
+            let rest = left - list.dem[k];
+            if list.cap < rest {
                 left = rest;
             } else {
                 bits::put(&mut set, k);

@@ -13,9 +13,9 @@ use Rattle.timetable.specs.Table.{jobs_of}
 use Rattle.crowding.specs.Asked.{asked}
 use Rattle.timetable.proofs.Good.{demands_sized, demand_most}
 use Rattle.crowding.proofs.Steps.{load_small, good_cap}
-use Rattle.noting.proofs.Named.{member_at, still_first, named_yet, gathered_drop, gathered_put, gathered_skip, gathered_all}
+use Rattle.noting.proofs.Named.{still_first, named_yet, gathered_drop, gathered_put, gathered_skip, gathered_all}
 use Rattle.noting.proofs.gather.Goals as goal
-use Rattle.noting.proofs.gather.Goals.{Start, then-is_member+then-cap-rest, then-is_member+else-cap-rest, else-is_member}
+use Rattle.noting.proofs.gather.Goals.{Start, then-is_member+then-list-rest, then-is_member+else-list-rest, else-is_member}
 
 abbrev theJobs : Start → Jobs
 theJobs s = let a = s.args.list in jobs_of (asked a.est.now a.lct.now a.dur.now a.dem.now a.cap)
@@ -26,8 +26,8 @@ theWindows s = let a = s.args.list in win a.est.now a.lct.now
 pub load_at-requires : goal.load_at-requires
 load_at-requires c = (good_cap _ _ _ _ _ c.requires.0, c.requires.2)
 
-pub bounds-dem-job : goal.bounds-dem-job
-bounds-dem-job c = omega (arith, c.requires.1, demands_sized c.requires.0)
+pub bounds-list-job : goal.bounds-list-job
+bounds-list-job c = omega (arith, c.requires.1, demands_sized c.requires.0)
 
 pub overflow_add-left : goal.overflow_add-left
 overflow_add-left c =
@@ -42,17 +42,11 @@ loop-k-init c =
           ∙ still_first a.est.now a.lct.now a.dur.now a.dem.now a.cap c.args.job c.args.t,
     )
 
-pub is_member-requires : goal.is_member-requires
-is_member-requires c =
-    let g = c.requires.0.within in
-    let k = c.loop-k.k in
-    (g.0 k, g.1.1.0 k, c.requires.2)
-
 pub overflow_sub-rest : goal.overflow_sub-rest
 overflow_sub-rest c =
     let s = (goal.at.overflow_sub-rest c).Start in
     let l = c.loop-k in
-    let m = member_at (theJobs s) (theWindows s) c.args.job c.args.t l.k (omega arith) ∙ sym c.is_member.ensures in
+    let m = sym c.is_member.ensures in
     omega (arith, l.invariant.1, named_yet (theJobs s) (theWindows s) c.args.job c.args.t (omega (arith, c.requires.0.few)) l.k (omega arith) (m ∙ c.if-is_member.true))
 
 pub slice_bounds-put-end : goal.slice_bounds-put-end
@@ -69,13 +63,13 @@ loop-k-preserved c =
     let t = c.args.t in
     let b : l.k < J.n = omega arith in
     let few : J.n ≤ 32 * set_words = omega (arith, c.requires.0.few) in
-    let m = member_at J W j t l.k b ∙ sym c.is_member.ensures in
+    let m = sym c.is_member.ensures in
     elim c.if-is_member.branch [
-      | then-is_member+then-cap-rest w ↦
-          let d = gathered_drop J W j t few l.k b (m ∙ w.if-is_member.true) (omega (arith, l.invariant.1, w.if-cap-rest.true)) in
+      | then-is_member+then-list-rest w ↦
+          let d = gathered_drop J W j t few l.k b (m ∙ w.if-is_member.true) (omega (arith, l.invariant.1, w.if-list-rest.true)) in
           (w.set-is ∙ l.invariant.0 ∙ d.0, omega (arith, w.left-is, l.invariant.1, d.1))
-      | then-is_member+else-cap-rest w ↦
-          let d = gathered_put J W j t few l.k b (m ∙ w.if-is_member.true) (omega (arith, l.invariant.1, w.if-cap-rest.false)) in
+      | then-is_member+else-list-rest w ↦
+          let d = gathered_put J W j t few l.k b (m ∙ w.if-is_member.true) (omega (arith, l.invariant.1, w.if-list-rest.false)) in
           (w.set-is ∙ w.put.ensures ∙ ap (λ (x : List ℕ). inserted x l.k) l.invariant.0 ∙ d.0, omega (arith, w.left-is, l.invariant.1, d.1))
       | else-is_member w ↦
           let d = gathered_skip J W j t few l.k b (m ∙ w.if-is_member.false) in
