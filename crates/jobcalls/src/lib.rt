@@ -32,7 +32,7 @@ pub fn narrow_or_check(words: &mut [u32], task: Task, cap: u32, count: usize) ->
     let mut lct = [0; JOBS];
     let mut dur = [0; JOBS];
     let mut dem = [0; JOBS];
-    let (est, lct, dur, dem) = packed::copy_four(words, &mut est, &mut lct, &mut dur, &mut dem);
+    let (est, lct, dur, dem) = packed::copied_four(words, &mut est, &mut lct, &mut dur, &mut dem);
     let log = packed::list_mut(words, 4);
     let says = match task {
         Task::Narrow => narrowing(desk::narrow(est, lct, dur, dem, cap, log)),
@@ -81,8 +81,8 @@ pub fn sequence(words: &mut [u32]) -> Saying
 {
     let mut est = [0; JOBS];
     let mut lct = [0; JOBS];
-    let est = packed::copy(words, 0, &mut est);
-    let lct = packed::copy(words, 1, &mut lct);
+    let est = packed::copied(words, 0, &mut est);
+    let lct = packed::copied(words, 1, &mut lct);
     let answer = desk::sequence(est, lct, packed::list(words, 2));
     put_windows(words, est, lct);
     narrowing(answer)

@@ -1,5 +1,6 @@
 -- Lists packed into one list of words, one behind the other, each as its length and then its numbers.
-use Rattle.std.specs.Prelude.{List, ◌++◌, ℕ, zero, suc, ◌+◌, min, length, get_or, take, drop, slice_range}
+use Rattle.std.specs.Prelude.{◌≡◌, List, ◌++◌, ℕ, zero, suc, ◌+◌, min, length, get_or, take, drop, slice_range}
+use Rattle.io.specs.Counts.{IsPrefixLen}
 
 -- where the list behind the one at a place begins; the end of the words where that one runs up to it or beyond
 abbrev pub behind_at : List ℕ → ℕ → ℕ
@@ -25,3 +26,9 @@ laid_over xs ys = take (length xs) ys ++ drop (length ys) xs
 -- the words with ys over the front of list k
 abbrev pub put_at : List ℕ → ℕ → List ℕ → List ℕ
 put_at xs k ys = take (first_of xs k) xs ++ (laid_over (list_of xs k) ys ++ drop (start_of xs (suc k)) xs)
+
+-- n numbers of ys stand over the front of what was xs
+pub record Copied (ys xs : List ℕ) (n : ℕ) (now : List ℕ) : Type 0 where
+  pub laid : now ≡ laid_over xs ys
+  pub many : n ≡ min (length ys) (length xs)
+  pub within : IsPrefixLen n now

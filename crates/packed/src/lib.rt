@@ -4,7 +4,7 @@
 
 ghost use Rattle.std.specs.Prelude.{◌≡◌, ◌≤◌, suc, length, take};
 ghost use Rattle.io.specs.Counts.{IsPrefixLen};
-ghost use Rattle.packed.specs.Packed.{behind_at, start_of, list_of, put_at, first_of};
+ghost use Rattle.packed.specs.Packed.{behind_at, start_of, list_of, put_at, first_of, Copied};
 
 use std::ops::Range;
 
@@ -56,19 +56,25 @@ pub fn list_mut(words: &mut [u32], k: usize) -> &mut [u32]
     &mut words[numbers]
 }
 
-// The numbers of list k copied over the front of another list, as far as both go; these are lent. (That the rest stays is not said: a `follows`
-// clause was tried, and the check proves one of a field or of a call's result alone.)
-pub fn copy<'a>(words: &[u32], k: usize, into: &'a mut [u32]) -> &'a mut [u32]
-    ensures { result.now ≡ take (length into.old) (list_of words.now k) }
+// The numbers of list k copied over the front of another list, as far as both go; the answer is how many.
+pub fn copy(words: &[u32], k: usize, into: &mut [u32]) -> usize
+    ensures { Copied (list_of words.now k) into.old result into.new }
 {
     let numbers = list(words, k);
     windows::copy(numbers, into);
-    let n = numbers.len().min(into.len());
+    numbers.len().min(into.len())
+}
+
+// The same, and what was copied is lent.
+pub fn copied<'a>(words: &[u32], k: usize, into: &'a mut [u32]) -> &'a mut [u32]
+    ensures { result.now ≡ take (length into.old) (list_of words.now k) }
+{
+    let n = copy(words, k, into);
     &mut into[..n]
 }
 
 // The first four lists copied out likewise.
-pub fn copy_four<'a>(
+pub fn copied_four<'a>(
     words: &[u32],
     a: &'a mut [u32],
     b: &'a mut [u32],
@@ -80,10 +86,10 @@ pub fn copy_four<'a>(
     ensures third { result.2.now ≡ take (length c.old) (list_of words.now 2) }
     ensures fourth { result.3.now ≡ take (length d.old) (list_of words.now 3) }
 {
-    let first = copy(words, 0, a);
-    let second = copy(words, 1, b);
-    let third = copy(words, 2, c);
-    let fourth = copy(words, 3, d);
+    let first = copied(words, 0, a);
+    let second = copied(words, 1, b);
+    let third = copied(words, 2, c);
+    let fourth = copied(words, 3, d);
     (first, second, third, fourth)
 }
 

@@ -29,8 +29,8 @@ pub fn read(words: &mut [u32], task: Reading, text: &[u8]) -> Saying {
     let mut dur = [0; JOBS];
     let mut dem = [0; JOBS];
     let mut jobs = [0; PAIRS];
-    let (est, lct, dur, dem) = packed::copy_four(words, &mut est, &mut lct, &mut dur, &mut dem);
-    let jobs = packed::copy(words, 4, &mut jobs);
+    let (est, lct, dur, dem) = packed::copied_four(words, &mut est, &mut lct, &mut dur, &mut dem);
+    let jobs = packed::copied(words, 4, &mut jobs);
     let successors = packed::list_mut(words, 5);
     let r = task.resource;
     let h = task.horizon;

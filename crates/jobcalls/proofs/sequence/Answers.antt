@@ -18,8 +18,8 @@ pub returns : goal.returns
 returns c =
     let s = c.sequence-answer in
     let words = c.args.words.now in
-    let est = copied words _ 0 c.copy-est.ensures in
-    let lct = copied words _ 1 c.copy-lct.ensures in
+    let est = copied words _ 0 c.copied-est.ensures in
+    let lct = copied words _ 1 c.copied-lct.ensures in
     record {
       says = says s.result;
       est = s.new.est;
