@@ -1,7 +1,7 @@
 -- The pass of the search: which jobs are members, how far it goes, and what its end says.
 use Prim.Native.Nat.{ℕ, zero, suc, ◌+◌, ◌*◌, ◌-◌, ◌≤◌, ◌<◌, max}
 use native.Mathlib.Omega.{arith}
-use mathlib.Core.Path.{◌≡◌, refl, sym, ap, ◌∙◌}
+use mathlib.Core.Path.{◌≡◌, refl, sym, ◌∙◌}
 use mathlib.Core.Bool.{Bool, true, false, not}
 use mathlib.Core.List.{List}
 use mathlib.Core.Option.{Option, none, some}
@@ -13,7 +13,7 @@ use Rattle.lists.specs.Lists.{◌!◌}
 use Rattle.lists.specs.Tests.{both, pick}
 use Rattle.lists.specs.Extremes.{found_or}
 use Rattle.lists.specs.Sets.{Set}
-use Rattle.lists.specs.Sweeps.{sweep}
+use Rattle.lists.specs.Sweeps.{advanced, sweep}
 use Rattle.lists.proofs.Sweeps.{sweep_more, sweep_latest}
 use Rattle.narrowing.specs.Windows.{Win, early}
 use Rattle.joblist.specs.Limits.{most_time, most_jobs}
@@ -41,22 +41,15 @@ pub member_is : (starts ends p : List ℕ) (k i : ℕ) → k < length ends → 1
 unfolding comes_first
 member_is starts ends p k i h q = rw (le-leb 1 (p ! i) q, back_at ends k h)
 
--- one more place: a member is done its p after the later of its e and what was done
+-- one more place: what the test says is whether its job is a member
 pub sweep_on : (starts ends p o : List ℕ) (i m done : ℕ) → Ready (length starts) starts ends p o → m < length starts → 1 ≤ p ! i
     → done ≡ sweep starts p (firsts p (told starts ends) i) o m → (member : Bool)
-    → both (not (eqb (o ! m) i)) (both (leb 1 (p ! (o ! m))) (ltb (most_time - ends ! (o ! m)) (starts ! i + p ! i + p ! (o ! m)))) ≡ member
-    → pick member (max (starts ! (o ! m)) done + p ! (o ! m)) done ≡ sweep starts p (firsts p (told starts ends) i) o (m + 1)
+    → member ≡ both (not (eqb (o ! m) i)) (both (leb 1 (p ! (o ! m))) (ltb (most_time - ends ! (o ! m)) (starts ! i + p ! i + p ! (o ! m))))
+    → pick member (advanced done (starts ! (o ! m)) (p ! (o ! m))) done ≡ sweep starts p (firsts p (told starts ends) i) o (m + 1)
 sweep_on starts ends p o i m done r b q d member t =
     let O = firsts p (told starts ends) i in
-    let is : O (o ! m) ≡ member = sym (member_is starts ends p (o ! m) i (listed r m b).2 q) ∙ t in
-    rw (sweep_more starts p O o m, is, ← d) (ap (λ (x : ℕ). pick member (x + p ! (o ! m)) done) (latest (starts ! (o ! m)) done))
-  where
-    latest : (e z : ℕ) → max e z ≡ pick (ltb z e) e z
-    latest e z = go (ltb z e) refl
-      where
-        go : (c : Bool) → ltb z e ≡ c → max e z ≡ pick c e z
-        go true f = omega (arith, ltb-true z e f)
-        go false f = omega (arith, ltb-false z e f)
+    let is : member ≡ O (o ! m) = t ∙ member_is starts ends p (o ! m) i (listed r m b).2 q in
+    rw (is, d) (sym (sweep_more starts p O o m))
 
 pub sweep_zero : (e p : List ℕ) (O : Set) (o : List ℕ) → sweep e p O o 0 ≡ 0
 unfolding sweep

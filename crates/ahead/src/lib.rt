@@ -6,8 +6,9 @@ ghost use Rattle.std.specs.Prelude.{◌≡◌, not, ◌+◌, ◌*◌, ◌-◌, �
 ghost use Rattle.lists.specs.Lists.{◌!◌};
 ghost use Rattle.lists.specs.Tests.{both};
 ghost use Rattle.lists.specs.Extremes.{found_or};
+ghost use Rattle.lists.specs.Sweeps.{advanced};
 ghost use Rattle.narrowing.specs.Windows.{early};
-ghost use Rattle.joblist.specs.Limits.{most_time};
+ghost use Rattle.joblist.specs.Limits.{most_time, most_jobs};
 ghost use Rattle.heads.specs.Search.{early_bound, detect};
 ghost use Rattle.mirrors.specs.Back.{told};
 ghost use Rattle.ahead.specs.Ready.{Ready};
@@ -20,6 +21,15 @@ fn comes_first(k: usize, i: usize, end: u32, back: u32, p: u32) -> bool
     ensures { result ≡ both (not (eqb k i)) (both (leb 1 p) (ltb (most_time - back) (end + p))) }
 {
     k != i && 1 <= p && MOST_TIME - back < end + p
+}
+
+// What is done after one more member: it starts when all before it are done, or at its e if that is later. It is no `max`, since with one each step of the pass
+// waits for the one before it: the read head's narrowing was measured slower so.
+fn advance(done: u32, e: u32, p: u32) -> u32
+    requires { (done ≤ most_time * (most_jobs + 1)) × (e ≤ most_time) × (p ≤ most_time) }
+    ensures { result ≡ advanced done e p }
+{
+    if done < e { e + p } else { done + p }
 }
 
 // The greatest value, over the non-empty sets of jobs that come before the job, of least e plus total p; 0 where none comes first. One pass, with one
@@ -38,8 +48,7 @@ fn bound_of(
     let mut done = 0;
     for &k in &order[..starts.len()] {
         if comes_first(k, job, end, ends[k], dur[k]) {
-            // it starts when all before it are done, or at its earliest start if that is later
-            done = starts[k].max(done) + dur[k];
+            done = advance(done, starts[k], dur[k]);
         }
     }
     done

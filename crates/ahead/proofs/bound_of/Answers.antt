@@ -1,7 +1,6 @@
 use Prim.Native.Nat.{◌<◌}
 use native.Mathlib.Omega.{arith}
 use mathlib.Core.Path.{sym, ◌∙◌}
-use mathlib.Core.Bool.{true, false}
 use lib.ListN.{length, take}
 use Rattle.std.proofs.lemmas.List.{get_or-take}
 use Rattle.lists.specs.Lists.{◌!◌}
@@ -14,13 +13,13 @@ use Rattle.ahead.proofs.bound_of.Goals.{then-comes_first, else-comes_first}
 pub loop-k-init : goal.loop-k-init
 loop-k-init c = sym (sweep_zero _ _ _ _)
 
-pub overflow_add-done : goal.overflow_add-done
-overflow_add-done c =
+pub advance-done-requires : goal.advance-done-requires
+advance-done-requires c =
     let l = c.loop-k in
     let r = c.requires.0.lent in
     let s = c.args in
     let k = take (length s.starts.now) s.order.now ! l.k-index in
-    omega (arith, c.max.ensures, l.invariant, r.few, sweep_under s.starts.now s.dur.now (firsts s.dur.now (told s.starts.now s.ends.now) s.job) s.order.now r.starts_most r.p_most l.k-index, r.starts_most k, r.p_most k)
+    (omega (arith, l.invariant, r.few, sweep_under s.starts.now s.dur.now (firsts s.dur.now (told s.starts.now s.ends.now) s.job) s.order.now r.starts_most r.p_most l.k-index), r.starts_most k, r.p_most k)
 
 pub loop-k-preserved : goal.loop-k-preserved
 loop-k-preserved c =
@@ -28,10 +27,10 @@ loop-k-preserved c =
     let l = c.loop-k in
     let b : l.k-index < length s.starts.now = omega (arith, places_all c.requires.0) in
     let k = get_or-take (length s.starts.now) s.order.now l.k-index 0 b in
-    let on = sweep_on s.starts.now s.ends.now s.dur.now s.order.now s.job l.k-index l.done c.requires.0 b c.requires.2 l.invariant in
+    let on = sweep_on s.starts.now s.ends.now s.dur.now s.order.now s.job l.k-index l.done c.requires.0 b c.requires.2 l.invariant _ (rw k at c.comes_first.ensures) in
     elim c.if-comes_first.branch [
-      | then-comes_first w ↦ w.done-is ∙ (rw (w.max.ensures, k) (on true (sym (rw k at c.comes_first.ensures) ∙ w.if-comes_first.true)))
-      | else-comes_first w ↦ w.done-is ∙ on false (sym (rw k at c.comes_first.ensures) ∙ w.if-comes_first.false)
+      | then-comes_first w ↦ w.done-is ∙ (rw (w.advance-done.ensures, k) (rw w.if-comes_first.true at on))
+      | else-comes_first w ↦ w.done-is ∙ (rw w.if-comes_first.false at on)
     ]
 
 pub returns : goal.returns
