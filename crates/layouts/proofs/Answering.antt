@@ -18,7 +18,7 @@ use Rattle.texts.proofs.Readings.{good_same}
 use Rattle.projects.specs.Projects.{Project, pairs_of, WithinLimits}
 use Rattle.walking.specs.Comes.{rows_at}
 use Rattle.precedence.specs.declared.text_pairs.TextPairs.{TextPairs}
-use Rattle.precedence.specs.Pairs.{Pullable, coming}
+use Rattle.precedence.specs.Pairs.{coming}
 use Rattle.parsing.specs.declared.Shape.{Shape}
 use Rattle.parsing.proofs.Parsing.{parsing_few}
 use Rattle.exchange.specs.Calls.{Lent, TextCall, TextAfter, Order, duration_of}
@@ -77,9 +77,6 @@ module _ (c : TextCall) (s : List ℕ) (d : Draft) (z : Shape) (a : Accepted c s
   module _ (q : TextPairs) (e : (q.text.now ≡ s) × (q.n ≡ z.n) × (q.table ≡ z.table) × (q.walk ≡ rows_at z.at)) where
     again : coming q ≡ good (pairs_of x) a.parsing.end
     again = rw (e.0, e.1, e.2, e.3) a.parsing.come
-
-    pub pullable : Pullable q
-    pullable = rw (e.1, e.3) (record { begun = omega arith; owned = omega arith }, few)
 
     pub pair_room : Roomy (coming q) L.jobs L.successors
     pair_room = record { ps = pairs_of x; end = a.parsing.end; come = again; jobs = fits.jobs; successors = fits.successors }

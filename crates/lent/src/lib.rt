@@ -4,7 +4,7 @@
 ghost use Rattle.std.specs.Prelude.{◌≡◌, ℕ, ◌≤◌, length};
 ghost use Rattle.lists.specs.Lists.{◌!◌};
 ghost use Rattle.joblist.specs.Limits.{most_jobs};
-ghost use Rattle.precedence.specs.Pairs.{Pullable, coming};
+ghost use Rattle.precedence.specs.Pairs.{coming};
 ghost use Rattle.lent.specs.Parts.{RoomSays, Lessened, Drafted, FilledFrom, Roomy, Wrote};
 
 use precedence::TextPairs;
@@ -76,7 +76,7 @@ pub fn fill(
 
 // The pairs of the text, in its order, where there is room for them.
 pub fn write_pairs(pairs: TextPairs<'_>, js: &mut [u32], ss: &mut [u32])
-    requires { Pullable pairs × Roomy (coming pairs) js.old ss.old }
+    requires { Roomy (coming pairs) js.old ss.old }
     ensures { Wrote (coming pairs.entry) js.old ss.old js.new ss.new }
 {
     for (i, (a, b)) in pairs.enumerate() {

@@ -1,7 +1,6 @@
 -- The pairs of a text, met one by one along its rows.
-use Rattle.std.specs.Prelude.{ℕ, ◌≤◌, ◌<◌, ◌≡◌, List, [], ◌∷◌, length, drop, Option, Some, None}
+use Rattle.std.specs.Prelude.{ℕ, ◌<◌, ◌≡◌, List, [], ◌∷◌, length, drop, Option, Some, None}
 use Rattle.std.proofs.Common.{arith}
-use Rattle.joblist.specs.Limits.{most_jobs}
 use Rattle.chains.specs.Paths.{Pair, pair}
 use Rattle.texts.specs.Tokens.{Token, tokens}
 use Rattle.texts.specs.Readings.{Read, good}
@@ -19,15 +18,12 @@ PullSays n table s w (Some p) u =
     × Fit n u × Further s w u × (p.0 < n) × (p.1 < n)
 PullSays n table s w None u = (ps : List Pair) (end : List Token) → comes n table s w ≡ good ps end → ps ≡ []
 
--- the reading of the pairs still to come; how many tokens are left; and that the walk fits
+-- the reading of the pairs still to come, and how many tokens are left
 abbrev pub coming : TextPairs → Read (List Pair)
 coming s = comes s.n s.table s.text.now s.walk
 
 abbrev pub left : TextPairs → ℕ
 left s = length (tokens (drop s.walk.at s.text.now))
-
-abbrev pub Pullable : TextPairs → Type 0
-Pullable s = Fit s.n s.walk × (s.n ≤ most_jobs)
 
 -- the next pair of the text, which stays
 pub record Pulled (s : TextPairs) (r : Option (ℕ × ℕ)) (t : TextPairs) : Type 0 where
@@ -35,8 +31,7 @@ pub record Pulled (s : TextPairs) (r : Option (ℕ × ℕ)) (t : TextPairs) : Ty
   pub jobs : t.n ≡ s.n
   pub table : t.table ≡ s.table
   pub text : t.text.now ≡ s.text.now
-  pub few : s.n ≤ most_jobs
 
 pub pulled_draws : (s : TextPairs) (r : Option (ℕ × ℕ)) (t : TextPairs) → Pulled s r t → Drawn (coming s) r (coming t)
-pulled_draws s (Some p) t h = rw (h.jobs, h.table, h.text) (h.says.0, omega (arith, h.says.3, h.few), omega (arith, h.says.4, h.few))
+pulled_draws s (Some p) t h = rw (h.jobs, h.table, h.text) (h.says.0, omega (arith, h.says.3, s.few), omega (arith, h.says.4, s.few))
 pulled_draws s None t h = h.says

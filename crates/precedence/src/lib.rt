@@ -10,7 +10,7 @@ ghost use Rattle.joblist.specs.Limits.{most_time, most_jobs};
 ghost use Rattle.chains.specs.Paths.{Pair, Precedes, Below};
 ghost use Rattle.texts.specs.Tokens.{Token};
 ghost use Rattle.texts.specs.Readings.{good};
-ghost use Rattle.precedence.specs.Pairs.{Pullable, coming};
+ghost use Rattle.precedence.specs.Pairs.{coming};
 ghost use Rattle.precedence.specs.Chains.{ExceedsSays, OrderSays};
 
 use answers::Refusal;
@@ -40,7 +40,7 @@ pub fn longest_chains(
     heads: &mut [u32; screen::MOST_JOBS],
     tails: &mut [u32; screen::MOST_JOBS],
 ) -> Result<(), Refusal>
-    requires n_le_most_jobs { Pullable pairs × (length dur.now ≡ most_jobs) × (heads.old ≡ replicate most_jobs 0) × (tails.old ≡ replicate most_jobs 0) × (h ≤ most_time) }
+    requires n_le_most_jobs { (length dur.now ≡ most_jobs) × (heads.old ≡ replicate most_jobs 0) × (tails.old ≡ replicate most_jobs 0) × (h ≤ most_time) }
     requires by_index { (j : ℕ) → dur.now ! j ≤ most_time }
     ensures { ((ps : List Pair) (end : List Token) → coming pairs.entry ≡ good ps end → Below pairs.entry.n (Precedes ps)
         → OrderSays ps pairs.entry.n dur.now h heads.new tails.new result)

@@ -1,6 +1,7 @@
 // The pairs of a text, met one by one along its rows.
 ghost use Rattle.std.specs.Prelude.{◌≡◌, ◌≤◌};
 ghost use Rattle.joblist.specs.Limits.{most_jobs};
+ghost use Rattle.walking.specs.Walk.{Fit};
 ghost use Rattle.walking.specs.Comes.{rows_at};
 
 use passes::Pairs;
@@ -14,11 +15,14 @@ pub struct TextPairs<'a> {
     pub n: u32,
     pub table: Table,
     pub walk: Walk,
+    ghost fit: { Fit n walk },
+    ghost few: { n ≤ most_jobs },
 }
 
 impl<'a> TextPairs<'a> {
     // Those of the n rows that begin at place `at`.
     pub fn new(text: &'a [u8], n: u32, table: Table, at: usize) -> TextPairs<'a>
+        requires { n ≤ most_jobs }
         ensures { (result.text.now ≡ text.now) × (result.n ≡ n) × (result.table ≡ table) × (result.walk ≡ rows_at at) }
     {
         TextPairs {
@@ -37,10 +41,8 @@ impl<'a> TextPairs<'a> {
 impl<'a> Iterator for TextPairs<'a> {
     type Item = (u32, u32);
 
-    ghost use Rattle.precedence.specs.Pairs.{Pullable, Pulled, left};
+    ghost use Rattle.precedence.specs.Pairs.{Pulled, left};
     ghost use Rattle.std.specs.Iterator.{at_most};
-
-    ghost can_next = { Pullable };
 
     ghost next_gives = { Pulled };
 

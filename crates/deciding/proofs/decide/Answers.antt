@@ -2,8 +2,12 @@
 use native.Mathlib.Omega.{arith}
 use Rattle.std.specs.Prelude.{Ok, Err}
 use Rattle.std.proofs.lemmas.Result.{err_from_is_err_and}
+use Rattle.parsing.proofs.Parsing.{parsing_few}
 use Rattle.deciding.proofs.Deciding.{ordered, no_order, all_passed}
 use Rattle.deciding.proofs.decide.Goals as goal
+
+pub new-pairs-requires : goal.new-pairs-requires
+new-pairs-requires g c = let u = c.in_ok-shape.ensures in parsing_few _ _ _ _ _ _ u.2
 
 pub returns-in_err-longest_chains : goal.returns-in_err-longest_chains
 returns-in_err-longest_chains g c =

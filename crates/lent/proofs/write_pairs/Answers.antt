@@ -24,7 +24,7 @@ drawn e = pulled_draws _ _ _ (came e).0
 room : (e : In-Some) → let l = e.loop-i in (e.in-Some.i < length l.js) × (e.in-Some.i < length l.ss)
 room e =
     let g = e.loop-i.invariant.2 in
-    let r = e.requires.1 in
+    let r = e.requires in
     let m = more_left _ _ _ _ _ _ _ _ g _ _ (drawn e) r.ps r.end r.come in
     let n = (came e).1 in
     (omega (arith, m, n, r.jobs, g.long_js), omega (arith, m, n, r.successors, g.long_ss))
@@ -34,7 +34,7 @@ loop-i-init c =
     let p = c.args.pairs in
     let few = tokens_few (drop p.walk.at p.text.now) in
     let e = c.enumerate-i-items.ensures in
-    rw (c.into_iter-i-iterator.ensures.into_iter_gives, e.source, e.count) ((c.requires.0, tt, inl (omega (arith, few, length-drop p.walk.at p.text.now, c.ranges.pairs.0))), tt, writing_start _ _ _)
+    rw (c.into_iter-i-iterator.ensures.into_iter_gives, e.source, e.count) ((tt, tt, inl (omega (arith, few, length-drop p.walk.at p.text.now, c.ranges.pairs.0))), tt, writing_start _ _ _)
 
 pub offset_bounds-js-i : goal.offset_bounds-js-i
 offset_bounds-js-i c = let h = (room (goal.at.offset_bounds-js-i c).In-Some).0 in search rules

@@ -1,16 +1,17 @@
+use mathlib.Core.Path.{refl}
 use Rattle.precedence.proofs.Pairs.{pulling_start, pulling_row, pulling_pair, pulling_done, pulling_stop}
 use Rattle.precedence.proofs.text_pairs.TextPairsIterator.next.Goals as goal
 
 pub loop-v-init : goal.loop-v-init
-loop-v-init c = pulling_start _ c.requires
+loop-v-init c = pulling_start _
 
 pub advance-requires : goal.advance-requires
-advance-requires c = c.loop-v.invariant.can
+advance-requires c = (c.loop-v.self.fit, c.loop-v.self.few)
 
 pub returns-in-Ok-Successor-clause-steps : goal.returns-in-Ok-Successor-clause-steps
 returns-in-Ok-Successor-clause-steps c =
     let t = rw c.in-Ok-Successor.field-0-is at c.in-Ok-Successor.ensures in
-    pulling_pair _ _ c.loop-v.invariant _ _ t
+    pulling_pair _ _ c.loop-v.invariant _ refl refl refl _ t
 
 pub loop-v-smaller : goal.loop-v-smaller
 loop-v-smaller c =
@@ -20,7 +21,7 @@ loop-v-smaller c =
 pub loop-v-preserved : goal.loop-v-preserved
 loop-v-preserved c =
     let t = rw c.in-Ok-Begun.field-0-is at c.in-Ok-Begun.ensures in
-    pulling_row _ _ c.loop-v.invariant _ _ _ t
+    pulling_row _ _ c.loop-v.invariant _ refl refl refl _ _ t
 
 pub returns-in-Ok-Done-clause-steps : goal.returns-in-Ok-Done-clause-steps
 returns-in-Ok-Done-clause-steps c =
