@@ -6,7 +6,7 @@ use mathlib.Core.Path.{◌≡◌}
 use mathlib.Core.List.{List}
 use Rattle.lists.specs.Lists.{◌!◌}
 use Rattle.lists.specs.Extremes.{LastWith, FirstWith}
-use Rattle.profile.specs.Steps.{behind_all, Points, Levels, Piece}
+use Rattle.profile.specs.Steps.{behind_all, Points, Levels}
 
 module _ (ts ld : List ℕ) (m limit a b : ℕ) where
   -- every function kept is clear of the limit from x up to y
@@ -40,13 +40,6 @@ module _ (ts ld : List ℕ) (m limit a b : ℕ) where
   pub record Down (i : ℕ) : Type 0 where
     pub at : At i
     pub clear : Clear (ts ! (i + 1)) b
-
-  pub down_start : Points ts ld m → a < b → b < behind_all → (i : ℕ) → Piece ts m (b - 1) i → Down i
-  down_start P h g i p =
-      record {
-        at = record { points = P; apart = h; near = g; listed = p.listed; before = omega (arith, p.from); ahead = omega (arith, p.to) };
-        clear = λ f L t x y. absurd (omega (arith, p.to));
-      }
 
   module _ (i : ℕ) (D : Down i) where
     rest : ld ! i ≤ limit → Clear (ts ! i) b
@@ -106,13 +99,6 @@ module _ (ts ld : List ℕ) (m limit a b : ℕ) where
   pub record Up (i : ℕ) : Type 0 where
     pub at : At i
     pub clear : Clear a (ts ! i)
-
-  pub up_start : Points ts ld m → a < b → b < behind_all → (i : ℕ) → Piece ts m a i → Up i
-  up_start P h g i p =
-      record {
-        at = record { points = P; apart = h; near = g; listed = p.listed; before = omega (arith, p.from); ahead = p.to };
-        clear = λ f L t x y. absurd (omega (arith, p.from));
-      }
 
   module _ (i : ℕ) (D : Up i) where
     past : ld ! i ≤ limit → Clear a (ts ! (i + 1))

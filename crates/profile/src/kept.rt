@@ -4,7 +4,8 @@ ghost use Rattle.profile.specs.Keeps.{Growable, Starts, Grows};
 
 use crate::points::{BEHIND_ALL, cut, lift};
 
-// How many points there are, and a level that the function nowhere passes.
+// How many points there are, and a level that the function nowhere passes. It stands beside the two lists, and not in a struct with them: they are slices that
+// the caller lends, to write in `grow` and to read in the walks of `peaks`, and what is kept is said of lists (`profile: Keeps`).
 #[derive(Clone, Copy)]
 pub struct Outline {
     pub m: usize,

@@ -3,9 +3,6 @@ use lib.Count.{ones-le}
 use Rattle.members.proofs.Sets.{ones_drop, ones_end}
 use Rattle.bits.proofs.count.Goals as goal
 
-pub overflow_add-n : goal.overflow_add-n
-overflow_add-n c = omega (arith, ones-le 32 _ (c.type_inv.set c.loop-word.word-index).fits)
-
 pub loop-word-preserved : goal.loop-word-preserved
 loop-word-preserved c =
     let x = c.args.set.now in

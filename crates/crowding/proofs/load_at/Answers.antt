@@ -5,27 +5,12 @@ use lib.ListN.{length}
 use Rattle.narrowing.specs.Windows.{win}
 use Rattle.timetable.specs.Table.{jobs_of}
 use Rattle.crowding.specs.Asked.{asked}
-use Rattle.timetable.proofs.Good.{start_most, ends_sized, durations_sized, demands_sized, duration_most}
 use Rattle.crowding.proofs.Steps.{load_below, load_zero, load_with, load_own, load_apart, load_all, load_fits}
 use Rattle.crowding.proofs.load_at.Goals as goal
 use Rattle.crowding.proofs.load_at.Goals.{then-k-job+then-sure, else-k-job, else-k-job-via-then-k-job+else-sure, else-k-job-via-else-k-job}
 
 pub loop-k-init : goal.loop-k-init
 loop-k-init c = sym (load_zero _ _ _ _)
-
-pub bounds-lct-k : goal.bounds-lct-k
-bounds-lct-k c = omega (arith, ends_sized c.requires.0)
-
-pub bounds-dur-k : goal.bounds-dur-k
-bounds-dur-k c = omega (arith, durations_sized c.requires.0)
-
-pub bounds-dem-k : goal.bounds-dem-k
-bounds-dem-k c = omega (arith, demands_sized c.requires.0)
-
-pub sure-requires : goal.sure-requires
-sure-requires c =
-    let s = c.requires in
-    (start_most s.0 c.loop-k.k, duration_most s.0 c.loop-k.k, s.1)
 
 pub overflow_add-sum : goal.overflow_add-sum
 overflow_add-sum c =

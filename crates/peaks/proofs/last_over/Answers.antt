@@ -1,14 +1,6 @@
 use native.Mathlib.Omega.{arith}
-use Prim.Native.Nat.{◌+◌, ◌-◌}
-use mathlib.Core.Path.{◌≡◌}
-use Rattle.peaks.proofs.Walks.{down_start, down_inner, down_step, down_none, down_found}
+use Rattle.peaks.proofs.Walks.{down_inner, down_step, down_none, down_found}
 use Rattle.peaks.proofs.last_over.Goals as goal
-
-pub loop-i-init : goal.loop-i-init
-loop-i-init c =
-    let p = c.requires in
-    let e : c.find-last.result + 1 - 1 ≡ c.find-last.result = omega arith in
-    (omega arith, rw e (down_start _ _ _ _ _ _ p.0 (omega arith) p.2 _ c.find-last.ensures))
 
 pub loop-i-preserved : goal.loop-i-preserved
 loop-i-preserved c =
@@ -21,6 +13,3 @@ returns-then-limit-ld c =
 
 pub returns-then-ts-i : goal.returns-then-ts-i
 returns-then-ts-i c = λ f K. down_none _ _ _ _ _ _ _ c.loop-i.invariant.1 (omega arith) (omega arith) f K.levels
-
-pub returns-after-loop-i : goal.returns-after-loop-i
-returns-after-loop-i c = absurd (omega arith)

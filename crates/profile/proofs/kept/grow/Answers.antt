@@ -1,17 +1,8 @@
 -- `profile::kept::grow` meets its contract: two points cut and the levels between them lifted raise each function that is kept.
 use native.Mathlib.Omega.{arith}
 use Rattle.profile.proofs.Raised.{before_to, low_all, raises}
-use Rattle.profile.proofs.Keeping.{grows_none, grows}
+use Rattle.profile.proofs.Keeping.{grows}
 use Rattle.profile.proofs.kept.grow.Goals as goal
-
-pub returns-then-hi-lo : goal.returns-then-hi-lo
-returns-then-hi-lo c = grows_none _ _ _ _ _ _ c.if-hi-lo.true
-
-pub cut-to-requires : goal.cut-to-requires
-cut-to-requires c =
-    let C = c.cut-from.ensures in
-    let p = c.requires in
-    (C.points, omega (arith, C.size, C.few, p.room), p.near)
 
 pub lift-top-requires : goal.lift-top-requires
 lift-top-requires c =
