@@ -4,8 +4,8 @@ ghost use Rattle.profile.specs.Keeps.{Growable, Starts, Grows};
 
 use crate::points::{BEHIND_ALL, cut, lift};
 
-// How many points there are, and a level that the function nowhere passes. It stands beside the two lists, and not in a struct with them: they are slices that
-// the caller lends, to write in `grow` and to read in the walks of `peaks`, and what is kept is said of lists (`profile: Keeps`).
+// How many points there are, and a level that the function nowhere passes. It stands beside the two lists, which the caller lends and `grow` writes, and what is
+// kept is said of lists (`profile: Keeps`); where the three are only read, `searches` has them in one struct.
 #[derive(Clone, Copy)]
 pub struct Outline {
     pub m: usize,
