@@ -37,7 +37,7 @@ pub struct ProjectRead {
 }
 
 // What the call gives that names the jobs which cannot be done together: how many are marked, or a refusal, and the marked jobs as a member set. The set
-// stands beside the result, and not in its Ok, since its promise (`conflicts: Promise.Blames`) says that it is all zeros on a refusal.
+// stands beside the result, and not in its Ok, since on a refusal it is promised too: all zeros (`conflicts: Table.unmarked`).
 #[derive(Drop)]
 pub struct Conflict {
     pub answer: Result<u32, Refusal>,

@@ -42,7 +42,7 @@ pub fn put(set: &mut [u32], k: usize)
     }
 }
 
-// The members of `more` become members, as far as the words go.
+// The members of `more` become members, as far as the words go. (By index: what is left behind `iter_mut().zip(..)` the check knows only by the words that it yielded.)
 pub fn join(set: &mut [u32], more: &[u32])
     ensures { set.new ≡ joined set.old more.now }
 {

@@ -13,7 +13,8 @@ ghost use Rattle.loads.specs.Loads.{Spacious, Loaded, LoadedAs};
 use profile::Outline;
 use windows::Side;
 
-// Job by job, each one's sure part raised by its demand.
+// Job by job, each one's sure part raised by its demand; a job is the same place of four lists. The lists of the profile are lent to be written here, and
+// `searches::Load` has them with their outline where they are read.
 pub fn build(
     est: &[u32],
     lct: &[u32],

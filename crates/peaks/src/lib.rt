@@ -1,5 +1,7 @@
 // The last and the first time of a stretch at which a kept function lies over a limit. They are looked for only where the peak does, and only at the points:
-// from one to the next the function is the same.
+// from one to the next the function is the same. Where there is none, what is answered is the stretch's own end, and no Option: so `LastWith` and `FirstWith` (`lists`) say
+// it, and a caller goes on from there. The two are mirror images and not twins: one walks down to a place before, the other up to one behind. They walk by index,
+// since a piece is two points side by side.
 #![tactic(auto)]
 
 ghost use Rattle.std.specs.Prelude.{◌<◌, ◌≤◌};

@@ -1,4 +1,4 @@
-// Windows in code: tested against the job's length (document 02, Item 3), moved by a rule (document 01, 'The two time-tabling rules'), and copied. The search and
+// Windows in code: their two sides, tested against the job's length (document 02, Item 3), moved by a rule (document 01, 'The two time-tabling rules'), and copied. The search and
 // the checker both stand on it.
 #![tactic(auto)]
 
@@ -65,7 +65,7 @@ pub fn lowest_too_short(est: &[u32], lct: &[u32], dur: &[u32]) -> Option<usize>
     (0..est.len()).find(|&i| closed(est, lct, dur, i))
 }
 
-// Copies `from` over the front of `to`, as far as both go.
+// Copies `from` over the front of `to`, as far as both go: `copy_from_slice` asks that both are of one length.
 pub fn copy(from: &[u32], to: &mut [u32])
     ensures { to.new ≡ take (length to.old) from.now ++ drop (length from.now) to.old }
 {
