@@ -19,7 +19,8 @@ OpenSays r s res (Ok z) =
     (o : Opening) × (r ≡ good o (tokens (drop z.at s))) × (o.jobs ≡ z.n) × (o.resources ≡ z.k) × (o.capacities ! res ≡ z.cap) × (z.n ≤ most_jobs) × (length o.capacities ≡ z.k)
 OpenSays r s res (Err c) = r ≡ bad (number_of c)
 
--- a text that says x, and where things stand
+-- a text that says x, and where things stand; durs and dems are lists here, so that their lengths, which the type of the arrays fixes, are said too, for
+-- `deciding::decide`
 pub record Parsing (s : List ℕ) (res : ℕ) (durs dems : List ℕ) (z : Shape) (x : Project) : Type 0 where
   pub jobs : length x.rows ≡ z.n
   pub resources : length x.capacities ≡ z.k

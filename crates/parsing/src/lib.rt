@@ -10,7 +10,7 @@ use rowheads::Table;
 use walking::Walked;
 
 // Job count, resource count, the chosen capacity (0 where there is no such resource) and the place of the rows.
-#[derive(Clone, Copy)]
+#[derive(Clone, Copy, Debug, PartialEq, Eq)]
 struct Opened {
     n: u32,
     k: u32,
@@ -19,7 +19,7 @@ struct Opened {
 }
 
 // Job count, resource count, the chosen capacity, the pair count, and where the rows with the pairs stand.
-#[derive(Clone, Copy)]
+#[derive(Clone, Copy, Debug, PartialEq, Eq)]
 pub struct Shape {
     pub n: u32,
     pub k: u32,
@@ -30,7 +30,7 @@ pub struct Shape {
 }
 
 // A text read whole, with its jobs' durations and their demands of one resource, each in its job's place.
-#[derive(Clone, Copy)]
+#[derive(Clone, Copy, Debug, PartialEq, Eq)]
 pub struct Parsed {
     pub shape: Shape,
     pub dur: [u32; screen::MOST_JOBS],

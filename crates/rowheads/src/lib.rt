@@ -17,15 +17,16 @@ use answers::Refusal;
 use scanner::Got;
 
 // A table of rows: whole jobs on so many resources, as in Patterson's layout; or PSPLIB's precedence relations, and its requests on so many resources.
-#[derive(Clone, Copy)]
+#[derive(Clone, Copy, Debug, PartialEq, Eq)]
 pub enum Table {
     Whole(u32),
     Relations,
     Requests(u32),
 }
 
-// Duration, demand of the chosen resource, successor count, and the place behind them.
-#[derive(Clone, Copy)]
+// Duration, demand of the chosen resource, successor count, and the place behind them. What a row lacks, or what is read later, is 0, as in the Head of
+// `need_head` and `bare` (specs/), of which `with_count` makes a whole one: so `HeadSays` says all of them.
+#[derive(Clone, Copy, Debug, PartialEq, Eq)]
 pub struct RowHead {
     pub duration: u32,
     pub demand: u32,

@@ -1,4 +1,5 @@
-// The tokens of a text, one number at a time (document 01, 'Library layouts'). A number may have any length.
+// The tokens of a text, one number at a time (document 01, 'Library layouts'). A number may have any length. A place in the text is a plain number beside
+// it, here and in the crates above: it is handed on and back, and `drop at text`, what is left from there, is what the contracts speak of.
 #![tactic(auto)]
 
 mod scan;
@@ -14,7 +15,7 @@ pub use scan::first_where;
 use scan::{Next, next_number};
 
 // A number with the place behind it.
-#[derive(Clone, Copy)]
+#[derive(Clone, Copy, Debug, PartialEq, Eq)]
 pub struct Got {
     pub value: u32,
     pub to: usize,
@@ -25,16 +26,10 @@ pub fn next_up_to(text: &[u8], at: usize, top: u32, refusal: Refusal) -> Result<
     ensures { GotSays (one top (number_of refusal) (tokens (drop at text.now))) text.now result }
 {
     match next_number(text, at) {
-        Next::Number(v, to) => {
-            if v <= u64::from(top) {
-                Ok(Got {
-                    value: v as u32,
-                    to,
-                })
-            } else {
-                Err(refusal)
-            }
-        }
+        Next::Number(v, to) => match u32::try_from(v) {
+            Ok(value) if value <= top => Ok(Got { value, to }),
+            _ => Err(refusal),
+        },
         Next::Other | Next::End => Err(Refusal::NoNumber),
     }
 }

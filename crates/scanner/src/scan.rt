@@ -23,7 +23,8 @@ fn is_blank(b: u8) -> bool
     b == b' ' || b == b'\t' || b == b'\r' || b == b'\n'
 }
 
-// The first place from `at` on whose byte passes the test; the text's end where there is none.
+// The first place from `at` on whose byte passes the test; the text's end where there is none. By index, since that place is the answer: `position` over the
+// slice from `at` (not tried) gives how far it is from there, to which `at` would have to be added, cut to the text's length; and None for the end.
 pub fn first_where<F: Fn(u8) -> bool>(text: &[u8], at: usize, test: F) -> usize
     requires { F.IsAlwaysCallable test }
     ensures inside { result ≤ length text.now }
@@ -53,7 +54,7 @@ fn with_digit(v: u64, b: u8) -> u64
     (v * 10 + u64::from(b - b'0')).min(HELD)
 }
 
-// The token that starts at `at`.
+// The token that starts at `at`. By index, since the place behind a number is answered with it.
 fn token_at(text: &[u8], at: usize) -> Next
     ensures { Heads (tokens_inside (number 0) (drop at text.now)) text.now result }
 {

@@ -18,7 +18,7 @@ const BEHIND_NAMES: u32 = 2;
 const BEHIND_HYPHENS: u32 = 3;
 
 // Where the headings of the three tables start.
-#[derive(Clone, Copy)]
+#[derive(Clone, Copy, Debug, PartialEq, Eq)]
 struct Tables {
     relations: usize,
     requests: usize,

@@ -24,14 +24,6 @@ pub record Looking (s : List ℕ) (at found : ℕ) (places : List ℕ) : Type 0 
   pub kept : (k : ℕ) → k < found → section k (marks s) ≡ drop (places ! k) s
   pub later : (j : ℕ) → section (found + j) (marks s) ≡ section j (marks (drop at s))
 
-pub looking_start : (s places : List ℕ) → length places ≡ length headings → Looking s 0 0 places
-looking_start s places h = record {
-  size = h;
-  test = refl;
-  kept = λ k b. absurd (omega arith);
-  later = λ j. let z : 0 + j ≡ j = omega arith in rw z;
-}
-
 module _ (s : List ℕ) (at found : ℕ) (places : List ℕ) (l : Looking s at found places) where
   -- the line has no heading
   pub looking_none : (to : ℕ) → line_mark (drop at s) ≡ [] → drop to s ≡ next_line (drop at s) → Looking s to found places

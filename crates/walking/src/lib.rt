@@ -11,7 +11,7 @@ use answers::Refusal;
 use rowheads::Table;
 
 // A place among the rows: the next row, the successors left of the row before it, and the place in the text.
-#[derive(Clone, Copy)]
+#[derive(Clone, Copy, Debug, PartialEq, Eq)]
 pub struct Walk {
     pub next: u32,
     pub left: u32,
@@ -19,16 +19,15 @@ pub struct Walk {
 }
 
 // A successor; a row's duration and demand; the end of the rows.
-#[derive(Clone, Copy)]
+#[derive(Clone, Copy, Debug, PartialEq, Eq)]
 pub enum Step {
     Successor(u32, Walk),
     Begun(u32, u32, Walk),
     Done,
 }
 
-// The rows read: the jobs' durations and their demands of one resource, each in its job's place, and zeros behind them; the number of pairs; and the place
-// behind the rows.
-#[derive(Clone, Copy)]
+// The rows read: the jobs' durations and their demands of one resource, each in its job's place; the number of pairs; and the place behind the rows.
+#[derive(Clone, Copy, Debug, PartialEq, Eq)]
 pub struct Walked {
     pub dur: [u32; screen::MOST_JOBS],
     pub dem: [u32; screen::MOST_JOBS],
@@ -36,7 +35,9 @@ pub struct Walked {
     pub at: usize,
 }
 
-// One step along the rows.
+// One step along the rows. Text, n, table and res go side by side here, in `validate` and in `rowheads::read_front`, and stand in precedence's TextPairs (res is
+// 0 there): `head_in`, `seeing`, `comes` and `StepSays` take them one by one, and a struct of them would be taken apart in each contract and in each proof up to
+// `layouts` that cites these.
 pub fn advance(text: &[u8], n: u32, table: Table, res: u32, w: Walk) -> Result<Step, Refusal>
     requires { Fit n w × (n ≤ most_jobs) }
     ensures { StepSays n table res text.now w result }

@@ -4,15 +4,21 @@ use borrow.Author.Rules.{rules}
 use Rattle.scanner.proofs.Numbers.{one_good, one_large, one_neither}
 use Rattle.scanner.proofs.next_up_to.Goals as goal
 
-pub returns-then-v-from : goal.returns-then-v-from
-returns-then-v-from c =
-    let q = rw c.in-Number.is at c.next_number.ensures in
-    one_good _ _ _ _ _ _ (search rules) q.1 (omega (arith, c.if-v-from.true, c.from.ensures)) q.2
+pub returns-in-Ok : goal.returns-in-Ok
+returns-in-Ok c =
+    let q = c.in-Number.ensures in
+    let v = c.in-Ok.ensures.1 in
+    rw v (one_good _ _ _ _ _ _ (search rules) q.1 (omega (arith, c.if-value-top.true, v)) q.2)
 
-pub returns-else-v-from : goal.returns-else-v-from
-returns-else-v-from c =
-    let q = rw c.in-Number.is at c.next_number.ensures in
-    one_large _ _ _ _ _ _ q.1 (omega (arith, c.if-v-from.false, c.from.ensures)) q.2
+pub returns-in_default : goal.returns-in_default
+returns-in_default c =
+    let q = c.in-Number.ensures in
+    one_large _ _ _ _ _ _ q.1 (omega (arith, c.if-value-top.false, c.in-Ok.ensures.1)) q.2
+
+pub returns-in_default-2 : goal.returns-in_default-2
+returns-in_default-2 c =
+    let q = c.in-Number.ensures in
+    one_large _ _ _ _ _ _ q.1 (omega (arith, c.in_default.ensures, c.ranges.top.fits)) q.2
 
 pub returns-in-Other : goal.returns-in-Other
 returns-in-Other c = one_neither _ _ _ _ _ c.in-Other.is c.next_number.ensures
