@@ -32,42 +32,46 @@ fn advance(done: u32, e: u32, p: u32) -> u32
     if done < e { e + p } else { done + p }
 }
 
-// The greatest value, over the non-empty sets of jobs that come before the job, of least e plus total p; 0 where none comes first. One pass, with one
-// comparison a job.
-fn bound_of(
-    starts: &[u32],
-    ends: &[u32],
-    dur: &[u32],
-    order: &[usize; MOST_JOBS],
-    job: usize,
-) -> u32
-    requires { Ready (length starts.now) starts.now ends.now dur.now order.now × (job < length starts.now) × (1 ≤ dur.now ! job) }
-    ensures { result ≡ early_bound (length starts.now) dur.now (told starts.now ends.now) job }
-{
-    let end = starts[job] + dur[job];
-    let mut done = 0;
-    for &k in &order[..starts.len()] {
-        if comes_first(k, job, end, ends[k], dur[k]) {
-            done = advance(done, starts[k], dur[k]);
-        }
-    }
-    done
+// The lists as they are lent for one search: earliest starts, latest ends counted back, durations, and the jobs by rising earliest start. For the other side they
+// are lent anew, told the other way round.
+#[derive(Clone, Copy)]
+pub struct Lent<'a> {
+    pub starts: &'a [u32],
+    pub ends: &'a [u32],
+    pub dur: &'a [u32],
+    pub order: &'a [usize; MOST_JOBS],
+    ghost ready: { Ready (length starts.now) starts.now ends.now dur.now order.now },
 }
 
-// The earliest start of a job after the rule: the greatest that it gives, or the present one where it gives none.
-pub fn start(
-    starts: &[u32],
-    ends: &[u32],
-    dur: &[u32],
-    order: &[usize; MOST_JOBS],
-    job: usize,
-) -> u32
-    requires { Ready (length starts.now) starts.now ends.now dur.now order.now × (job < length starts.now) }
-    ensures { result ≡ found_or (starts.now ! job) (detect (length starts.now) dur.now (told starts.now ends.now) job early) }
-{
-    if dur[job] == 0 {
-        starts[job]
-    } else {
-        starts[job].max(bound_of(starts, ends, dur, order, job))
+impl Lent<'_> {
+    // The greatest value, over the non-empty sets of jobs that come before the job, of least e plus total p; 0 where none comes first, and no
+    // Option: it equals `early_bound` (heads: Search), which is said so. One pass, with one comparison a job.
+    fn bound_of(self, job: usize) -> u32
+        requires { (job < length self.starts.now) × (1 ≤ self.dur.now ! job) }
+        ensures { result ≡ early_bound (length self.entry.starts.now) self.entry.dur.now (told self.entry.starts.now self.entry.ends.now) job }
+    {
+        // copied out: the borrow checker covers no slice of an array behind a field
+        let order = self.order;
+        let end = self.starts[job] + self.dur[job];
+        let mut done = 0;
+        for &k in &order[..self.starts.len()] {
+            if comes_first(k, job, end, self.ends[k], self.dur[k]) {
+                done = advance(done, self.starts[k], self.dur[k]);
+            }
+        }
+        done
+    }
+
+    // The earliest start of a job after the rule: the greatest that it gives, or the present one where it gives none. It is no Option: a bound that is no later
+    // gives none, so that the later of the two is the whole answer, as `found_or` says it.
+    pub fn start(self, job: usize) -> u32
+        requires { job < length self.starts.now }
+        ensures { result ≡ found_or (self.entry.starts.now ! job) (detect (length self.entry.starts.now) self.entry.dur.now (told self.entry.starts.now self.entry.ends.now) job early) }
+    {
+        if self.dur[job] == 0 {
+            self.starts[job]
+        } else {
+            self.starts[job].max(self.bound_of(job))
+        }
     }
 }

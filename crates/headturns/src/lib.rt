@@ -7,10 +7,12 @@ ghost use Rattle.windows.specs.Sides.{side_is};
 ghost use Rattle.ahead.specs.Ready.{Ready};
 ghost use Rattle.headturns.specs.Turns.{head_lists, Both, TurnOn, TurnSays};
 
+use ahead::Lent;
 use screen::{MOST_JOBS, MOST_TIME};
 use windows::Side;
 
-// What a turn comes to: the side rests, it moved, or its move would close the window.
+// What a turn comes to: the side rests, it moved, or its move would close the window. It is no `turns::Turn`, where a move tells its old bound and a record may
+// have no room: here neither is, and `sequencing` would match a case that never comes.
 #[derive(Clone, Copy, Debug, PartialEq, Eq)]
 pub enum Turn {
     Rests,
@@ -18,8 +20,7 @@ pub enum Turn {
     Closed,
 }
 
-// One turn on side 0 of the windows with these starts, and these ends counted back. The order by rising start is kept. The lists are no fields of a struct,
-// since `take_turn` lends them the other way round for side 1.
+// One turn on side 0 of the windows with these starts, and these ends counted back. The order by rising start is kept.
 fn turn_on(
     starts: &mut [u32],
     ends: &[u32],
@@ -30,7 +31,14 @@ fn turn_on(
     requires { Ready (length starts.old) starts.old ends.now dur.now order.old × (job < length starts.old) }
     ensures { TurnOn starts.old ends.now dur.now order.old job starts.new order.new result }
 {
-    let to = ahead::start(starts, ends, dur, order, job);
+    let lent = Lent {
+        starts,
+        ends,
+        dur,
+        order,
+    };
+    let to = lent.start(job);
+    // the present start says that no rule applies: `start` ensures `found_or`, and a bound is later
     if to == starts[job] {
         Turn::Rests
     } else if MOST_TIME - ends[job] < to + dur[job] {

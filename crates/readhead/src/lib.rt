@@ -19,7 +19,8 @@ fn find(est: &[u32], lct: &[u32], dur: &[u32]) -> Option<Overload>
     requires { Good (win est.now lct.now) dur.now }
     ensures { says_overload (Ok result) ≡ found_said (overload (length est.now) dur.now (win est.now lct.now)) }
 {
-    // The memory is fixed, since a call cannot fail, so that no Vec holds them.
+    // The lists are arrays: the memory is fixed, since a call cannot fail, so that no Vec holds them. They are three, and no array of structs: `order` and `places`
+    // fill one each, and `Ordered` and `Placed` are said of a list.
     let mut place = [0usize; MOST_JOBS];
     let mut starts = [0usize; MOST_JOBS];
     let mut stops = [0usize; MOST_JOBS];

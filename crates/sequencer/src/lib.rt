@@ -8,8 +8,9 @@ ghost use Rattle.heads.specs.Promise.{left, Sequences};
 use answers::Answer;
 
 // Windows narrowed by detectable precedences, for any numbers whatever. The work is done on copies of the windows, and the caller's are written only where
-// it settles. The copies are arrays, since the memory is fixed. `planner::narrow` makes such copies too: what both share is `windows::save` and `restore`, and a
-// function round the rest would take each call's tests and work as closures, whose contracts are longer than these lines.
+// it settles. The copies are arrays, since the memory is fixed. `planner::narrow` makes such copies too: what both share is `windows::save` and `restore`. A function
+// round the rest would take the tests, the work on the copies and what a refusal leaves of the log as closures, and the relation that the work keeps, `Works`,
+// which differs in each: their contracts are longer than these lines.
 pub fn sequence(est: &mut [u32], lct: &mut [u32], dur: &[u32]) -> Answer
     ensures { Sequences (win est.old lct.old) dur.now (left (says result) (win est.new lct.new)) }
 {

@@ -15,7 +15,9 @@ use places::Place;
 use screen::MOST_JOBS;
 
 // Turns until a round has changed nothing, or a move closes a window, on windows told from both ends. What falls with each turn is the moves that may still
-// come, then whether another round is to follow, then what is left of this one.
+// come, then whether another round is to follow, then what is left of this one. It never refuses, and returns an Answer since `Works` is said of the answer.
+// `rounds::work` walks the places alike: one loop for both would be generic over the state that a turn moves, here windows and orders, there windows, load and
+// log, over the turn function, and over the relation of run, answer and state that it keeps; each of the two would tell it all that, and be longer than its loop.
 fn take_turns(
     starts: &mut [u32],
     ends: &mut [u32],
@@ -56,7 +58,7 @@ pub fn work(est: &mut [u32], lct: &mut [u32], dur: &[u32]) -> Answer
     requires { GoodHead (win est.old lct.old) dur.now × Long (length est.old) dur.now (win est.old lct.old) }
     ensures { Works (win est.old lct.old) dur.now result (win est.new lct.new) }
 {
-    // The memory is fixed, since a call cannot fail, so that no Vec holds them.
+    // The lists are arrays: the memory is fixed, since a call cannot fail, so that no Vec holds them.
     let mut fore = [0usize; MOST_JOBS];
     let mut rear = [0usize; MOST_JOBS];
     mirrors::count_back(lct);

@@ -18,7 +18,8 @@ const NODES: usize = 2 * MOST;
 // An empty node's completion: below every time in use, whatever total duration comes after it.
 const EMPTY: i64 = -1_000_000_000_000;
 
-// The arrays are in range and every inner node is what its children say: no caller has to ask for it.
+// The arrays are in range and every inner node is what its children say: no caller has to ask for it. They are two, and no array of nodes, since `Climbed`,
+// `descent` and `Sound` are said of a list of sums and a list of ends.
 #[derive(Drop)]
 pub struct Tree {
     sums: [u32; NODES],
