@@ -9,6 +9,9 @@ ghost use Rattle.timetable.specs.Reason.{named};
 ghost use Rattle.codes.specs.Codes.{lean};
 ghost use Rattle.exam.specs.Lent.{jobs_in, Drawn, LetThrough};
 
+// `Drawn` is the one word for demands that passed the tests, asked in each contract: as the invariant of a struct it would wrap this one list, and `judge`
+// would have to build that and prove it.
+
 // The demands of the members.
 fn members_draw(dem: &[u32], words: &[u32; logs::RECORD]) -> u32
     requires { Drawn dem.now }

@@ -1,4 +1,7 @@
 // What a record has to be (document 01, 'Answer table'), a function for each test: codes 21, 22, 23 and 26. `draws` has 24 and 27, `stated` 25.
+// A record is the caller's own twelve words (01, 'Log records'), read in place: the definitions (`code`, `stated_true`) speak of the list of its words, and each
+// contract would have to say of a struct of job, side, time and set that it agrees with that list. `as usize` loses nothing of a word: by `usize::try_from` it
+// would be a Result that cannot fail.
 #![tactic(auto)]
 
 ghost use Rattle.std.specs.Prelude.{◌≡◌, ℕ, Bool, true, [], ◌*◌, ◌≤◌, ◌<◌, eqb, length};
@@ -23,8 +26,10 @@ pub fn in_range(n: usize, words: &[u32; logs::RECORD]) -> bool
         && words[logs::TIME_WORD] <= screen::MOST_TIME
 }
 
-// Whether every member passes the test. Every bit of the set is looked at.
-// It is a `for`: under `all`, alone or behind `filter`, the proof that the test is asked of members alone did not close.
+// Whether every member passes the test. Every bit of the set is looked at; `few` lets their number fit.
+// It is a `for`: the closure of an `all` over the bits would need a `requires` of its own that says `asked` again, since it is else taken to ask that the test may
+// be called on every number (`always_fn`); and behind `filter(..)`, `all(test)` is told by std (`all_from_yields_List`) from what the test answers at every
+// number, where the contract says it of members alone.
 pub fn every_member<F: Fn(usize) -> bool>(set: &[u32], test: F) -> bool
     requires few { length set.now ≤ set_words }
     requires asked { (k : ℕ) → has set.now k ≡ true → F.pre test k }

@@ -10,6 +10,10 @@ ghost use Rattle.exam.specs.Lent.{jobs_in};
 
 use answers::Code;
 
+// The lists and the capacity go from call to call as the desk lends them (01, 'Job lists'), here and in `replay`, `checker` and `tracer`, and `Good` is the one
+// word for what is asked of them. `searches::JobList` is of the search, on which the checker does not stand; and it lends the windows to be read only, so that
+// `replay`, which moves them between two records, would build it anew for each.
+
 // Whether a record is good on the windows reached; else the code of the first test that it fails.
 #[tactic(auto, using(crate::proofs::Chain::code_is))]
 pub fn code_of(

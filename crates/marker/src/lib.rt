@@ -26,7 +26,8 @@ fn walk_back(log: &[u32], count: usize, job: usize) -> [u32; bits::WORDS]
     set
 }
 
-// The marks and how many they are.
+// The marks and how many they are, in the form of the call that gives them on, `tracer::conflict`: so the clause is `marking`, the table's row of a clash.
+// The answer is always Ok: who has a clash has passed what refuses.
 pub fn marks(log: &[u32], count: usize, job: usize) -> Conflict
     requires { (count ≤ room_of log.now) × (job < most_jobs) }
     ensures { blame (says_conflict result.answer) result.set ≡ marking log.now count job }

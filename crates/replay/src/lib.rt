@@ -34,6 +34,7 @@ pub fn replayed(
     ensures { verdict result (win est.new lct.new) ≡ replay (jobs_in (length dur.now) dur.now dem.now cap) (win est.old lct.old) 0 (records log.now 0 count) }
 {
     for i in 0..count {
+        // a record that the log has is whole, so that it is an array of its words
         let words = logs::show_record(log, i).as_array().unwrap();
         judge::code_of(est, lct, dur, dem, cap, words).map_err(|code| Bad { place: i, code })?;
         let job = words[logs::JOB_WORD] as usize;

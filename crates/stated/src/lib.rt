@@ -11,6 +11,8 @@ ghost use Rattle.windows.specs.Sides.{side_is};
 
 use windows::Side;
 
+// `Timed` is the one word for lists that passed the tests; what each contract asks besides is of its own job, and the bound of the time.
+
 // The moved job's own fact: on side 0 it starts no earlier than t - p + 1, on side 1 no later than t.
 fn own_true(est: &[u32], lct: &[u32], dur: &[u32], job: usize, side: Side, t: u32) -> bool
     requires { Timed (win est.now lct.now) dur.now × (job < length dur.now) × (t ≤ most_time) }

@@ -36,14 +36,14 @@ pub returns-in-Err : goal.returns-in-Err
 returns-in-Err c =
     let k = called (goal.at.returns-in-Err c).Start in
     let r = c.in-Err.refusal in
-    rw c.into.ensures (promised k c.args.count _ (row_refused k c.args.count (number_of r) (number_not_0 r) c.in-Err.ensures))
+    rw c.from.ensures (promised k c.args.count _ (row_refused k c.args.count (number_of r) (number_not_0 r) c.in-Err.ensures))
 
 pub returns-then-room-count : goal.returns-then-room-count
 returns-then-room-count c =
     let at = goal.at.returns-then-room-count c in
     let k = called at.Start in
     let n = c.args.count in
-    rw c.into-then-room-count.ensures
+    rw c.from-then-room-count.ensures
     (promised k n _ (row_six k n (call_admitted k (admitted at.In_default)) (omega (arith, c.room.ensures, c.if-room-count.true))))
 
 pub lowest_too_short-requires : goal.lowest_too_short-requires
@@ -54,7 +54,7 @@ returns-then-count-gt0 c =
     let at = goal.at.returns-then-count-gt0 c in
     let k = called at.Start in
     let n = c.args.count in
-    rw c.into-then-count-gt0.ensures
+    rw c.from-then-count-gt0.ensures
     (promised k n _ (row_short_claimed k n _ (admitted at.In_default) (too_short at.In-Some) (omega (arith, c.if-count-gt0.true)) (enough at.Else-room-count)))
 
 pub returns-else-count-gt0 : goal.returns-else-count-gt0

@@ -59,7 +59,7 @@ pub returns-in-Err : goal.returns-in-Err
 returns-in-Err c =
     let at = goal.at.returns-in-Err c in
     let bad = c.in-Err.bad in
-    rw c.into.ensures (row_rejected (asked at.Start) c.args.count (meant at.Start) bad.place (code_number bad.code) (c.in-Err.ensures ∙ seen at.After-replayed))
+    rw c.from.ensures (row_rejected (asked at.Start) c.args.count (meant at.Start) bad.place (code_number bad.code) (c.in-Err.ensures ∙ seen at.After-replayed))
 
 pub returns-in-Ok-Some : goal.returns-in-Ok-Some
 returns-in-Ok-Some c =

@@ -20,7 +20,7 @@ use Rattle.replay.proofs.replayed.Goals.{After-closed, After-shift, After-show_r
 
 shown-length : (d : After-show_record) → length d.show_record.result.now ≡ record_words
 shown-length d =
-    ap length d.show_record.ensures ∙ record_length d.args.log.now d.loop-i.i-counter (omega (arith, d.requires.1, d.loop-i-test.true))
+    ap length d.show_record.ensures ∙ record_length d.args.log.now _ (omega (arith, d.requires.1, d.loop-i-test.true))
 
 shown : (d : After-unwrap-words) → d.unwrap-words.result.now ≡ record_at d.args.log.now d.loop-i.i-counter
 shown d = let whole = rw d.unwrap-words.ensures at d.as_array.ensures.cases in whole.same ∙ d.show_record.ensures
