@@ -26,21 +26,18 @@ pub fn in_range(n: usize, words: &[u32; logs::RECORD]) -> bool
         && words[logs::TIME_WORD] <= screen::MOST_TIME
 }
 
-// Whether every member passes the test. Every bit of the set is looked at; `few` lets their number fit.
-// It is a `for`: the closure of an `all` over the bits would need a `requires` of its own that says `asked` again, since it is else taken to ask that the test may
-// be called on every number (`always_fn`); and behind `filter(..)`, `all(test)` is told by std (`all_from_yields_List`) from what the test answers at every
-// number, where the contract says it of members alone.
+// Whether every member passes the test. Every bit of the set is looked at; `few` lets their number fit. The closure asks at its bit what `asked` says: without
+// that line it would be taken to ask that the test may be called on every number.
 pub fn every_member<F: Fn(usize) -> bool>(set: &[u32], test: F) -> bool
     requires few { length set.now ≤ set_words }
     requires asked { (k : ℕ) → has set.now k ≡ true → F.pre test k }
     ensures { (f : ℕ → Bool) → ((k : ℕ) (b : Bool) → has set.now k ≡ true → F.post test k b → b ≡ f k) → result ≡ every (λ k. where? (has set.now k) (f k)) (32 * length set.now) }
 {
-    for k in 0..bits::BITS * set.len() {
-        if bits::has(set, k) && !test(k) {
-            return false;
-        }
-    }
-    true
+    (0..bits::BITS * set.len()).all(
+        |k|
+            requires { has set.now k ≡ true → F.pre test k }
+        { !bits::has(set, k) || test(k) },
+    )
 }
 
 // Whether k is in the list, with a duration and a demand.

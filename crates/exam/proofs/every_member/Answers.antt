@@ -1,32 +1,19 @@
+-- `exam::every_member` meets its contract: `all` passes where each bit does.
 use Prim.Native.Nat.{◌*◌}
-use mathlib.Core.Path.{sym, ◌∙◌}
+use native.Mathlib.Nat.{sub-zero}
+use mathlib.Core.Path.{refl, ◌∙◌}
 use lib.ListN.{length}
+use borrow.Author.Tests.{tests}
+use Rattle.std.proofs.Common.{rules}
+use Rattle.std.proofs.lemmas.Iterator.{YieldsList-from_range}
+use Rattle.std.proofs.lemmas.Iterator.Search.{all_from_yields_List}
 use Rattle.lists.specs.Tests.{where?}
-use Rattle.lists.proofs.Tests.{every_none, every_more, every_fault, every_end}
 use Rattle.members.specs.Members.{has}
+use Rattle.exam.proofs.Steps.{all_every}
 use Rattle.exam.proofs.every_member.Goals as goal
-use Rattle.exam.proofs.every_member.Goals.{else-has-via-then-has+else-not-test, else-has-via-else-has}
-
-pub loop-k-init : goal.loop-k-init
-loop-k-init g c = λ f h. every_none _
-
-pub returns-then-not-test : goal.returns-then-not-test
-returns-then-not-test g c = λ f h.
-    let s = c.args.set.now in
-    sym
-    (every_fault (λ k. where? (has s k) (f k)) (32 * length s) c.loop-k.k c.loop-k-test.true
-    (rw (sym c.has.ensures ∙ c.if-has.true)
-    (sym (h c.loop-k.k c.test.result (sym c.has.ensures ∙ c.if-has.true) c.test.ensures) ∙ c.if-not-test.true)))
-
-pub loop-k-preserved : goal.loop-k-preserved
-loop-k-preserved g c = λ f h.
-    elim c.else-has.branch [
-      | else-has-via-then-has+else-not-test w ↦
-          every_more _ c.loop-k.k (c.loop-k.invariant f h)
-          (rw (sym c.has.ensures ∙ w.if-has.true)
-          (sym (h c.loop-k.k w.test.result (sym c.has.ensures ∙ w.if-has.true) w.test.ensures) ∙ w.if-not-test.false))
-      | else-has-via-else-has w ↦ every_more _ c.loop-k.k (c.loop-k.invariant f h) (rw (sym c.has.ensures ∙ w.if-has.false))
-    ]
 
 pub returns : goal.returns
-returns g c = λ f h. sym (every_end _ _ c.loop-k.k c.loop-k.auto.k-end c.loop-k-test.false (c.loop-k.invariant f h))
+returns g c = λ f h.
+    let s = c.args.set.now in
+    all_from_yields_List (λ k. where? (has s k) (f k)) _ _ c.all.result c.all.ensures.ran (YieldsList-from_range 0 (32 * length s) _ refl (sub-zero (32 * length s))) (λ x b q k. search (rules, tests))
+    ∙ all_every (λ k. where? (has s k) (f k)) (32 * length s)
