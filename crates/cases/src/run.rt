@@ -16,7 +16,7 @@ pub const USUAL: usize = 8 * logs::RECORD;
 // The most words of a run's lists: four of jobs and such a log, each behind its length.
 const WORDS: usize = 4 * (screen::MOST_JOBS + 2) + USUAL + 1;
 
-// The lists of a call, packed in the first `at` words.
+// The lists of a call, packed in the first `at` words: an array, since there is no heap, and `at`, since no slice grows.
 #[derive(Drop)]
 struct Lists {
     words: [u32; WORDS],

@@ -9,13 +9,17 @@ ghost use Rattle.io.specs.Counts.{IsPrefixLen};
 use intake::Reader;
 use std::io::Read;
 
-// Numbers, each behind a space, into all of the lent places.
-fn fill<T: TryFrom<u64> + Copy>(reader: &mut Reader<impl Read>, into: &mut [T]) -> Option<()>
+// Numbers, each behind a space and at most `most`, into all of the lent places.
+fn fill<T: TryFrom<u64> + Copy>(
+    reader: &mut Reader<impl Read>,
+    into: &mut [T],
+    most: u64,
+) -> Option<()>
 where
     T::Error: Drop,
 {
     for x in into.iter_mut() {
-        *x = T::try_from(reader.number(u64::MAX)?).ok()?;
+        *x = T::try_from(reader.number(most)?).ok()?;
     }
     Some(())
 }
@@ -28,7 +32,7 @@ fn list(reader: &mut Reader<impl Read>, into: &mut [u32], most: u32) -> Option<u
     let (length, room) = into.split_first_mut()?;
     let count = reader.number(u64::from(most).min(room.len() as u64))?;
     *length = count as u32;
-    fill(reader, &mut room[..count as usize])?;
+    fill(reader, &mut room[..count as usize], u64::from(u32::MAX))?;
     Some(1 + count as usize)
 }
 
@@ -53,6 +57,6 @@ pub fn bytes(reader: &mut Reader<impl Read>, into: &mut [u8]) -> Option<usize>
     ensures { IfSome result (λ n. IsPrefixLen n into.new) }
 {
     let n = reader.number(into.len() as u64)? as usize;
-    fill(reader, &mut into[..n])?;
+    fill(reader, &mut into[..n], u64::from(u8::MAX))?;
     Some(n)
 }

@@ -1,7 +1,7 @@
 // A line of input of a given form, read whole behind its first word: its numbers, its lists and its bytes.
 #![tactic(auto)]
 
-ghost use Rattle.std.specs.Prelude.{true, ◌≡◌, IfSome, IsSome};
+ghost use Rattle.std.specs.Prelude.{true, ◌≡◌, ◌≤◌, IfSome, IsSome};
 ghost use Rattle.io.specs.Counts.{IsPrefixLen};
 ghost use Rattle.intake.specs.Line.{line_end};
 
@@ -19,7 +19,7 @@ pub struct Lists {
 }
 
 // What stands in a line, in this order: none, one or two numbers below 2^32, perhaps one below 2^64, lists, more lists, and
-// perhaps a list of bytes.
+// perhaps a list of bytes. (How many, and whether: `requests: Names.line_form`, `form_of` say these fields, and are the contract of `Call::form`.)
 #[derive(Clone, Copy)]
 pub struct Form {
     pub shorts: u32,
@@ -29,13 +29,21 @@ pub struct Form {
     pub bytes: bool,
 }
 
-// A line that was read: its numbers, each 0 where there is none, and how many bytes it has.
+// A line that was read: its numbers, each 0 where there is none, and how many bytes it has. (No Option: a call has them by its form, which says which
+// there are, and takes them as numbers, as the contracts of `jobcalls` and `projectcalls` say.)
 #[derive(Clone, Copy)]
 pub struct Line {
     pub first: u32,
     pub second: u32,
     pub long: u64,
     pub bytes: usize,
+}
+
+// The number behind a space, at most `most`, where one is asked for, or 0.
+fn number_if(reader: &mut Reader<impl Read>, asked: bool, most: u64) -> Option<u64>
+    ensures { IfSome result (λ value. value ≤ most) }
+{
+    if asked { reader.number(most) } else { Some(0) }
 }
 
 // Reads the rest of a line: its lists into the lent words, each behind its length and one behind the other, its bytes into the lent ones.
@@ -49,21 +57,9 @@ pub fn read(
     ensures whole { IsSome result → line_end reader.new.cursor.now ≡ true }
     ensures bytes { IfSome result (λ line. IsPrefixLen line.bytes text.new) }
 {
-    let first = if 0 < form.shorts {
-        reader.number(SHORT)?
-    } else {
-        0
-    };
-    let second = if 1 < form.shorts {
-        reader.number(SHORT)?
-    } else {
-        0
-    };
-    let long = if form.long {
-        reader.number(u64::MAX)?
-    } else {
-        0
-    };
+    let first = number_if(reader, 0 < form.shorts, SHORT)?;
+    let second = number_if(reader, 1 < form.shorts, SHORT)?;
+    let long = number_if(reader, form.long, u64::MAX)?;
     let few = fields::lists(reader, words, form.lists.count, form.lists.most)?;
     fields::lists(reader, &mut words[few..], form.more.count, form.more.most)?;
     let bytes = if form.bytes {

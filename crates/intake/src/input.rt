@@ -1,8 +1,8 @@
 // The bytes of standard input, one after another, line by line.
 //
 // The input comes in parts of any size into a source that the caller lends; a small cursor says at which byte a reader stands.
-ghost use Rattle.std.specs.Prelude.{true, false, ◌≡◌, ◌≤◌, ◌<◌, ◌-◌, IfSome, IsSome};
-ghost use Rattle.intake.specs.Line.{line_end, at_byte};
+ghost use Rattle.std.specs.Prelude.{true, false, ◌≡◌, ◌≤◌, ◌<◌, ◌-◌, IfSome, IsSome, IsNone};
+ghost use Rattle.intake.specs.Line.{line_end, at_byte, at_digit};
 
 use std::io::Read;
 
@@ -24,7 +24,9 @@ impl Cursor {
 
     // The digit that it stands at, if it does.
     pub(crate) fn digit(self) -> Option<u8>
-        ensures { IfSome result (λ d. (d ≤ 9) × (0 < self.left)) }
+        ensures within { IfSome result (λ d. (d ≤ 9) × (0 < self.left)) }
+        ensures some { IsSome result → at_digit self.now ≡ true }
+        ensures none { IsNone result → at_digit self.now ≡ false }
     {
         match self.now {
             Some(byte @ b'0'..=b'9') => Some(byte - b'0'),

@@ -4,4 +4,4 @@
 mod input; // input.rt: the bytes, one after another
 mod words; // words.rt: words and numbers
 
-pub use input::{Cursor, Reader};
+pub use input::Reader;

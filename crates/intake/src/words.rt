@@ -1,5 +1,5 @@
 // A line's first word and its numbers, taken one after another.
-ghost use Rattle.std.specs.Prelude.{false, ◌≡◌, ◌≤◌, IfSome, IsNone, length};
+ghost use Rattle.std.specs.Prelude.{false, ◌≡◌, ◌≤◌, ◌-◌, IfSome, IsNone, length};
 ghost use Rattle.intake.specs.Line.{at_byte};
 
 use crate::input::Reader;
@@ -7,10 +7,11 @@ use std::io::Read;
 
 impl<R: Read> Reader<'_, R> {
     // The number behind a space, at most `most`: one or more digits, however many zeros come first. None where the line has no such
-    // number there; no byte more of it is read then.
+    // number there; no byte more of it is read then. Behind a space that no digit follows there is none: it takes two bytes or more.
     pub fn number(&mut self, most: u64) -> Option<u64>
         ensures within { IfSome result (λ value. value ≤ most) }
-        ensures spoiled { at_byte self.old.cursor.now 32 ≡ false → IsNone result }
+        ensures no_space { at_byte self.old.cursor.now 32 ≡ false → IsNone result }
+        ensures no_digit { IfSome result (λ value. self.new.cursor.left ≤ self.old.cursor.left - 2) }
     {
         if !self.cursor.is_at(b' ') {
             return None;

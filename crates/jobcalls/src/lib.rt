@@ -26,7 +26,8 @@ fn put_windows(words: &mut [u32], est: &[u32], lct: &[u32])
 
 // narrow CAP est lct dur dem log
 // check CAP COUNT est lct dur dem log
-// (Each array is the room of a copy: desk calls cannot fail, so there is no heap.)
+// (Each array is the room of a copy: desk calls cannot fail, so there is no heap. Narrowing asks for no count; docs/EXCEPTIONS.md names this one function
+// for both, as the calls differ in one line.)
 pub fn narrow_or_check(words: &mut [u32], task: Task, cap: u32, count: usize) -> Saying {
     let mut est = [0; JOBS];
     let mut lct = [0; JOBS];

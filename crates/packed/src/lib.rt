@@ -1,5 +1,6 @@
 // Lists packed into one list of words, one behind the other, each as its length and then its numbers: found, copied out and put back.
-// They stand as a line of input or output has them (docs/ANSWERS.md). Nothing here knows of jobs.
+// They stand as a line of input or output has them (docs/ANSWERS.md), where a length is a word as the numbers are, so the lists are no slices that a
+// caller has: he lends the words, and the room of a copy. Nothing here knows of jobs.
 #![tactic(auto)]
 
 ghost use Rattle.std.specs.Prelude.{◌≡◌, ◌≤◌, suc, length, take};

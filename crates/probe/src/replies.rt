@@ -1,6 +1,6 @@
 // The reply to a line of input: the call that it asks for is made over the lists of the line, which stand packed in lent words and are changed there;
 // what it says is shown in the sink, and behind it the lists that the call may change, as they are afterwards, the part that `record` shows, or the set that
-// `conflict` gives (docs/ANSWERS.md has the form). A function for each kind of call.
+// `conflict` gives (docs/ANSWERS.md has the form). A function for each kind of call. A count is at most 2^64 - 1, and a `usize` has 64 bits: `as` loses none.
 use forms::Line;
 use printing::Sink;
 use requests::{Call, Layout, Request, Task};

@@ -22,7 +22,8 @@ pub struct Reading {
 
 // patterson RESOURCE HORIZON est lct dur dem jobs successors text
 // psplib RESOURCE HORIZON est lct dur dem jobs successors text
-// (Each array is the room of a copy: desk calls cannot fail, so there is no heap.)
+// (Each array is the room of a copy: desk calls cannot fail, so there is no heap. The layout switches between two calls of the desk;
+// given the call as a closure, each caller would write out its nine arguments, and docs/EXCEPTIONS.md names this one function for both.)
 pub fn read(words: &mut [u32], task: Reading, text: &[u8]) -> Saying {
     let mut est = [0; JOBS];
     let mut lct = [0; JOBS];

@@ -46,6 +46,7 @@ impl Call {
     pub fn named(word: &[u8]) -> Option<Call>
         ensures { Named word.now result }
     {
+        // (Not `.ok()?`: the proof, `names_are_text`, takes from the Err why such a word is no name.)
         let Ok(name) = str::from_utf8(word) else {
             return None;
         };

@@ -2,8 +2,10 @@
 // and printed by one function.
 #![tactic(auto)]
 
-ghost use Rattle.answers.specs.Said.{says, says_check, says_overload, says_read, says_write, says_conflict};
+ghost use Rattle.std.specs.Prelude.{◌≡◌};
+ghost use Rattle.answers.specs.Said.{number_of, says, says_check, says_overload, says_read, says_write, says_conflict};
 ghost use Rattle.sayings.specs.Sayings.{Tells};
+ghost use Rattle.sayings.specs.declared.Saying.{Saying};
 
 use answers::{Answer, CheckAnswer, Overload, ProjectRead, Refusal};
 use std::fmt;
@@ -26,8 +28,16 @@ pub enum Saying {
     Unreadable,
 }
 
-// A function for each call, and no `From`: a `Result<usize, Refusal>` does not say that it came from the writer, nor a `Result<u32, Refusal>` that jobs are
-// marked.
+impl From<Refusal> for Saying {
+    ghost from_gives = { λ why said. said ≡ Saying.Refused (number_of why) };
+
+    fn from(why: Refusal) -> Saying {
+        Saying::Refused(u32::from(why))
+    }
+}
+
+// A function for each call, all six in one form. A `From` could be four of them: a `Result<usize, Refusal>` does not say that it came from the writer, nor
+// a `Result<u32, Refusal>` that jobs are marked.
 pub fn narrowing(a: Answer) -> Saying
     ensures { Tells result (says a) }
 {
@@ -55,7 +65,7 @@ pub fn overloading(a: Result<Option<Overload>, Refusal>) -> Saying
     match a {
         Ok(None) => Saying::None,
         Ok(Some(pair)) => Saying::Overload(pair.a, pair.b),
-        Err(why) => Saying::Refused(u32::from(why)),
+        Err(why) => Saying::from(why),
     }
 }
 
@@ -64,7 +74,7 @@ pub fn reading(a: Result<ProjectRead, Refusal>) -> Saying
 {
     match a {
         Ok(text) => Saying::Read(text.capacity, text.pairs),
-        Err(why) => Saying::Refused(u32::from(why)),
+        Err(why) => Saying::from(why),
     }
 }
 
@@ -73,7 +83,7 @@ pub fn writing(a: Result<usize, Refusal>) -> Saying
 {
     match a {
         Ok(bytes) => Saying::Written(bytes),
-        Err(why) => Saying::Refused(u32::from(why)),
+        Err(why) => Saying::from(why),
     }
 }
 
@@ -82,7 +92,7 @@ pub fn marking(a: Result<u32, Refusal>) -> Saying
 {
     match a {
         Ok(count) => Saying::Marked(count),
-        Err(why) => Saying::Refused(u32::from(why)),
+        Err(why) => Saying::from(why),
     }
 }
 
