@@ -13,7 +13,8 @@ use answers::Overload;
 use screen::MOST_JOBS;
 use theta::Tree;
 
-// Whether place k of the order has a job of the latest end b.
+// Whether place k of the order has a job of the latest end b. What this and `due` ask is no ghost field of a struct that lends lct and stops: `sweep`, which has
+// both lists for itself besides, would build it for two tests of a line.
 fn tied(lct: &[u32], stops: &[usize; MOST_JOBS], k: usize, b: u32) -> bool
     requires { (length lct.now ≤ most_jobs) × (Ordered lct.now (length lct.now) stops.now) }
     ensures { result ≡ tied (length lct.now) lct.now stops.now k b }
