@@ -17,7 +17,7 @@ const POINTS: usize = 4 * screen::MOST_JOBS;
 // The work of a good list whose windows are long enough: turns until a round has changed nothing, a move closes a window, or there is no room. The load of
 // all jobs is kept from move to move. What falls with each turn is the room left, then whether another round is to follow, then what is left of this one.
 // The read head's work (`sequencing`) walks the places alike. One loop over a trait of turns would make each work a struct of all its lent lists, and each
-// clause would carry their ghost names: it is longer than both loops.
+// clause would carry their ghost names: it is judged longer than both loops, and was not tried. The answer is an Answer, Refused too, since Works speaks of it.
 pub fn work(
     est: &mut [u32],
     lct: &mut [u32],

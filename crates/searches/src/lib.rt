@@ -21,7 +21,7 @@ use windows::Side;
 
 impl Load<'_> {
     // Side 0: one more than the last time from e up to f that is crowded for a job of demand r, and e where there is none. Its sure part is from s up to f;
-    // there the load has its demand in it already.
+    // there the load has its demand in it already. A bound stands for none and no Option, since LastBusy and FirstBusy answer so.
     fn early(self, cap: u32, r: u32, e: u32, s: u32, f: u32) -> u32
         requires { (e ≤ s) × (e ≤ f) × (f < behind_all) }
         ensures { LastBusy self.entry cap r s f e f result }

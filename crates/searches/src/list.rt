@@ -1,4 +1,6 @@
-// A job list as it is lent: earliest starts, latest ends, durations, demands, and the capacity (document 01, 'Job lists').
+// A good job list as it is lent: earliest starts, latest ends, durations, demands, and the capacity (document 01, 'Job lists').
+ghost use Rattle.crowding.specs.Asked.{asked};
+ghost use Rattle.timetable.specs.Table.{Good};
 
 #[derive(Clone, Copy)]
 pub struct JobList<'a> {
@@ -7,4 +9,5 @@ pub struct JobList<'a> {
     pub dur: &'a [u32],
     pub dem: &'a [u32],
     pub cap: u32,
+    ghost good: { Good (asked est.now lct.now dur.now dem.now cap) },
 }

@@ -20,7 +20,8 @@ pub enum Turn {
     Full,
 }
 
-// One turn at a place, with so many records behind it: the side's move with its record, if a rule applies and there is room.
+// One turn at a place, with so many records behind it: the side's move with its record, if a rule applies and there is room. The lists come one by one, since
+// `est` and `lct` are lent to be written (`windows::shift`), and a JobList lends them only to be read; it is made here of them.
 pub fn take_turn(
     est: &mut [u32],
     lct: &mut [u32],

@@ -24,14 +24,14 @@ abbrev theWindows : Start → Win
 theWindows s = let a = s.args.list in win a.est.now a.lct.now
 
 pub load_at-requires : goal.load_at-requires
-load_at-requires c = (good_cap _ _ _ _ _ c.requires.0, c.requires.2)
+load_at-requires c = (good_cap _ _ _ _ _ c.args.list.good, c.requires.1)
 
 pub bounds-list-job : goal.bounds-list-job
-bounds-list-job c = omega (arith, c.requires.1, demands_sized c.requires.0)
+bounds-list-job c = omega (arith, c.requires.0, demands_sized c.args.list.good)
 
 pub overflow_add-left : goal.overflow_add-left
 overflow_add-left c =
-    let g = c.requires.0 in
+    let g = c.args.list.good in
     omega (arith, c.load_at.ensures, load_small (good_cap _ _ _ _ _ g) c.args.job c.args.t, demand_most g c.args.job)
 
 pub loop-k-init : goal.loop-k-init
@@ -47,7 +47,7 @@ overflow_sub-rest c =
     let s = (goal.at.overflow_sub-rest c).Start in
     let l = c.loop-k in
     let m = sym c.is_member.ensures in
-    omega (arith, l.invariant.1, named_yet (theJobs s) (theWindows s) c.args.job c.args.t (omega (arith, c.requires.0.few)) l.k (omega arith) (m ∙ c.if-is_member.true))
+    omega (arith, l.invariant.1, named_yet (theJobs s) (theWindows s) c.args.job c.args.t (omega (arith, c.args.list.good.few)) l.k (omega arith) (m ∙ c.if-is_member.true))
 
 pub slice_bounds-put-end : goal.slice_bounds-put-end
 slice_bounds-put-end c =
@@ -62,7 +62,7 @@ loop-k-preserved c =
     let j = c.args.job in
     let t = c.args.t in
     let b : l.k < J.n = omega arith in
-    let few : J.n ≤ 32 * set_words = omega (arith, c.requires.0.few) in
+    let few : J.n ≤ 32 * set_words = omega (arith, c.args.list.good.few) in
     let m = sym c.is_member.ensures in
     elim c.if-is_member.branch [
       | then-is_member+then-list-rest w ↦

@@ -9,9 +9,9 @@ use Rattle.noting.proofs.is_member.Goals as goal
 pub returns-then-list-k-ne0 : goal.returns-then-list-k-ne0
 returns-then-list-k-ne0 c =
     let a = c.args in
-    search rules ∙ sym (member_at (jobs_of (asked_of a.list)) (win a.list.est.now a.list.lct.now) a.j a.t a.k c.requires.1)
+    search rules ∙ sym (member_at (jobs_of (asked_of a.list)) (win a.list.est.now a.list.lct.now) a.j a.t a.k c.requires.0)
 
 pub returns-else-list-k-ne0 : goal.returns-else-list-k-ne0
 returns-else-list-k-ne0 c =
     let a = c.args in
-    search rules ∙ sym (member_at (jobs_of (asked_of a.list)) (win a.list.est.now a.list.lct.now) a.j a.t a.k c.requires.1)
+    search rules ∙ sym (member_at (jobs_of (asked_of a.list)) (win a.list.est.now a.list.lct.now) a.j a.t a.k c.requires.0)

@@ -31,7 +31,7 @@ returns-then-room-count c =
 pub note-requires : goal.note-requires
 note-requires c =
     let p = c.requires in
-    (p.0.good, p.1, in-time (goal.at.note-requires c).Else-room-count)
+    (p.1, in-time (goal.at.note-requires c).Else-room-count)
 
 pub shift-old-requires : goal.shift-old-requires
 shift-old-requires c =
