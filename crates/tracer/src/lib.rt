@@ -23,7 +23,8 @@ fn refused(refusal: Refusal) -> Conflict
 }
 
 // What the checker answers. It is lent copies, so that the windows are only read. The planner, the sequencer and the checker make such copies too, but to
-// write them back, in arrays of the most jobs, since fixed memory has no Vec: what all four share is `windows::save`, and a function round the rest would take each call's work and end as closures.
+// write them back, in arrays of the most jobs, since fixed memory has no Vec: what all four share is `windows::save`, and a function round the rest would take
+// each call's work and end as closures.
 fn check_copies(
     est: &[u32],
     lct: &[u32],
@@ -62,7 +63,7 @@ pub fn conflict(
     }
     match check_copies(est, lct, dur, dem, cap, log, count) {
         CheckAnswer::Clash(_, job) => marker::marks(log, count, job),
-        // its number is a u32 by 01, and here always that of `Claimed`: what else the checker refuses, the admission above has refused (`on_refused` in proofs/)
+        // its number is a u32 by 01, and always that of `Claimed`: what else the checker refuses, the admission has refused (`on_refused` in proofs/)
         CheckAnswer::Refused(_) => refused(Refusal::Claimed),
         CheckAnswer::Holds(_) | CheckAnswer::Rejected(_, _) => refused(Refusal::NoClash),
     }
