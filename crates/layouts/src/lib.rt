@@ -12,7 +12,8 @@ use deciding::{Layout, Patterson, Psplib};
 use lent::Sizes;
 use precedence::TextPairs;
 
-// Fills the six lists from a text of a layout, for one resource (from 0) and a horizon.
+// Fills the six lists from a text of a layout, for one resource (from 0) and a horizon. Nine parameters, here and below: the calls of document 01 name each
+// list that is lent, and one struct of six `&mut` would be made, and taken apart again, for one inner call.
 fn read<L: Layout>(
     text: &[u8],
     resource: u32,

@@ -2,12 +2,11 @@
 use Prim.Native.Nat.{ℕ, suc, ◌+◌, ◌≤◌, ◌<◌}
 use native.Mathlib.Omega.{arith}
 use native.Mathlib.Numerals.{add-one}
-use native.Mathlib.Decide.{ℕ_discrete}
 use mathlib.Core.Path.{◌≡◌, refl, sym, ap, ◌∙◌}
 use mathlib.Core.Bool.{Bool, true, false, cond}
 use mathlib.Core.List.{List, [], ◌∷◌, ◌++◌, map, append_assoc, append-nil}
 use lib.ListN.{length, drop, set, length-append, length-set, length-map}
-use lib.Seq.{drop-cons, set_at, get_or-set_same, get_or-set_other}
+use lib.Seq.{drop-cons, set_at}
 use Rattle.std.specs.Prelude.{Some, None}
 use Rattle.lists.specs.Lists.{◌!◌}
 use Rattle.chains.specs.Paths.{Pair, pair}
@@ -86,15 +85,6 @@ module _ (r : Read (List Pair)) (js₀ ss₀ : List ℕ) where
           let m = g.mid ps end e in
           let d = t.0 m.rest end m.ahead in
           omega (arith, m.long, ap length m.all, length-append m.done m.rest, ap length d.1)
-
--- place by place
-pub each_step : (tails l : List ℕ) (h i x : ℕ) → i < length l → x + tails ! i ≡ h → ((j : ℕ) → j < i → l ! j + tails ! j ≡ h)
-    → (j : ℕ) → j < i + 1 → set l i x ! j + tails ! j ≡ h
-each_step tails l h i x b e g j c =
-    elim (ℕ_discrete j i) [
-      | yes q ↦ rw q (rw (get_or-set_same l i x 0 b) e)
-      | no q ↦ rw (get_or-set_other l i j x 0 q) (g j (omega arith))
-    ]
 
 -- a text has no more tokens than bytes
 onto_few : (b : ℕ) (ts : List (List ℕ)) → length (onto b ts) ≤ suc (length ts)

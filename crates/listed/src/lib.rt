@@ -62,7 +62,7 @@ impl<'a> Listed<'a> {
         }
     }
 
-    // Whether the pair at place i is of the n jobs and comes before the next, where there is one.
+    // Whether the pair at place i is of the n jobs and comes before the next, where there is one. By places: PlacedSays is of the lists at i and i + 1.
     fn placed(&self, n: u32, i: usize) -> bool
         requires { i < length self.now.jobs.now }
         ensures { PlacedSays n self.now.jobs.now self.now.successors.now i result }
@@ -72,7 +72,8 @@ impl<'a> Listed<'a> {
         a < n && b < n && (k == self.jobs.len() || (a, b) < (self.jobs[k], self.successors[k]))
     }
 
-    // Whether every pair is of the n jobs, and they are in strictly rising order.
+    // Whether every pair is of the n jobs, and they are in strictly rising order. A loop, since `placed` asks that its place is in the list, which the range
+    // of a `for` says; `all` was not tried.
     pub fn rising(&self, n: u32) -> bool
         ensures { RisingSays n self.now.jobs.now self.now.successors.now result }
     {

@@ -22,7 +22,7 @@ pub trait Pairs: Iterator<Item = (u32, u32)> + Copy {
 
 // A value stays; it is raised; it would rise above the limit.
 #[derive(Clone, Copy, Debug, PartialEq, Eq)]
-pub enum Rise {
+enum Rise {
     Kept,
     Rose,
     High,
@@ -30,7 +30,7 @@ pub enum Rise {
 
 // A round in which nothing changed; in which something did; which met a chain above the limit.
 #[derive(Clone, Copy, Debug, PartialEq, Eq)]
-pub enum Round {
+enum Round {
     Same,
     Changed,
     Over,
@@ -38,7 +38,7 @@ pub enum Round {
 
 // Raises the value at b to the one at a plus x, up to `top`.
 fn lift(v: &mut [u32; screen::MOST_JOBS], a: u32, b: u32, x: u32, top: u32) -> Rise
-    requires { (a < most_jobs) × (b < most_jobs) × (length v.old ≡ most_jobs) × (v.old ! a ≤ most_time) × (x ≤ most_time) }
+    requires { (a < most_jobs) × (b < most_jobs) × (v.old ! a ≤ most_time) × (x ≤ most_time) }
     ensures { RiseSays v.old v.new a b x top result × (length v.new ≡ most_jobs) }
 {
     let i = a as usize;
@@ -54,7 +54,8 @@ fn lift(v: &mut [u32; screen::MOST_JOBS], a: u32, b: u32, x: u32, top: u32) -> R
     Rise::Rose
 }
 
-// A pair from its job to its successor; or, for chains after a job, the other way round.
+// A pair from its job to its successor; or, for chains after a job, the other way round. A bool, as in RoundSays and SettleSays: pairs turned round by an
+// adaptor would be a second Iterator and Pairs with laws of its own, in place of this one line.
 fn facing(back: bool, a: u32, b: u32) -> (u32, u32)
     ensures { (result.0 ≡ cond back b a) × (result.1 ≡ cond back a b) }
 {
@@ -70,7 +71,7 @@ fn relax<P: Pairs>(
     v: &mut [u32; screen::MOST_JOBS],
 ) -> Round
     requires can { P.can_next pairs }
-    requires n_le_most_jobs { (length p.now ≡ most_jobs) × (length v.old ≡ most_jobs) × (top ≤ most_time) }
+    requires n_le_most_jobs { top ≤ most_time }
     requires by_index { ((j : ℕ) → p.now ! j ≤ most_time) × ((j : ℕ) → v.old ! j ≤ top) }
     ensures { RoundSays (P.coming pairs) p.now back top v.old v.new result × (length v.new ≡ most_jobs) }
 {
@@ -87,7 +88,8 @@ fn relax<P: Pairs>(
     if changed { Round::Changed } else { Round::Same }
 }
 
-// Rounds until nothing changes: true; or until a chain is longer than `top`: false. The sum of the values rises with each round.
+// Rounds until nothing changes: true; or until a chain is longer than `top`: false. The sum of the values rises with each round. A bool, since a false is
+// three things to those that call: a cycle, Refusal::Cycle, Refusal::Horizon; an error of its own would be turned into these at each call.
 pub fn settle<P: Pairs>(
     pairs: P,
     p: &[u32; screen::MOST_JOBS],
@@ -96,7 +98,7 @@ pub fn settle<P: Pairs>(
     v: &mut [u32; screen::MOST_JOBS],
 ) -> bool
     requires can { P.can_next pairs }
-    requires start { (length p.now ≡ most_jobs) × (v.old ≡ replicate most_jobs 0) × (top ≤ most_time) }
+    requires start { (v.old ≡ replicate most_jobs 0) × (top ≤ most_time) }
     requires by_index { (j : ℕ) → p.now ! j ≤ most_time }
     ensures { ((n : ℕ) → n ≤ most_jobs → SettleSays (P.coming pairs) n p.now back top v.new result) × (length v.new ≡ most_jobs) }
 {

@@ -32,6 +32,7 @@ pub record Pulled (s : TextPairs) (r : Option (ℕ × ℕ)) (t : TextPairs) : Ty
   pub table : t.table ≡ s.table
   pub text : t.text.now ≡ s.text.now
 
+-- here, since a source file's `ghost use` takes from its own crate's specs alone
 pub pulled_draws : (s : TextPairs) (r : Option (ℕ × ℕ)) (t : TextPairs) → Pulled s r t → Drawn (coming s) r (coming t)
 pulled_draws s (Some p) t h = rw (h.jobs, h.table, h.text) (h.says.0, omega (arith, h.says.3, s.few), omega (arith, h.says.4, s.few))
 pulled_draws s None t h = h.says

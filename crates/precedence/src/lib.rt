@@ -17,9 +17,9 @@ use answers::Refusal;
 use passes::settle;
 pub use text_pairs::TextPairs;
 
-// Whether some value plus its job's duration is above h.
+// Whether some value plus its job's duration is above h. A loop, since what is said of the values is said of jobs by their index; any was not tried.
 fn exceeds(v: &[u32; screen::MOST_JOBS], p: &[u32; screen::MOST_JOBS], n: u32, h: u32) -> bool
-    requires n_le_most_jobs { (n ≤ most_jobs) × (length v.now ≡ most_jobs) × (length p.now ≡ most_jobs) }
+    requires n_le_most_jobs { n ≤ most_jobs }
     requires by_index { ((j : ℕ) → v.now ! j ≤ most_time) × ((j : ℕ) → p.now ! j ≤ most_time) }
     ensures { ExceedsSays v.now p.now n h result }
 {
@@ -40,7 +40,7 @@ pub fn longest_chains(
     heads: &mut [u32; screen::MOST_JOBS],
     tails: &mut [u32; screen::MOST_JOBS],
 ) -> Result<(), Refusal>
-    requires n_le_most_jobs { (length dur.now ≡ most_jobs) × (heads.old ≡ replicate most_jobs 0) × (tails.old ≡ replicate most_jobs 0) × (h ≤ most_time) }
+    requires n_le_most_jobs { (heads.old ≡ replicate most_jobs 0) × (tails.old ≡ replicate most_jobs 0) × (h ≤ most_time) }
     requires by_index { (j : ℕ) → dur.now ! j ≤ most_time }
     ensures { ((ps : List Pair) (end : List Token) → coming pairs.entry ≡ good ps end → Below pairs.entry.n (Precedes ps)
         → OrderSays ps pairs.entry.n dur.now h heads.new tails.new result)

@@ -1,12 +1,11 @@
 -- Bytes put one after the other: room for all of them is room for the first and then for the rest, and both put are all put.
-use Prim.Native.Nat.{ℕ, ◌+◌, ◌≤◌, ◌<◌}
-use native.Mathlib.Numerals.{add-one}
+use Prim.Native.Nat.{ℕ, ◌+◌, ◌≤◌}
 use native.Mathlib.Omega.{arith}
 use mathlib.Core.Path.{◌≡◌, refl, sym, ap, ◌∙◌}
 use mathlib.Core.Bool.{Bool, true, false, cond}
-use mathlib.Core.List.{List, [], ◌∷◌, ◌++◌, append_assoc, append-nil}
-use lib.ListN.{length, take, drop, set, length-append, length-drop, take-append-drop}
-use lib.Seq.{set_split, take_at, drop-append-add, length-take-le, drop-drop}
+use mathlib.Core.List.{List, [], ◌++◌, append_assoc, append-nil}
+use lib.ListN.{length, take, drop, length-append, length-drop, take-append-drop}
+use lib.Seq.{take_at, drop-append-add, length-take-le, drop-drop}
 use Rattle.scribe.specs.Says.{pasted, Put, RoomFor}
 
 -- ---- in a list
@@ -29,13 +28,6 @@ pasted_twice at t u b h =
     let m : at + length t + length u ≡ at + (length t + length u) = omega arith in
     rw (p, take_at (take at b ++ t) (drop (at + length t) b) (at + length t) l, d, length-append t u)
     (append_assoc (take at b) t (u ++ drop (at + length t + length u) b) ∙ ap (λ (y : List ℕ). take at b ++ y) (sym (append_assoc t u (drop (at + length t + length u) b)) ∙ ap (λ (k : ℕ). (t ++ u) ++ drop k b) m))
-
--- one byte stored
-stored : (at a : ℕ) (b : List ℕ) → at < length b → set b at a ≡ pasted at (a ∷ []) b
-stored at a b h = rw add-one (set_split b at a h)
-
-pub put_byte : (dry : Bool) (at a : ℕ) (b : List ℕ) → dry ≡ false → RoomFor dry at (a ∷ []) b → Put dry at (a ∷ []) b (set b at a) (at + 1)
-put_byte dry at a b e h = record { place = omega arith; bytes = rw e (stored at a b (omega (arith, h.room e))) }
 
 -- ---- put one after the other
 

@@ -17,7 +17,7 @@ pub record Ready (durs dems js ss : List ℕ) : Type 0 where
   pub pairs : length ss ≡ length js
   pub rising : Rising (length durs) js ss
 
--- of two pairs one comes before the other in one way alone
+-- of two pairs one comes before the other in one way alone; here, since a source file's `ghost use` takes from its own crate's specs alone
 pub in_order_prop : (js ss : List ℕ) (i : ℕ) → IsProp (InOrder js ss i)
 in_order_prop js ss i (inl a) (inl b) = ap inl (le_prop a b)
 in_order_prop js ss i (inl a) (inr b) = absurd (omega (arith, b.0))

@@ -8,7 +8,8 @@ use crate::Project;
 use crate::marks::put;
 use crate::sinks::Sink;
 
-// The first place from i on whose job is not j.
+// The first place from i on whose job is not j. A loop over places, since RunEnds says where the run ends among all jobs; position, on the jobs from i on,
+// would find a place less i, or none where the run goes to the end.
 fn run_end(jobs: &[u32], j: u32, i: usize) -> usize
     requires { i ≤ length jobs.now }
     ensures { RunEnds jobs.now j i result }
@@ -49,7 +50,7 @@ fn put_job<S: Sink>(sink: &mut S, d: u32, q: u32, own: &[u32])
     put_successors(sink, own);
 }
 
-// A line for each job.
+// A line for each job. By index, since a job is its place in two lists, and its number is what run_end looks for.
 pub fn put_jobs<S: Sink>(sink: &mut S, project: &Project<'_>)
     requires { Takes S.dry (job_lines (said_by project.now).rows) (S.held sink.old) }
     ensures { Sent S.dry (job_lines (said_by project.now).rows) (S.held sink.old) (S.held sink.new) }

@@ -5,7 +5,8 @@ ghost use Rattle.lists.specs.Lists.{◌!◌};
 ghost use Rattle.scanner.specs.Scan.{held};
 ghost use Rattle.scribe.specs.Writing.{Ready, in_order_prop};
 
-// The pairs stand in their order. That the numbers are of 32 bits is said since a proof that is lent this struct does not see the lists' types.
+// The pairs stand in their order, in two lists, as the caller lends them (document 01). That the numbers are of 32 bits is said since a proof that is lent
+// this struct does not see the lists' types.
 #[derive(Clone, Copy)]
 pub struct Project<'a> {
     pub cap: u32,

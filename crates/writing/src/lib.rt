@@ -8,7 +8,8 @@ use answers::Refusal;
 use listed::Listed;
 use scribe::Project;
 
-// Writes a project of one resource into the buffer, in our form of the Patterson layout.
+// Writes a project of one resource into the buffer, in our form of the Patterson layout. The pairs are tested as Listed, and written from the lists, which
+// scribe's Project holds: a run of a job's successors is a slice of one of them.
 pub fn write_patterson(
     cap: u32,
     dur: &[u32],

@@ -19,7 +19,7 @@ fill-requires g c =
     let t = c.in_ok-decided.ensures L (record { est = refl; lct = refl; dur = refl; dem = refl; jobs = refl; successors = refl }) in
     let f = fitting _ _ _ _ t.0 in
     let n = few _ _ _ _ t.0 in
-    (t.1, (λ j. (t.0.chains.low j).1), omega (arith, f.est, n), omega (arith, f.lct, n), omega (arith, f.dur, n), omega (arith, f.dem, n))
+    ((λ j. (t.0.chains.low j).1), omega (arith, f.est, n), omega (arith, f.lct, n), omega (arith, f.dur, n), omega (arith, f.dem, n))
 
 pub new-pairs-requires : goal.new-pairs-requires
 new-pairs-requires g c =

@@ -6,7 +6,7 @@ use Rattle.passes.proofs.relax.Goals as goal
 pub loop-a-init : goal.loop-a-init
 loop-a-init g c =
     let q = c.requires in
-    rw c.into_iter-a-iterator.ensures.into_iter_gives (q.can, g.met.P.Pairs.ends _, relaxing_start _ _ _ _ _ q.n_le_most_jobs.1 q.by_index.1)
+    rw c.into_iter-a-iterator.ensures.into_iter_gives (q.can, g.met.P.Pairs.ends _, relaxing_start _ _ _ _ _ c.told-v q.by_index.1)
 
 pub bounds-p-i : goal.bounds-p-i
 bounds-p-i g c =
@@ -20,7 +20,7 @@ lift-requires g c =
     let l = c.loop-a.invariant.2 in
     let d = g.met.P.Pairs.draws _ _ _ (rw c.in-Some.is at c.next.ensures.steps) in
     let e = both_below c.args.back _ _ _ _ _ most_jobs c.facing-i.ensures.0 c.facing-i.ensures.1 d.1 d.2 (omega arith) in
-    (e.0, e.1, l.long, omega (arith, l.low c.facing-i.result.0, q.n_le_most_jobs.2), omega (arith, q.by_index.0 c.facing-i.result.0))
+    (e.0, e.1, omega (arith, l.low c.facing-i.result.0, q.n_le_most_jobs), omega (arith, q.by_index.0 c.facing-i.result.0))
 
 pub loop-a-preserved-in-Kept : goal.loop-a-preserved-in-Kept
 loop-a-preserved-in-Kept g c =

@@ -2,13 +2,13 @@ use Rattle.passes.proofs.Settling.{settling_start, settling_again, settling_less
 use Rattle.passes.proofs.settle.Goals as goal
 
 pub loop-init : goal.loop-init
-loop-init g c = settling_start _ _ _ _ _ c.requires.start.1
+loop-init g c = settling_start _ _ _ _ _ c.requires.start.0
 
 pub relax-requires : goal.relax-requires
 relax-requires g c =
     let i = c.loop.invariant in
     let q = c.requires in
-    record { can = q.can; n_le_most_jobs = (q.start.0, i.long, q.start.2); by_index = (q.by_index, i.low) }
+    record { can = q.can; n_le_most_jobs = q.start.1; by_index = (q.by_index, i.low) }
 
 pub returns-in-Same : goal.returns-in-Same
 returns-in-Same g c =

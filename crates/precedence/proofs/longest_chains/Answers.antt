@@ -42,20 +42,19 @@ tails-rest e = let t = rw e.if-not-settle-3.false at e.settle-3.ensures.0 in t _
 
 pub settle-requires : goal.settle-requires
 settle-requires c =
-    let q = c.requires.n_le_most_jobs in
-    record { can = tt; start = (refl, refl, omega (arith, c.args.pairs.few)); by_index = λ j. replicate_low most_jobs _ _ j (omega arith) }
+    record { can = tt; start = (refl, omega (arith, c.args.pairs.few)); by_index = λ j. replicate_low most_jobs _ _ j (omega arith) }
 
 pub returns-then-not-settle : goal.returns-then-not-settle
 returns-then-not-settle c =
     let s = c.requires.n_le_most_jobs in
     let t = rw c.if-not-settle.true at c.settle.ensures.0 in
-    ((λ ps end is range. inl (refl, says_33 _ _ c.args.pairs.few ps end is range (t _ c.args.pairs.few))), ap length s.1, ap length s.2)
+    ((λ ps end is range. inl (refl, says_33 _ _ c.args.pairs.few ps end is range (t _ c.args.pairs.few))), ap length s.0, ap length s.1)
 
 pub returns-then-not-settle-2 : goal.returns-then-not-settle-2
 returns-then-not-settle-2 c =
     let s = c.requires.n_le_most_jobs in
     let t = rw c.if-not-settle-2.true at c.settle-2.ensures.0 in
-    ((λ ps end is range. inr (refl, acyclic (goal.at.returns-then-not-settle-2 c).Else-not-settle ps end is range, head_34 _ _ ps end is range _ _ (t _ c.args.pairs.few))), c.settle-2.ensures.1, ap length s.2)
+    ((λ ps end is range. inr (refl, acyclic (goal.at.returns-then-not-settle-2 c).Else-not-settle ps end is range, head_34 _ _ ps end is range _ _ (t _ c.args.pairs.few))), c.settle-2.ensures.1, ap length s.1)
 
 pub returns-then-not-settle-3 : goal.returns-then-not-settle-3
 returns-then-not-settle-3 c =
@@ -65,7 +64,7 @@ returns-then-not-settle-3 c =
 pub exceeds-requires : goal.exceeds-requires
 exceeds-requires c =
     let q = c.requires in
-    record { n_le_most_jobs = (c.args.pairs.few, c.settle-2.ensures.1, q.n_le_most_jobs.0); by_index = (λ j. omega (arith, (heads-rest (goal.at.exceeds-requires c).Else-not-settle-2).low j, q.n_le_most_jobs.3), q.by_index) }
+    record { n_le_most_jobs = c.args.pairs.few; by_index = (λ j. omega (arith, (heads-rest (goal.at.exceeds-requires c).Else-not-settle-2).low j, q.n_le_most_jobs.2), q.by_index) }
 
 pub returns-then-exceeds : goal.returns-then-exceeds
 returns-then-exceeds c =
