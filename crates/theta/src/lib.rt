@@ -2,9 +2,9 @@
 #![tactic(auto)]
 
 ghost use Rattle.std.specs.Prelude.{◌≡◌, ◌+◌, ◌*◌, ◌≤◌, ◌<◌, ◌+ℤ◌, pos, set, replicate};
-ghost use Rattle.std.specs.Int.Signed.{lt_z};
+ghost use Rattle.std.specs.Int.Signed.{mag, lt_z};
 ghost use Rattle.joblist.specs.Limits.{most_jobs, most_time};
-ghost use Rattle.theta.specs.Theta.{Nodes, Sound, empty, end_of, Climbed, descent, depth};
+ghost use Rattle.theta.specs.Theta.{Nodes, Sound, far, empty, end_of, Climbed, descent, depth};
 
 use std::cmp::max;
 use std::marker::Model;
@@ -13,10 +13,18 @@ use std::marker::Model;
 const MOST: usize = screen::MOST_JOBS;
 
 // The tree's nodes: 1 is the root, 2v and 2v + 1 are v's children, 0 is none.
-const NODES: usize = 2 * MOST;
+pub const NODES: usize = 2 * MOST;
 
 // An empty node's completion: below every time in use, whatever total duration comes after it.
-const EMPTY: i64 = -1_000_000_000_000;
+pub const EMPTY: i64 = -1_000_000_000_000;
+
+// Whether a completion with a tail after it exceeds b.
+pub fn exceeds(end: i64, tail: u32, b: u32) -> bool
+    requires { mag end ≤ 2 * far }
+    ensures { result ≡ lt_z (pos b) (end +ℤ pos tail) }
+{
+    i64::from(b) < end + i64::from(tail)
+}
 
 // The arrays are in range and every inner node is what its children say: no caller has to ask for it. They are two, and no array of nodes, since `Climbed`,
 // `descent` and `Sound` are said of a list of sums and a list of ends.
@@ -69,7 +77,7 @@ impl Tree {
         requires { (1 ≤ v) × (v < 2 * most_jobs) }
         ensures { result ≡ lt_z (pos b) (end_of self.now.ends v +ℤ pos tail) }
     {
-        i64::from(b) < self.ends[v] + i64::from(tail)
+        exceeds(self.ends[v], tail, b)
     }
 
     // The leaf at which the descent from the root ends.
