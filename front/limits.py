@@ -70,5 +70,5 @@ def limits() -> Limits:
         pairs=constant("requests/src/names.rt", "PAIRS"),
         log=constant("requests/src/names.rt", "LOG"),
         text=constant("requests/src/names.rt", "TEXT"),
-        number=2**32 - 1,  # an entry of a list is a u32, and the lists of a line are read up to the greatest
+        number=constant("intake/src/words.rt", "SHORT"),
     )

@@ -6,7 +6,7 @@
 ghost use Rattle.std.specs.Prelude.{◌≤◌, IfSome, length};
 ghost use Rattle.io.specs.Counts.{IsPrefixLen};
 
-use intake::Reader;
+use intake::{Reader, SHORT};
 use std::io::Read;
 
 // Numbers, each behind a space and at most `most`, into all of the lent places.
@@ -32,7 +32,7 @@ fn list(reader: &mut Reader<impl Read>, into: &mut [u32], most: u32) -> Option<u
     let (length, room) = into.split_first_mut()?;
     let count = reader.number(u64::from(most).min(room.len() as u64))?;
     *length = count as u32;
-    fill(reader, &mut room[..count as usize], u64::from(u32::MAX))?;
+    fill(reader, &mut room[..count as usize], SHORT)?;
     Some(1 + count as usize)
 }
 

@@ -5,11 +5,8 @@ ghost use Rattle.std.specs.Prelude.{true, ◌≡◌, ◌≤◌, IfSome, IsSome};
 ghost use Rattle.io.specs.Counts.{IsPrefixLen};
 ghost use Rattle.intake.specs.Line.{line_end};
 
-use intake::Reader;
+use intake::{LONG, Reader, SHORT};
 use std::io::Read;
-
-// The greatest number of 32 bits.
-const SHORT: u64 = u32::MAX as u64;
 
 // So many lists, each with at most so many numbers.
 #[derive(Clone, Copy)]
@@ -59,7 +56,7 @@ pub fn read(
 {
     let first = number_if(reader, 0 < form.shorts, SHORT)?;
     let second = number_if(reader, 1 < form.shorts, SHORT)?;
-    let long = number_if(reader, form.long, u64::MAX)?;
+    let long = number_if(reader, form.long, LONG)?;
     let few = fields::lists(reader, words, form.lists.count, form.lists.most)?;
     fields::lists(reader, &mut words[few..], form.more.count, form.more.most)?;
     let bytes = if form.bytes {

@@ -6,6 +6,9 @@ ghost use Rattle.intake.specs.Line.{line_end, at_byte, at_digit};
 
 use std::io::Read;
 
+// The greatest number of 64 bits.
+pub const LONG: u64 = u64::MAX;
+
 // `now` is the byte that the cursor stands at, and none at the end of the input. `left` is how many bytes may still be stood at, and 0 at the
 // end. Nothing says that an input ends, and a proved loop has to: so it begins with a number that no run uses up, and falls with each byte.
 #[derive(Clone, Copy)]
@@ -57,7 +60,7 @@ impl<'a, R: Read> Reader<'a, R> {
     pub fn new(input: &'a mut R, source: &'a mut [u8]) -> Reader<'a, R> {
         let cursor = Cursor {
             now: None,
-            left: u64::MAX,
+            left: LONG,
         };
         let mut reader = Reader {
             input,
@@ -70,37 +73,65 @@ impl<'a, R: Read> Reader<'a, R> {
         reader
     }
 
+    // Where no byte waits, those of the next read wait; the end of the input, or a read that fails, brings none. Out of line: it is rare, and
+    // what goes over the bytes that wait is shorter without it.
+    #[cold]
+    #[inline(never)]
+    fn refill(&mut self)
+        ensures { self.new.cursor.left ≡ self.old.cursor.left }
+    {
+        self.at = 0;
+        self.end = self.input.read(self.source).unwrap_or(0);
+    }
+
     // The first byte that waits: where none does, the first of the next read, of which the end of the input, or a read that fails, brings none.
+    #[inline(always)]
     fn next_byte(&mut self) -> Option<u8>
         ensures { self.new.cursor.left ≡ self.old.cursor.left }
     {
         if self.at >= self.end {
-            self.at = 0;
-            self.end = self.input.read(self.source).unwrap_or(0);
+            self.refill();
         }
-        let waiting = self.at..self.end;
-        let byte = *self.source.get(waiting)?.first()?;
-        self.at += 1;
-        Some(byte)
+        let at = self.at;
+        if at < self.end && at < self.source.len() {
+            self.at = at + 1;
+            return Some(self.source[at]);
+        }
+        None
+    }
+
+    // The cursor one byte further on than the given one, which stands where the reader does. At the end of the input it stays. The reader's own
+    // is the caller's to set: so a loop keeps its cursor in registers, and not in memory byte by byte.
+    #[inline(always)]
+    pub(crate) fn after(&mut self, cursor: Cursor) -> Cursor
+        ensures { result.left ≤ cursor.left - 1 }
+    {
+        if 1 < cursor.left {
+            if let Some(byte) = self.next_byte() {
+                return Cursor {
+                    now: Some(byte),
+                    left: cursor.left - 1,
+                };
+            }
+        }
+        Cursor { now: None, left: 0 }
     }
 
     // One byte further on. At the end of the input it stays.
     pub(crate) fn step(&mut self)
         ensures { self.new.cursor.left ≤ self.old.cursor.left - 1 }
     {
-        let left = self.cursor.left.saturating_sub(1);
-        let now = if 0 < left { self.next_byte() } else { None };
-        let left = if now.is_some() { left } else { 0 };
-        self.cursor = Cursor { now, left };
+        self.cursor = self.after(self.cursor);
     }
 
     // At the next line's first byte.
     pub fn next_line(&mut self)
         ensures { self.new.cursor.left ≤ self.old.cursor.left - 1 }
     {
-        while !self.cursor.is_line_end() {
-            self.step();
+        let mut cursor = self.cursor;
+        while !cursor.is_line_end() {
+            cursor = self.after(cursor);
         }
-        self.step();
+        self.cursor = self.after(cursor);
     }
 }

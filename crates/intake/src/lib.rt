@@ -4,4 +4,5 @@
 mod input; // input.rt: the bytes, one after another
 mod words; // words.rt: words and numbers
 
-pub use input::Reader;
+pub use input::{Cursor, LONG, Reader};
+pub use words::SHORT;

@@ -3,7 +3,7 @@ use Prim.Native.Nat.{◌≤◌}
 use Rattle.intake.proofs.input.Reader.next_line.Given as goal
 
 abbrev pub invariant-loop-self : goal.invariant-loop-self
-invariant-loop-self g l = l.self.cursor.left ≤ l.initial.self.cursor.left
+invariant-loop-self g l = l.cursor.left ≤ l.fn.self.cursor.left
 
 abbrev pub decreases-loop-self : goal.decreases-loop-self
-decreases-loop-self g l = l.self.cursor.left
+decreases-loop-self g l = l.cursor.left
