@@ -9,6 +9,9 @@ ghost use Rattle.listed.specs.Listed.{PlacedSays, RisingSays, CycleSays};
 
 use passes::Pairs;
 
+// A step for each job, where steps are counted and not durations.
+const STEPS: [u32; screen::MOST_JOBS] = [1; screen::MOST_JOBS];
+
 // The pairs of two lists of one length, in their order.
 #[derive(Clone, Copy)]
 pub struct Listed<'a> {
@@ -31,12 +34,14 @@ impl<'a> Iterator for Listed<'a> {
 
     ghost remaining = { λ s. at_most (length s.jobs.now) };
 
+    // By index in the second list, which is as long as the first (`even`): so that its end is not asked for as well.
+    #[inline(always)]
     fn next(&mut self) -> Option<(u32, u32)> {
         let (a, jobs) = self.jobs.split_first()?;
-        let (b, successors) = self.successors.split_first()?;
+        let b = self.successors[0];
+        self.successors = &self.successors[1..];
         self.jobs = jobs;
-        self.successors = successors;
-        Some((*a, *b))
+        Some((*a, b))
     }
 }
 
@@ -91,8 +96,7 @@ impl<'a> Listed<'a> {
         requires by_index { (i : ℕ) → i < length self.now.jobs.now → PairInRange n self.now.jobs.now self.now.successors.now i }
         ensures { CycleSays self.now.jobs.now self.now.successors.now result }
     {
-        let steps = [1u32; screen::MOST_JOBS];
         let mut levels = [0u32; screen::MOST_JOBS];
-        !passes::settle(*self, &steps, false, n, &mut levels)
+        !passes::settle(*self, &STEPS, false, n, &mut levels)
     }
 }

@@ -22,7 +22,7 @@ pub trait Pairs: Iterator<Item = (u32, u32)> + Copy {
 
 // A value stays; it is raised; it would rise above the limit.
 #[derive(Clone, Copy, Debug, PartialEq, Eq)]
-enum Rise {
+pub enum Rise {
     Kept,
     Rose,
     High,
@@ -30,13 +30,14 @@ enum Rise {
 
 // A round in which nothing changed; in which something did; which met a chain above the limit.
 #[derive(Clone, Copy, Debug, PartialEq, Eq)]
-enum Round {
+pub enum Round {
     Same,
     Changed,
     Over,
 }
 
 // Raises the value at b to the one at a plus x, up to `top`.
+#[inline(always)]
 fn lift(v: &mut [u32; screen::MOST_JOBS], a: u32, b: u32, x: u32, top: u32) -> Rise
     requires { (a < most_jobs) × (b < most_jobs) × (v.old ! a ≤ most_time) × (x ≤ most_time) }
     ensures { RiseSays v.old v.new a b x top result × (length v.new ≡ most_jobs) }
@@ -56,6 +57,7 @@ fn lift(v: &mut [u32; screen::MOST_JOBS], a: u32, b: u32, x: u32, top: u32) -> R
 
 // A pair from its job to its successor; or, for chains after a job, the other way round. A bool, as in RoundSays and SettleSays: pairs turned round by an
 // adaptor would be a second Iterator and Pairs with laws of its own, in place of this one line.
+#[inline(always)]
 fn facing(back: bool, a: u32, b: u32) -> (u32, u32)
     ensures { (result.0 ≡ cond back b a) × (result.1 ≡ cond back a b) }
 {
@@ -63,6 +65,7 @@ fn facing(back: bool, a: u32, b: u32) -> (u32, u32)
 }
 
 // One round over the pairs.
+#[inline(always)]
 fn relax<P: Pairs>(
     pairs: P,
     p: &[u32; screen::MOST_JOBS],
@@ -90,6 +93,7 @@ fn relax<P: Pairs>(
 
 // Rounds until nothing changes: true; or until a chain is longer than `top`: false. The sum of the values rises with each round. A bool, since a false is
 // three things to those that call: a cycle, Refusal::Cycle, Refusal::Horizon; an error of its own would be turned into these at each call.
+#[inline(always)]
 pub fn settle<P: Pairs>(
     pairs: P,
     p: &[u32; screen::MOST_JOBS],

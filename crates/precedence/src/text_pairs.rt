@@ -48,6 +48,7 @@ impl<'a> Iterator for TextPairs<'a> {
 
     ghost remaining = { λ s. at_most (left s) };
 
+    #[inline(always)]
     fn next(&mut self) -> Option<(u32, u32)> {
         loop {
             match walking::advance(self.text, self.n, self.table, 0, self.walk) {

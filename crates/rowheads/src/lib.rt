@@ -35,6 +35,7 @@ pub struct RowHead {
 }
 
 // A successor, from 0.
+#[inline(always)]
 pub fn read_link(text: &[u8], at: usize, n: u32) -> Result<Got, Refusal>
     ensures { GotSays (link n (tokens (drop at text.now))) text.now result }
 {
@@ -100,6 +101,7 @@ fn read_numbered(text: &[u8], at: usize, j: u32) -> Result<Got, Refusal>
 }
 
 // What stands before the successors of row j.
+#[inline(never)]
 pub fn read_front(
     text: &[u8],
     at: usize,
