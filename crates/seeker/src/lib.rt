@@ -4,8 +4,11 @@
 ghost use Rattle.std.specs.Prelude.{drop};
 ghost use Rattle.seeker.specs.Found.{StandsSays, FindSays};
 
+// How many headings there are.
+pub const HEADINGS: usize = 5;
+
 // The headings in their order.
-const HEADINGS: [&[u8]; 5] = [
+const WORDING: [&[u8]; HEADINGS] = [
     b"jobs (incl. supersource/sink ):",
     b"- renewable",
     b"PRECEDENCE RELATIONS:",
@@ -17,16 +20,16 @@ const HEADINGS: [&[u8]; 5] = [
 fn heading_at(text: &[u8], at: usize) -> Option<usize>
     ensures { StandsSays (drop at text.now) result }
 {
-    HEADINGS
+    WORDING
         .iter()
         .position(|heading| linewise::starts_at(text, at, heading))
 }
 
 // Where each heading starts, if the lines have each once and in order. Each turn takes a line, and a line has a byte at least.
-pub fn find(text: &[u8]) -> Option<[usize; HEADINGS.len()]>
+pub fn find(text: &[u8]) -> Option<[usize; HEADINGS]>
     ensures { FindSays text.now result }
 {
-    let mut places = [0; HEADINGS.len()];
+    let mut places = [0; HEADINGS];
     let mut found = 0;
     let mut at = 0;
     while at < text.len() {
@@ -40,5 +43,5 @@ pub fn find(text: &[u8]) -> Option<[usize; HEADINGS.len()]>
         }
         at = linewise::next_line(text, at);
     }
-    (found == HEADINGS.len()).then_some(places)
+    (found == HEADINGS).then_some(places)
 }
