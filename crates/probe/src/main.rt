@@ -20,6 +20,9 @@
 
 mod replies;
 
+ghost use Rattle.std.specs.Prelude.{◌≡◌, length};
+ghost use Rattle.requests.specs.Sizes.{line_words, text_bytes};
+
 use intake::Reader;
 use printing::Sink;
 use replies::reply;
@@ -35,7 +38,11 @@ struct Room {
 }
 
 impl Room {
-    fn new() -> Room {
+    // As much as docs/ANSWERS.md says that a line may hold.
+    fn new() -> Room
+        ensures words { line_words ≡ length result.words }
+        ensures text { text_bytes ≡ length result.text }
+    {
         Room {
             words: [0; WORDS],
             text: [0; TEXT],
